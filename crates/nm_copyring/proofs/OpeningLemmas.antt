@@ -17,7 +17,7 @@ use Rattle.nm_copyring.specs.Rule.{newcomer, newcomers, first_view}
 use Rattle.nm_copyring.proofs.ListLemmas.{place_low}
 use Rattle.nm_copyring.proofs.RingLemmas.{fresh_free, fresh_full}
 
-false_true : false ≡ true → ⊥
+pub false_true : false ≡ true → ⊥
 false_true e = cc
 
 none_some : (y : Load) → None ≡ Some y → ⊥

@@ -1,4 +1,5 @@
 pub mod AtClose
+pub mod Calls
 pub mod ClosedLists
 pub mod Counted
 pub mod Plays

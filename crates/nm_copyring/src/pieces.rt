@@ -1,9 +1,9 @@
 //! Pieces through the rings. A call makes at most two steps, each on the flag of one place.
 
-ghost use Rattle.std.specs.Prelude.{◌≡◌, ◌+◌, ◌<◌, ◌≤◌, length};
-ghost use Rattle.std.specs.Prelude.{true, false, IfErr, IfOk, IsOk};
-ghost use Rattle.nm_copyring.specs.Plays.{one_empty, one_full, one_pulled, one_pushed, with_lane};
-ghost use Rattle.nm_copyring.specs.Ports.{IsFree, IsFull, Owns, knows, pushed_to, pulled_from};
+ghost use Rattle.std.specs.Prelude.{◌≡◌, ◌+◌, true, false, IfErr, IfOk};
+ghost use Rattle.nm_copyring.specs.Ports.{IsFree, IsFull};
+ghost use Rattle.nm_copyring.specs.Calls.{FindsEmpty, FindsFree, FindsFull, FindsPiece};
+ghost use Rattle.nm_copyring.specs.Calls.{IsNextFor, KeepsRingPort, Pulls, Pushes, Reaches};
 
 use crate::counts::{count_empty, count_full, count_pulled, count_pushed};
 use crate::port::{RingPort, Rings};
@@ -16,12 +16,10 @@ use std::sync::ledger::Ledger;
 /// can be pushed to it: the next `push` to it then can't fail. Where it can't, the place is counted as
 /// full, as `push` counts it.
 pub fn can_push<L: Ledger>(r: &Rings, port: &mut RingPort, to: u8, steps: &mut Steps<L>) -> bool
-    requires owns { Owns r.now port.old }
-    requires to { to < r.now.ranks }
-    ensures owns { Owns r.now port.new × (port.new.rank ≡ port.old.rank) }
-    ensures free { result ≡ true → knows port.new ≡ knows port.old }
-    ensures looked { result ≡ true → IsFree port.new to }
-    ensures full { result ≡ false → knows port.new ≡ with_lane one_full to (knows port.old) }
+    requires owns { Reaches r.now port.old to }
+    ensures free { result ≡ true → FindsFree to port.old port.new }
+    ensures full { result ≡ false → FindsFull to port.old port.new }
+    ensures keeps { KeepsRingPort r.now port.old port.new }
     ensures cost { steps.new ≡ steps.old + 1 }
 {
     let number = port.pushed(to);
@@ -36,12 +34,10 @@ pub fn can_push<L: Ledger>(r: &Rings, port: &mut RingPort, to: u8, steps: &mut S
 /// can be pulled from it: the next `pull` from it then can't fail. Where it can't, the place is counted
 /// as empty, as `pull` counts it.
 pub fn can_pull<L: Ledger>(r: &Rings, port: &mut RingPort, sender: u8, steps: &mut Steps<L>) -> bool
-    requires owns { Owns r.now port.old }
-    requires sender { sender < r.now.ranks }
-    ensures owns { Owns r.now port.new × (port.new.rank ≡ port.old.rank) }
-    ensures full { result ≡ true → knows port.new ≡ knows port.old }
-    ensures looked { result ≡ true → IsFull port.new sender }
-    ensures empty { result ≡ false → knows port.new ≡ with_lane one_empty sender (knows port.old) }
+    requires owns { Reaches r.now port.old sender }
+    ensures full { result ≡ true → FindsPiece sender port.old port.new }
+    ensures empty { result ≡ false → FindsEmpty sender port.old port.new }
+    ensures keeps { KeepsRingPort r.now port.old port.new }
     ensures cost { steps.new ≡ steps.old + 1 }
 {
     let number = port.pulled(sender);
@@ -62,19 +58,13 @@ pub fn push<L: Ledger>(
     piece: Box<Piece>,
     steps: &mut Steps<L>,
 ) -> Result<Option<Box<Piece>>, Box<Piece>>
-    requires owns { Owns r.now port.old }
-    requires to { to < r.now.ranks }
-    requires next { (piece.value.from ≡ port.old.rank)
-        × (piece.value.number ≡ length (pushed_to port.old to)) }
-    ensures owns { Owns r.now port.new × (port.new.rank ≡ port.old.rank) }
-    ensures pushed { IfOk result
-        (λ _. knows port.new ≡ with_lane (one_pushed piece.value) to (knows port.old)) }
-    ensures refused { IfErr result (λ back. (back ≡ piece)
-        × (knows port.new ≡ with_lane one_full to (knows port.old))) }
-    ensures sure { IsFree port.old to → IsOk result }
+    requires ready { Reaches r.now port.old to × IsNextFor to piece.value port.old }
+    ensures pushes { IfOk result (λ _. Pushes to piece.value port.old port.new) }
+    ensures refused { IfErr result (λ back. (back ≡ piece) × FindsFull to port.old port.new
+        × (¬ IsFree port.old to)) }
+    ensures keeps { KeepsRingPort r.now port.old port.new }
     ensures cost { IfOk result (λ _. steps.new ≡ steps.old + 2)
         × IfErr result (λ _. steps.new ≡ steps.old + 1) }
-    ensures bound { steps.new ≤ steps.old + 2 }
 {
     match fill_next(r, &mut port.seat, to, piece, steps) {
         Ok(spare) => {
@@ -97,19 +87,13 @@ pub fn pull<L: Ledger>(
     spare: Option<Box<Piece>>,
     steps: &mut Steps<L>,
 ) -> Result<Box<Piece>, Option<Box<Piece>>>
-    requires owns { Owns r.now port.old }
-    requires sender { sender < r.now.ranks }
-    ensures owns { Owns r.now port.new × (port.new.rank ≡ port.old.rank) }
-    ensures next { IfOk result (λ piece. (piece.value.from ≡ sender)
-        × (piece.value.number ≡ length (pulled_from port.old sender))) }
-    ensures pulled { IfOk result
-        (λ piece. knows port.new ≡ with_lane (one_pulled piece.value) sender (knows port.old)) }
+    requires owns { Reaches r.now port.old sender }
+    ensures pulls { IfOk result (λ piece. Pulls sender piece.value port.old port.new) }
     ensures missed { IfErr result
-        (λ _. knows port.new ≡ with_lane one_empty sender (knows port.old)) }
-    ensures sure { IsFull port.old sender → IsOk result }
+        (λ _. FindsEmpty sender port.old port.new × (¬ IsFull port.old sender)) }
+    ensures keeps { KeepsRingPort r.now port.old port.new }
     ensures cost { IfOk result (λ _. steps.new ≡ steps.old + 2)
         × IfErr result (λ _. steps.new ≡ steps.old + 1) }
-    ensures bound { steps.new ≤ steps.old + 2 }
 {
     let number = port.pulled(sender);
     match empty_next(r, &mut port.seat, port.rank, sender, number, spare, steps) {

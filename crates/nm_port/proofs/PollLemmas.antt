@@ -268,7 +268,7 @@ first_later (suc k) [] i = omega arith
 first_later (suc k) (x ∷ xs) zero = raised_up x
 first_later (suc k) (x ∷ xs) (suc i) = first_later k xs i
 
-map_later : (xs : List ℕ) (i : ℕ) → slice_index xs i ≤ slice_index (map raised xs) i
+pub map_later : (xs : List ℕ) (i : ℕ) → slice_index xs i ≤ slice_index (map raised xs) i
 map_later [] i = omega arith
 map_later (x ∷ xs) zero = raised_up x
 map_later (x ∷ xs) (suc i) = map_later xs i

@@ -11,13 +11,10 @@ use Rattle.nm_history.specs.declared.events.Event.{Event}
 use Rattle.nm_cells.specs.declared.port.Port.{Port}
 use Rattle.nm_cells.specs.Ports.{sent_by, taken_by}
 use Rattle.nm_copyring.specs.declared.port.RingPort.{RingPort}
-use Rattle.nm_copyring.specs.declared.table.Entry as ring_entry
-use Rattle.nm_copyring.specs.declared.table.Lane.{Lane}
 use Rattle.nm_copyring.specs.Rule.{lane}
-use Rattle.nm_copyring.specs.Plays.{with_lane}
 use Rattle.nm_copyring.specs.Ports as ring
 use Rattle.nm_world.specs.declared.actors.Actor.{Actor}
-use Rattle.nm_world.specs.Actors.{Grew, Grows, LaneGrows, PortGrows, RingGrows, did}
+use Rattle.nm_world.specs.Actors.{Grew, Grows, PortGrows, RingGrows, did}
 use Rattle.nm_world.specs.Actors.{AllContinue, Continues, SomeGrew, ActorInvariant, did_any, done_by, done_of, sum_below}
 use Rattle.nm_types.specs.declared.scripts.Line.{Line}
 use Rattle.nm_types.specs.Sizes.{Sizes}
@@ -25,7 +22,7 @@ use Rattle.nm_global.specs.ProcessInvariant.{GoesOn}
 use Rattle.nm_cells.specs.declared.port.Fabric.{Fabric}
 use Rattle.nm_copyring.specs.declared.port.Rings.{Rings}
 use Rattle.nm_world.specs.Actors.Grew.{events, sent, taken, pushed, pulled}
-use Rattle.nm_world.proofs.Grows.{grows_same, kept_on, lane_kept, port_same, ring_same, ring_up}
+use Rattle.nm_world.proofs.Grows.{kept_on, port_same, ring_same}
 
 -- sums
 pub sum_up : (n : ℕ) (f g : ℕ → ℕ) → ((i : ℕ) → f i ≤ g i) → sum_below n f ≤ sum_below n g
@@ -161,79 +158,6 @@ or_none false q none = sym none
 pub or_one : (p q : Bool) → q ≡ true → true ≡ (p || q)
 or_one true q one = refl
 or_one false q one = sym one
-
--- a ring port that found its next place full or empty
-pub ring_missed : (lines : List Line) (f : Fabric Packet) (r : Rings) (a : Actor) (q : RingPort)
-    (g : Lane → Lane) (j : ℕ) (s : ActorInvariant lines f r a) → ring.Owns r q → q.rank ≡ a.ring.rank →
-    j < length (ring.knows a.ring).lanes → ((l : Lane) → LaneGrows l (g l)) →
-    ((l : Lane) → ((g l).pushed ≡ l.pushed) × ((g l).pulled ≡ l.pulled)) →
-    ring.knows q ≡ with_lane g j (ring.knows a.ring) →
-    Continues lines f r a (record a { ring = q }) × (false ≡ did f.ranks a (record a { ring = q }))
-ring_missed lines f r a q g j s owns rank low up same knew =
-    let kept = λ (k : ℕ). lane_kept (ring.knows a.ring) (ring.knows q) g j k low same knew in (
-      record {
-        stands = record {
-          past = s.past;
-          is = record {
-            standing = s.is.standing;
-            in_range = s.is.in_range;
-            cells = s.is.cells;
-            rings = owns;
-            rank = rank ∙ s.is.rank;
-            ranks = s.is.ranks;
-            hands = s.is.hands;
-            rest = s.is.rest;
-            sent = s.is.sent;
-            taken = s.is.taken;
-            pushed = λ to within. s.is.pushed to within ∙ sym (kept to).0;
-            pulled = λ i within. s.is.pulled i within ∙ sym (kept i).1;
-          };
-        };
-        seat = refl;
-        grows = record {
-          events = (grows_same a).events;
-          port = port_same a.port;
-          ring = ring_up a.ring q g j low up knew;
-        };
-      },
-      did_none f.ranks a (record a { ring = q }) refl (λ k. refl) refl kept,
-    )
-
--- a ring port that loaded a flag and learnt nothing
-pub ring_looked : (lines : List Line) (f : Fabric Packet) (r : Rings) (a : Actor) (q : RingPort) (s : ActorInvariant lines f r a) →
-    ring.Owns r q → q.rank ≡ a.ring.rank → ring.knows q ≡ ring.knows a.ring →
-    Continues lines f r a (record a { ring = q }) × (false ≡ did f.ranks a (record a { ring = q }))
-ring_looked lines f r a q s owns rank knew =
-    let pushed = λ (k : ℕ). ap (λ (e : ring_entry.Entry). (lane e k).pushed) knew in
-    let pulled = λ (k : ℕ). ap (λ (e : ring_entry.Entry). (lane e k).pulled) knew in (
-      record {
-        stands = record {
-          past = s.past;
-          is = record {
-            standing = s.is.standing;
-            in_range = s.is.in_range;
-            cells = s.is.cells;
-            rings = owns;
-            rank = rank ∙ s.is.rank;
-            ranks = s.is.ranks;
-            hands = s.is.hands;
-            rest = s.is.rest;
-            sent = s.is.sent;
-            taken = s.is.taken;
-            pushed = λ to within. s.is.pushed to within ∙ sym (pushed to);
-            pulled = λ i within. s.is.pulled i within ∙ sym (pulled i);
-          };
-        };
-        seat = refl;
-        grows = record {
-          events = (grows_same a).events;
-          port = port_same a.port;
-          ring = λ k. subst (λ (e : ring_entry.Entry). LaneGrows (lane (ring.knows a.ring) k) (lane e k)) (sym knew)
-              (ring_same a.ring k);
-        };
-      },
-      did_none f.ranks a (record a { ring = q }) refl (λ k. refl) refl (λ k. (pushed k, pulled k)),
-    )
 
 -- a command that ran
 pub ran_on : (n : ℕ) {lines : List Line} {f : Fabric Packet} {r : Rings} (a b : Actor) (s : ActorInvariant lines f r a) →
@@ -404,13 +328,6 @@ did_any_iff n lines f r xs ys kept = (
   λ some. sym (less_true (done_of n xs) (done_of n ys)
       (some_did n lines f r xs ys some.place some.before some.after kept some.was some.is some.grew)),
 )
-
--- and of one before which nothing was
-pub did_then : {E : Type 0} (result : Result Bool E) (n : ℕ) (lines : List Line) (f : Fabric Packet) (r : Rings)
-    (a b c : Actor) → Continues lines f r a b → false ≡ did n a b → IfOk result (λ _. Continues lines f r b c) →
-    IfOk result (λ moved. moved ≡ did n b c) → IfOk result (λ moved. moved ≡ did n a c)
-did_then (Err x) n lines f r a b c one none two moved = tt
-did_then (Ok m) n lines f r a b c one none two moved = did_on n a b c false m one.grows two.grows none moved
 
 -- of a call that tells whether something was done
 pub grew_where_moved : {E : Type 0} (result : Result Bool E) (n : ℕ) (lines : List Line) (f : Fabric Packet) (r : Rings)

@@ -3,11 +3,9 @@ use Rattle.std.proofs.Common.{◌≡◌, ℕ, zero, suc, ◌+◌, ◌<◌, ◌�
 use Rattle.std.proofs.Common.{length, length-append, map, set, Some, refl, sym, ap, ◌∙◌, subst, arith}
 use Rattle.std.proofs.Common.{⊎_elim}
 use Rattle.std.specs.Prelude.{slice_index}
-use native.Mathlib.Decide.{ℕ_discrete, dec_le}
+use native.Mathlib.Decide.{dec_le}
 use Rattle.nm_types.specs.declared.packets.Packet.{Packet}
-use Rattle.nm_world.specs.Parcels.{parcel_of}
 use Rattle.nm_chain.specs.declared.table.table.Entry.{Entry}
-use Rattle.nm_chain.specs.Items.{is_short}
 use Rattle.nm_chain.specs.declared.table.parcels.Parcel.{Parcel}
 use Rattle.nm_chain.specs.declared.table.table.Heads.{Heads}
 use Rattle.nm_chain.specs.declared.table.table.Misses.{Misses}
@@ -15,11 +13,14 @@ use Rattle.nm_chain.specs.Rule.{Load, if_below, put_to, sent_to}
 use Rattle.nm_chain.specs.Plays.{missed_of, raised, with_box_full, with_filling, with_heads, with_put, with_put_box}
 use Rattle.nm_chain.specs.Plays.{heads_at, heads_of, head_miss, link_miss, with_look, with_missed}
 use Rattle.nm_chain.specs.declared.table.table.Look.TheVariants.{Fresh, LinkEmpty}
-use Rattle.nm_chain.proofs.QueueLemmas.{pick_yes, put_append}
+use Rattle.nm_chain.proofs.QueueLemmas.{put_append}
+use Rattle.nm_port.proofs.PollLemmas.{map_later}
 use Rattle.nm_port.specs.Polls.{polled, with_all_missed}
-use Rattle.nm_port.specs.Sends.{HadMiss, tried}
+use Rattle.nm_cells.specs.declared.port.Port.{Port}
+use Rattle.nm_cells.specs.Ports.{knows, sent_by}
+use Rattle.nm_chain.proofs.UpdateLemmas.{update_here}
+use Rattle.nm_port.specs.Sends.{HadMiss, SendsBy, tried}
 use Rattle.nm_world.specs.Actors.{MissesGrow}
-use Rattle.nm_world.proofs.Leaves.{SentBy, a_box, a_cell, box_put, cell_put}
 use Rattle.nm_types.specs.declared.packets.Path.{Path}
 use Rattle.nm_types.specs.declared.packets.Path.TheVariants.{Box, Cell}
 
@@ -68,11 +69,6 @@ set_up (x ∷ xs) zero (suc i) = omega arith
 set_up (x ∷ xs) (suc j) zero = omega arith
 set_up (x ∷ xs) (suc j) (suc i) = set_up xs j i
 
-map_up : (xs : List ℕ) (i : ℕ) → slice_index xs i ≤ slice_index (map raised xs) i
-map_up [] i = omega arith
-map_up (x ∷ xs) zero = raised_up x
-map_up (x ∷ xs) (suc i) = map_up xs i
-
 by_queue : (e e' : Entry Packet) → MissesGrow e.receive_missed e'.receive_missed →
     MissesGrow e.free_missed e'.free_missed → (b : Bool) → MissesGrow (missed_of b e) (missed_of b e')
 by_queue e e' one two true = one
@@ -92,7 +88,7 @@ pub all_missed_up : (e : Entry Packet) → EntryGrows e (with_all_missed e)
 all_missed_up e = record {
   sent = λ j. omega arith;
   full = λ j. omega arith;
-  missed = λ i. map_up e.box_miss i;
+  missed = λ i. map_later e.box_miss i;
   queues = by_queue e (with_all_missed e) (misses_same e.receive_missed) (misses_same e.free_missed);
 }
 
@@ -144,12 +140,6 @@ put_more : (j : ℕ) (xs ys : List (ℕ × Load Packet)) → length (put_to j xs
 put_more j xs ys =
     let e = ap length (put_append j xs ys) ∙ length-append (put_to j xs) (put_to j ys) in omega (arith, e)
 
-put_one : (j : ℕ) (y : Load Packet) (xs : List (ℕ × Load Packet)) →
-    length (put_to j (xs ++ (j, y) ∷ [])) ≡ length (put_to j xs) + 1
-put_one j y xs =
-    ap length (put_append j xs ((j, y) ∷ [])) ∙ length-append (put_to j xs) (put_to j ((j, y) ∷ []))
-    ∙ ap (λ (ys : List (Load Packet)). length (put_to j xs) + length ys) (pick_yes (ℕ_discrete j j) (y ∷ []) [] refl)
-
 pub box_up : (to : ℕ) (xs : List (ℕ × Load Packet)) (e : Entry Packet) →
     EntryGrows e (with_put_box xs (with_filling to false e))
 box_up to xs e = record {
@@ -170,36 +160,22 @@ cell_up xs h e = record {
       (misses_same e.receive_missed) (misses_same e.free_missed);
 }
 
-pub sent_more : (e e' : Entry Packet) (to : ℕ) (p : Packet) → SentBy e e' to p →
-    sent_to to e.put_box e.put < sent_to to e'.put_box e'.put
-sent_more e e' to p (a_box x y z) =
-    let more = ap (λ (l : List (ℕ × Load Packet)). length (put_to to l)) x ∙ put_one to (Some (parcel_of p)) e.put_box in
-    let rest = ap (λ (l : List (ℕ × Load Packet)). length (put_to to l)) y in omega (arith, more, rest)
-sent_more e e' to p (a_cell x y z) =
-    let rest = ap (λ (l : List (ℕ × Load Packet)). length (put_to to l)) x in
-    let more = ap (λ (l : List (ℕ × Load Packet)). length (put_to to l)) y ∙ put_one to (Some (parcel_of p)) e.put in
-    omega (arith, more, rest)
+-- a packet that was sent, by either way
+module _ (fits : Bool) (to : ℕ) (x : Parcel Packet) (old new : Port Packet) where
+  pub sent_more : (way : Path) → SendsBy way fits to x old new → sent_by old to < sent_by new to
+  sent_more Box by =
+      let one = ap (λ (t : ℕ → ℕ). t to) by.puts.sent ∙ update_here (sent_by old) to (sent_by old to + 1) to refl in
+      omega (arith, one)
+  sent_more Cell by =
+      let one = ap (λ (t : ℕ → ℕ). t to) by.sent ∙ update_here (sent_by old) to (sent_by old to + 1) to refl in
+      omega (arith, one)
 
--- a packet that was sent in a parcel, by either way
-pub sent_by_way : (way : Path) (to : ℕ) (p : Packet) (x : Parcel Packet) → x ≡ parcel_of p → (e e' : Entry Packet) →
-    (way ≡ Box → e' ≡ with_put_box ((to, Some x) ∷ []) (with_filling to false e)) →
-    (way ≡ Cell → e' ≡ with_put ((to, Some x) ∷ []) (with_look false Fresh
-    (with_heads false (heads_of false e') (tried (is_short (length x.item.payload)) to e)))) →
-    SentBy e e' to p × EntryGrows e e'
-sent_by_way Box to p x made e e' box cell =
-    let is = subst (λ (z : Parcel Packet). e' ≡ with_put_box ((to, Some z) ∷ []) (with_filling to false e)) made
-    (box refl) in (
-      box_put to p e e' is,
-      subst (λ (z : Entry Packet). EntryGrows e z) (sym is) (box_up to ((to, Some (parcel_of p)) ∷ []) e),
-    )
-sent_by_way Cell to p x made e e' box cell =
-    let fits = is_short (length p.payload) in
-    let is = subst (λ (z : Parcel Packet). e' ≡ with_put ((to, Some z) ∷ []) (with_look false Fresh
-    (with_heads false (heads_of false e') (tried (is_short (length z.item.payload)) to e)))) made (cell refl) in (
-      cell_put fits to p (heads_of false e') e e' is,
-      subst (λ (z : Entry Packet). EntryGrows e z) (sym is) (entry_on e (tried fits to e) _ (tried_up fits to e)
-          (cell_up ((to, Some (parcel_of p)) ∷ []) (heads_of false e') (tried fits to e))),
-    )
+  pub sends_up : (way : Path) → SendsBy way fits to x old new → EntryGrows (knows old) (knows new)
+  sends_up Box by = subst (λ (z : Entry Packet). EntryGrows (knows old) z) (sym by.puts.put)
+      (box_up to ((to, Some x) ∷ []) (knows old))
+  sends_up Cell by = subst (λ (z : Entry Packet). EntryGrows (knows old) z) (sym by.put)
+      (entry_on (knows old) (tried fits to (knows old)) _ (tried_up fits to (knows old))
+      (cell_up ((to, Some x) ∷ []) (heads_of false (knows new)) (tried fits to (knows old))))
 
 -- a poll
 pub polled_up : (e e' : Entry Packet) → e' ≡ polled e' e →

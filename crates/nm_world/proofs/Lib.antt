@@ -15,6 +15,8 @@ mod Grows
 mod Did
 -- why nothing was
 mod Idle
+-- what a step moves
+mod Moves
 -- sweeps over actors
 mod Sweeps
 -- loops over steps

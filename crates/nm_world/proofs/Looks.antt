@@ -24,8 +24,8 @@ use Rattle.nm_process.proofs.PlaceLemmas.{next_command, next_found}
 use Rattle.nm_types.specs.Sizes.{Sizes}
 use Rattle.nm_rank.specs.Ranks.{IsFresh}
 use Rattle.nm_world.specs.declared.actors.Actor.{Actor}
-use Rattle.nm_world.specs.Actors.{Grows, Continues, PortGrows, Seat, ActorInvariant, did}
-use Rattle.nm_world.specs.Idle.{QueueMissed}
+use Rattle.nm_world.specs.Actors.{Grows, Continues, Environment, PortGrows, Seat, ActorInvariant, did}
+use Rattle.nm_world.specs.Idle.{Moves, QueueMissed}
 use Rattle.nm_world.specs.Looks.{IsAtLast, Polled, PolledBefore, PolledUnlessWorn, is_look_at, looks_in}
 use Rattle.nm_world.specs.Looks.{looks_next, polls_of}
 use Rattle.nm_world.proofs.Did.{did_same, sum_more, sum_up}
@@ -128,21 +128,23 @@ pub ranks_same : (lines : List Line) (f : Fabric Packet) (r : Rings) (a b : Acto
     b.process.rank.sizes.ranks ≡ a.process.rank.sizes.ranks
 ranks_same lines f r a b kept = ap (λ (s : Seat). s.sizes.ranks) kept.seat
 
-pub polled_by_step : (lines : List Line) (f : Fabric Packet) (r : Rings) (n : ℕ) (a b d : Actor) (q : Bool) →
-    Continues lines f r a b →
-    q ≡ true → q ≡ did n b d → PolledUnlessWorn b.process.rank.sizes.ranks 1 b d →
-    Polled a.process.rank.sizes.ranks 1 a.port d.port
-polled_by_step lines f r n a b d q kept is moved = ⊎_elim
+pub polled_by_step : (here : Environment) (a b d : Actor) (q : Bool) →
+    Continues here.lines here.fabric here.rings a b → q ≡ true → Moves here q b d →
+    PolledUnlessWorn b.process.rank.sizes.ranks 1 b d → Polled a.process.rank.sizes.ranks 1 a.port d.port
+polled_by_step here a b d q kept is moves = ⊎_elim
     (λ polled. polled_within a.process.rank.sizes.ranks 1 a.port b.port d.port d.port kept.grows.port
-    (subst (λ (k : ℕ). Polled k 1 b.port d.port) (ranks_same lines f r a b kept) polled) (port_same d.port))
-    (λ worn. absurd (clash (sym is ∙ moved ∙ ap (did n b) worn.1 ∙ sym (did_same n b))))
+    (subst (λ (k : ℕ). Polled k 1 b.port d.port) (ranks_same here.lines here.fabric here.rings a b kept) polled)
+    (port_same d.port))
+    (λ worn. absurd (clash (sym is ∙ moves.moved ∙ ap (did here.fabric.ranks b) worn.1
+    ∙ sym (did_same here.fabric.ranks b))))
 
-pub polled_last : (lines : List Line) (f : Fabric Packet) (r : Rings) (n k : ℕ) (a b d : Actor) → HasLooped n lines f r k a b →
+pub polled_last : (here : Environment) (k : ℕ) (a b d : Actor) → HasLooped here k a b →
     (0 < k → Polled a.process.rank.sizes.ranks 1 a.port b.port) → Grows b d →
     PolledUnlessWorn b.process.rank.sizes.ranks 1 b d → PolledUnlessWorn a.process.rank.sizes.ranks 1 a d
-polled_last lines f r n k a b d looped before up = ⊎_elim
-    (λ polled. inl (polled_within a.process.rank.sizes.ranks 1 a.port b.port d.port d.port looped.kept.grows.port
-    (subst (λ (k : ℕ). Polled k 1 b.port d.port) (ranks_same lines f r a b looped.kept) polled) (port_same d.port)))
+polled_last here k a b d looped before up = ⊎_elim
+    (λ polled. inl (polled_within a.process.rank.sizes.ranks 1 a.port b.port d.port d.port
+    looped.moves.kept.grows.port (subst (λ (k : ℕ). Polled k 1 b.port d.port)
+    (ranks_same here.lines here.fabric here.rings a b looped.moves.kept) polled) (port_same d.port)))
     (λ worn. by worn (dec_le 1 k)) where
       by : (¬ IsFresh b.process.rank) × (d ≡ b) → Dec (1 ≤ k) → PolledUnlessWorn a.process.rank.sizes.ranks 1 a d
       by worn (yes some) =

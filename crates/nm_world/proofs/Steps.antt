@@ -1,5 +1,5 @@
 -- What each step of an actor keeps, but for those by which something leaves it.
-use Rattle.std.proofs.Common.{◌≡◌, ◌≢◌, ◌⊎◌, ⊎_elim, ℕ, ◌+◌, ◌<◌, ◌≤◌, ◌==◌, Bool, true, false, cond}
+use Rattle.std.proofs.Common.{◌≡◌, ◌≢◌, ⊎_elim, ℕ, ◌<◌, ◌==◌, Bool, true, false, cond}
 use Rattle.std.proofs.Common.{Some, None, List, [], ◌∷◌, ◌++◌, length, map, refl, sym, ap, ◌∙◌, subst}
 use Rattle.std.proofs.Common.{arith, append-nil, get_or-set_same, get_or-set_other}
 use Rattle.std.specs.List.{cons_option}
@@ -10,22 +10,20 @@ use Rattle.nm_types.specs.declared.scripts.Line.{Line}
 use Rattle.nm_types.specs.Sizes.{Sizes}
 use Rattle.nm_history.specs.Known.{Taken}
 use Rattle.nm_history.specs.Pieces.{Pulled}
-use Rattle.nm_chain.specs.Update.{update}
 use Rattle.nm_chain.specs.declared.table.table.Entry.{Entry}
-use Rattle.nm_chain.specs.Rule.{Load, from}
 use Rattle.nm_chain.specs.declared.table.parcels.Parcel.{Parcel}
 use Rattle.nm_cells.specs.declared.port.Fabric.{Fabric}
 use Rattle.nm_cells.specs.declared.port.Port.{Port}
-use Rattle.nm_cells.specs.Ports.{Owns, knows, taken_by}
-use Rattle.nm_cells.specs.Counted.{IsOneOf}
-use Rattle.nm_port.specs.Polls.{Came, HoldsTheRest, IsGot, IsNext, Way, before, by_box, by_cell, polled, was_held}
-use Rattle.nm_port.specs.Polls.{with_all_missed}
+use Rattle.nm_cells.specs.Ports.{knows, taken_by}
+use Rattle.nm_port.specs.Keeps.{KeepsPort}
+use Rattle.nm_port.specs.Polls.{HoldsTheRest, Polls, with_all_missed}
 use Rattle.nm_port.specs.Sends.{HadMiss, tried}
 use Rattle.nm_copyring.specs.declared.port.RingPort.{RingPort}
 use Rattle.nm_copyring.specs.declared.port.Rings.{Rings}
 use Rattle.nm_copyring.specs.declared.table.Entry as ring_entry
 use Rattle.nm_copyring.specs.declared.table.Lane.{Lane}
 use Rattle.nm_copyring.specs.Rule.{lane, new_lane}
+use Rattle.nm_copyring.specs.Calls.{KeepsRingPort, Pulls}
 use Rattle.nm_copyring.specs.Plays.{one_pulled, with_lane}
 use Rattle.nm_copyring.specs.Ports as ring
 use Rattle.nm_global.specs.Emitted.{Emitted}
@@ -113,39 +111,31 @@ none_got e e' miss =
     let two = missed_got true (with_all_missed e) e' miss in record { box = two.box; cell = two.cell }
 
 -- a port that passed nothing on and sent nothing
-module _ (lines : List Line) (f : Fabric Packet) (r : Rings) (a : Actor) (port : Port Packet) (s : ActorInvariant lines f r a)
-    (owns : Owns f port) (rank : port.rank ≡ a.port.rank) (rest : HoldsTheRest port)
-    (hands : port.hands ≤ a.port.hands) (taken : taken_by port ≡ taken_by a.port) where
-  ranked : ProcessInvariant a.process.rank.sizes lines port.rank a.process s.past
-  ranked = subst (λ (k : ℕ). ProcessInvariant a.process.rank.sizes lines k a.process s.past) (sym rank) s.is.standing
-
-  no_hands : port.hands ≡ 0
-  no_hands = let none = s.is.hands in omega (arith, hands, none)
-
-  pub nothing_carried : SameSent (knows a.port) (knows port) → SameGot (knows a.port) (knows port) →
-      ActorInvariant lines f r (record a { port = port })
-  nothing_carried sent got =
-      record {
-        past = s.past;
-        is = record {
-          standing = ranked;
-          in_range = s.is.in_range;
-          cells = owns;
-          rings = s.is.rings;
-          rank = s.is.rank ∙ sym rank;
-          ranks = s.is.ranks;
-          hands = no_hands;
-          rest = rest;
-          sent = λ to within. sent_same (knows a.port) (knows port) to (s.past.left to).packets sent
-              (s.is.sent to within);
-          taken = λ from within. subst (λ (n : ℕ → ℕ). HasPassed packet_of (knows port) (n from) from
-              (map (λ t. t.packet) (taken_from from s.past.log))) (sym taken)
-              (got_same (knows a.port) (knows port) (taken_by a.port from) from
-              (map (λ t. t.packet) (taken_from from s.past.log)) got (s.is.taken from within));
-          pushed = s.is.pushed;
-          pulled = s.is.pulled;
-        };
-      }
+pub nothing_carried : (lines : List Line) (f : Fabric Packet) (r : Rings) (a : Actor) (port : Port Packet)
+    (s : ActorInvariant lines f r a) {idle : Type 0} → KeepsPort f idle a.port port → HoldsTheRest port →
+    taken_by port ≡ taken_by a.port → SameSent (knows a.port) (knows port) → SameGot (knows a.port) (knows port) →
+    ActorInvariant lines f r (record a { port = port })
+nothing_carried lines f r a port s keeps rest taken sent got = record {
+  past = s.past;
+  is = record {
+    standing = subst (λ (k : ℕ). ProcessInvariant a.process.rank.sizes lines k a.process s.past) (sym keeps.rank)
+        s.is.standing;
+    in_range = s.is.in_range;
+    cells = keeps.owns;
+    rings = s.is.rings;
+    rank = s.is.rank ∙ sym keeps.rank;
+    ranks = s.is.ranks;
+    hands = let few = keeps.few in let none = s.is.hands in omega (arith, few, none);
+    rest = rest;
+    sent = λ to within. sent_same (knows a.port) (knows port) to (s.past.left to).packets sent (s.is.sent to within);
+    taken = λ from within. subst (λ (n : ℕ → ℕ). HasPassed packet_of (knows port) (n from) from
+        (map (λ t. t.packet) (taken_from from s.past.log))) (sym taken)
+        (got_same (knows a.port) (knows port) (taken_by a.port from) from
+        (map (λ t. t.packet) (taken_from from s.past.log)) got (s.is.taken from within));
+    pushed = s.is.pushed;
+    pulled = s.is.pulled;
+  };
+}
 
 -- a command that ran
 pub run_on : (lines : List Line) (f : Fabric Packet) (r : Rings) (a : Actor) (v : ProcessView)
@@ -197,50 +187,40 @@ drew_list log v q i =
       by true = map-append (λ (d : Pulled). d.piece) (pulled_from i log) (pulled v q ∷ [])
       by false = ap (map (λ (d : Pulled). d.piece)) (append-nil (pulled_from i log))
 
--- the lists that grew by a poll
-came : {old new : Port Packet} {p : Parcel Packet} → Way old new p → (boxes : List (Load Packet)) × (cells : List (Load Packet))
-    × Came old new boxes cells
-came (was_held x y z) = ([], [], z)
-came {p = p} (by_box x z) = (Some p ∷ [], [], z)
-came {p = p} (by_cell x y z) = ([], Some p ∷ [], z)
-came {p = p} (before q w x y z) = (Some p ∷ [], Some q ∷ [], z)
-
+-- a packet that came
 abbrev PollCarries : Type 0
-PollCarries = (seen : Parcel Packet → Packet) (e e' : Entry Packet) (taken taken' : ℕ → ℕ) (boxes cells : List (Load Packet)) (i : ℕ) (p : Parcel Packet)
-    (ps : List Packet) → e'.got_box ≡ e.got_box ++ boxes → e'.got ≡ e.got ++ cells → p.seq ≡ taken p.from →
-    taken' ≡ update taken p.from (taken p.from + 1) →
-    IsOneOf (Some p) (from p.from e'.got_box) ⊎ IsOneOf (Some p) (from p.from e'.got) →
-    HasPassed seen e (taken i) i ps → HasPassed seen e' (taken' i) i (one_more p.from i (seen p) ps)
+PollCarries = (seen : Parcel Packet → Packet) (f : Fabric Packet) (old new : Port Packet) (p : Parcel Packet) (i : ℕ)
+    (ps : List Packet) → Polls f old new p → HasPassed seen (knows old) (taken_by old i) i ps →
+    HasPassed seen (knows new) (taken_by new i) i (one_more p.from i (seen p) ps)
 
 pub take_on : PollCarries → (lines : List Line) (f : Fabric Packet) (r : Rings) (a : Actor) (v : ProcessView)
-    (port : Port Packet) (p : Parcel Packet) (s : ActorInvariant lines f r a) → Owns f port → port.rank ≡ a.port.rank →
-    HoldsTheRest port → port.hands ≤ a.port.hands → IsNext f a.port port p → IsGot port p →
-    Way a.port port p → knows port ≡ polled (knows port) (knows a.port) →
+    (port : Port Packet) (p : Parcel Packet) (s : ActorInvariant lines f r a) {idle : Type 0} →
+    KeepsPort f idle a.port port → HoldsTheRest port → Polls f a.port port p →
     IsAtWork a.process.rank.sizes lines v →
     IsOf a.process.rank.sizes lines a.port.rank v.rank (with_moment s.past (took a.process.rank (packet_of p))) →
     ActorInvariant lines f r (record { process = v; port = port; ring = a.ring; places = tt })
-take_on law lines f r a v port p s owns rank rest hands next got way same work on =
-    let grown = came way in
+take_on law lines f r a v port p s keeps rest polls work on =
     let now = with_moment s.past (took a.process.rank (packet_of p)) in
     stands_of a.process.rank.sizes lines f r
     (record { process = v; port = port; ring = a.ring; places = tt }) now work.sizes
     (record {
-      standing = subst (λ (k : ℕ). ProcessInvariant a.process.rank.sizes lines k v now) (sym rank)
+      standing = subst (λ (k : ℕ). ProcessInvariant a.process.rank.sizes lines k v now) (sym keeps.rank)
           (record { work = work; rank = on });
       in_range = s.is.in_range;
-      cells = owns;
+      cells = keeps.owns;
       rings = s.is.rings;
-      rank = s.is.rank ∙ sym rank;
+      rank = s.is.rank ∙ sym keeps.rank;
       ranks = s.is.ranks;
-      hands = let none = s.is.hands in omega (arith, hands, none);
+      hands = let few = keeps.few in let none = s.is.hands in omega (arith, few, none);
       rest = rest;
       sent = λ to within. sent_same (knows a.port) (knows port) to (s.past.left to).packets
-          (record { box = ap (λ (e : Entry Packet). e.put_box) same; cell = ap (λ (e : Entry Packet). e.put) same })
-          (s.is.sent to within);
+          (record {
+            box = ap (λ (e : Entry Packet). e.put_box) polls.same;
+            cell = ap (λ (e : Entry Packet). e.put) polls.same;
+          }) (s.is.sent to within);
       taken = λ i within. subst (λ (ps : List Packet). HasPassed packet_of (knows port) (taken_by port i) i ps)
           (sym (took_list s.past.log a.process.rank (packet_of p) i))
-          (law packet_of (knows a.port) (knows port) (taken_by a.port) (taken_by port) grown.0 grown.1 i p
-          (map (λ t. t.packet) (taken_from i s.past.log)) grown.2.0 grown.2.1 next.number next.taken got
+          (law packet_of f a.port port p i (map (λ t. t.packet) (taken_from i s.past.log)) polls
           (s.is.taken i within));
       pushed = s.is.pushed;
       pulled = λ i within. ap (map (λ (d : Pulled). d.piece))
@@ -256,13 +236,12 @@ pub lane_else : (e : ring_entry.Entry) (j k : ℕ) (g : Lane → Lane) → k ≢
 lane_else e j k g ne = get_or-set_other e.lanes j k (g (lane e j)) new_lane ne
 
 pub pull_on : (lines : List Line) (f : Fabric Packet) (r : Rings) (a : Actor) (v : ProcessView)
-    (port : RingPort) (sender : ℕ) (q : Piece) (s : ActorInvariant lines f r a) → ring.Owns r port → port.rank ≡ a.ring.rank →
-    sender < r.ranks → q.from ≡ sender →
-    ring.knows port ≡ with_lane (one_pulled q) sender (ring.knows a.ring) →
+    (port : RingPort) (sender : ℕ) (q : Piece) (s : ActorInvariant lines f r a) → KeepsRingPort r a.ring port →
+    sender < r.ranks → Pulls sender q a.ring port →
     IsAtWork a.process.rank.sizes lines v →
     IsOf a.process.rank.sizes lines a.port.rank v.rank (with_moment s.past (drew a.process.rank q)) →
     ActorInvariant lines f r (record { process = v; port = a.port; ring = port; places = tt })
-pull_on lines f r a v port sender q s owns rank within own knew work on =
+pull_on lines f r a v port sender q s keeps within pulls work on =
     let now = with_moment s.past (drew a.process.rank q) in
     let wide = s.is.rings.1.2 in
     stands_of a.process.rank.sizes lines f r
@@ -271,8 +250,8 @@ pull_on lines f r a v port sender q s owns rank within own knew work on =
       standing = record { work = work; rank = on };
       in_range = s.is.in_range;
       cells = s.is.cells;
-      rings = owns;
-      rank = rank ∙ s.is.rank;
+      rings = keeps.owns;
+      rank = keeps.rank ∙ s.is.rank;
       ranks = s.is.ranks;
       hands = s.is.hands;
       rest = s.is.rest;
@@ -280,7 +259,7 @@ pull_on lines f r a v port sender q s owns rank within own knew work on =
       taken = λ i low. subst (λ (ts : List Taken). HasPassed packet_of (knows a.port) (taken_by a.port i) i
           (map (λ t. t.packet) ts)) (sym (taken_still i s.past.log (drew a.process.rank q) refl))
           (s.is.taken i low);
-      pushed = λ to low. s.is.pushed to low ∙ sym (ap (λ (e : ring_entry.Entry). (lane e to).pushed) knew
+      pushed = λ to low. s.is.pushed to low ∙ sym (ap (λ (e : ring_entry.Entry). (lane e to).pushed) pulls.knew
           ∙ still to (omega (arith, within, wide)));
       pulled = λ i low. drew_list s.past.log a.process.rank q i ∙ by i low (q.from == i) refl;
     }) where
@@ -300,17 +279,17 @@ pull_on lines f r a v port sender q s owns rank within own knew work on =
           cond b (map (λ (d : Pulled). d.piece) (pulled_from i s.past.log) ++ q ∷ [])
           (map (λ (d : Pulled). d.piece) (pulled_from i s.past.log)) ≡ ring.pulled_from port i
       by i low true e =
-          let here : sender ≡ i = sym own ∙ same_number q.from i e in
+          let here : sender ≡ i = sym pulls.from ∙ same_number q.from i e in
           let wide = s.is.rings.1.2 in
           ap (λ (qs : List Piece). qs ++ q ∷ []) (s.is.pulled i low)
-          ∙ sym (ap (λ (x : ring_entry.Entry). (lane x i).pulled) knew
+          ∙ sym (ap (λ (x : ring_entry.Entry). (lane x i).pulled) pulls.knew
           ∙ subst (λ (k : ℕ). (lane (with_lane (one_pulled q) sender (ring.knows a.ring)) k).pulled
           ≡ (lane (ring.knows a.ring) k).pulled ++ q ∷ []) here
           (ap (λ (l : Lane). l.pulled) (lane_here (ring.knows a.ring) sender (one_pulled q)
           (omega (arith, within, wide)))))
       by i low false e =
-          let other : i ≢ sender = λ same. differ q.from i e (same ∙ sym own) in
-          s.is.pulled i low ∙ sym (ap (λ (x : ring_entry.Entry). (lane x i).pulled) knew
+          let other : i ≢ sender = λ same. differ q.from i e (same ∙ sym pulls.from) in
+          s.is.pulled i low ∙ sym (ap (λ (x : ring_entry.Entry). (lane x i).pulled) pulls.knew
           ∙ ap (λ (l : Lane). l.pulled) (lane_else (ring.knows a.ring) sender i (one_pulled q) other))
 
 -- whose actor it is

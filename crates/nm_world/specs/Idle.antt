@@ -14,6 +14,7 @@ use Rattle.nm_cells.specs.Ports.{knows}
 use Rattle.nm_copyring.specs.Ports.{empty_from, full_to}
 use Rattle.nm_process.specs.Steps.{goes_on}
 use Rattle.nm_world.specs.declared.actors.Actor.{Actor}
+use Rattle.nm_world.specs.Actors.{Continues, Environment, did}
 use Rattle.nm_types.specs.declared.packets.Packet.{Packet}
 
 -- a count rose, or stands at the last number of 64 bits
@@ -78,3 +79,10 @@ pub record Stepped (moved : Bool) (a b : Actor) : Type 0 where
   pub at : b.process.at ≡ a.process.at
   pub still : moved ≡ false → b.process ≡ a.process
   pub worn : ¬ IsFresh a.process.rank → b ≡ a
+
+-- One step, or several of a kind, of which none is a command: the actor stands, goes on from where it
+-- was, and `some` tells whether it did something.
+pub record Moves (here : Environment) (some : Bool) (a b : Actor) : Type 0 where
+  pub kept : Continues here.lines here.fabric here.rings a b
+  pub moved : some ≡ did here.fabric.ranks a b
+  pub stepped : Stepped some a b

@@ -14,7 +14,7 @@ ghost use Rattle.nm_process.specs.Lines.{AreLines};
 ghost use Rattle.nm_process.specs.Steps.{HasRun, goes_on};
 ghost use Rattle.nm_process.specs.Work.{IsAtWork};
 ghost use Rattle.nm_world.specs.Actors.{Grew, Continues, Environment, ActorInvariant, did, seat_of};
-ghost use Rattle.nm_world.specs.Idle.{GaveNone, Idle, IsDue, FirstNotSent, NoPiece, NextNotPushed, Stepped};
+ghost use Rattle.nm_world.specs.Idle.{GaveNone, Idle, IsDue, FirstNotSent, Moves, NoPiece, NextNotPushed};
 ghost use Rattle.nm_world.specs.Looks.{LookedAround, PolledBefore, PolledUnlessWorn, looks_next};
 ghost use Rattle.nm_world.specs.Rest.{CanMove, IsStill};
 
@@ -99,9 +99,8 @@ impl Actor {
     ) -> Result<bool, Memory>
         ghost here: { Environment }
         requires stands { ActorInvariant here.lines f.now here.rings self.old }
-        ensures kept { IfOk result (λ _. Continues here.lines f.now here.rings self.old self.new) }
-        ensures moved { IfOk result (λ moved. moved ≡ did f.now.ranks self.old self.new) }
-        ensures stepped { IfOk result (λ moved. Stepped moved self.old self.new) }
+        ensures moves { IfOk result (λ moved.
+            Moves (record here { fabric = f.now }) moved self.old self.new) }
         ensures back { IfOk result (λ moved. moved ≡ false → IsFresh self.old.process.rank →
             FirstNotSent self.old self.new) }
         ensures bound { steps.new ≤ steps.old + 9 }
@@ -134,9 +133,8 @@ impl Actor {
     fn push_next<L: Ledger>(&mut self, r: &Rings, steps: &mut Steps<L>) -> Result<bool, Memory>
         ghost here: { Environment }
         requires stands { ActorInvariant here.lines here.fabric r.now self.old }
-        ensures kept { IfOk result (λ _. Continues here.lines here.fabric r.now self.old self.new) }
-        ensures moved { IfOk result (λ moved. moved ≡ did here.fabric.ranks self.old self.new) }
-        ensures stepped { IfOk result (λ moved. Stepped moved self.old self.new) }
+        ensures moves { IfOk result (λ moved.
+            Moves (record here { rings = r.now }) moved self.old self.new) }
         ensures back { IfOk result (λ moved. moved ≡ false → IsFresh self.old.process.rank →
             NextNotPushed self.old self.new) }
         ensures bound { steps.new ≤ steps.old + 3 }
@@ -166,9 +164,7 @@ impl Actor {
         ghost here: { Environment }
         requires stands { ActorInvariant here.lines here.fabric r.now self.old }
         requires fresh { IsFresh self.old.process.rank }
-        ensures kept { Continues here.lines here.fabric r.now self.old self.new }
-        ensures moved { result ≡ did here.fabric.ranks self.old self.new }
-        ensures stepped { Stepped result self.old self.new }
+        ensures moves { Moves (record here { rings = r.now }) result self.old self.new }
         ensures back { result ≡ false → NextNotPushed self.old self.new }
         ensures bound { steps.new ≤ steps.old + 2 }
     {
@@ -199,9 +195,8 @@ impl Actor {
     ) -> Result<bool, Memory>
         ghost here: { Environment }
         requires stands { ActorInvariant here.lines f.now here.rings self.old }
-        ensures kept { IfOk result (λ _. Continues here.lines f.now here.rings self.old self.new) }
-        ensures moved { IfOk result (λ moved. moved ≡ did f.now.ranks self.old self.new) }
-        ensures stepped { IfOk result (λ moved. Stepped moved self.old self.new) }
+        ensures moves { IfOk result (λ moved.
+            Moves (record here { fabric = f.now }) moved self.old self.new) }
         ensures none { IfOk result (λ moved. moved ≡ false → IsFresh self.old.process.rank →
             GaveNone self.old.process.rank.sizes.ranks self.old.port self.new.port) }
         ensures polled { IfOk result (λ _.
@@ -241,9 +236,8 @@ impl Actor {
         ghost here: { Environment }
         requires stands { ActorInvariant here.lines here.fabric r.now self.old }
         requires sender { sender < r.now.ranks }
-        ensures kept { IfOk result (λ _. Continues here.lines here.fabric r.now self.old self.new) }
-        ensures moved { IfOk result (λ moved. moved ≡ did here.fabric.ranks self.old self.new) }
-        ensures stepped { IfOk result (λ moved. Stepped moved self.old self.new) }
+        ensures moves { IfOk result (λ moved.
+            Moves (record here { rings = r.now }) moved self.old self.new) }
         ensures none { IfOk result (λ moved. moved ≡ false → IsFresh self.old.process.rank →
             NoPiece self.old self.new sender) }
         ensures bound { steps.new ≤ steps.old + 3 }
@@ -273,9 +267,8 @@ impl Actor {
         requires sender { sender < r.now.ranks }
         requires due { IsDue self.old.process.rank sender }
         requires fresh { IsFresh self.old.process.rank }
-        ensures kept { IfOk result (λ _. Continues here.lines here.fabric r.now self.old self.new) }
-        ensures moved { IfOk result (λ moved. moved ≡ did here.fabric.ranks self.old self.new) }
-        ensures stepped { IfOk result (λ moved. Stepped moved self.old self.new) }
+        ensures moves { IfOk result (λ moved.
+            Moves (record here { rings = r.now }) moved self.old self.new) }
         ensures none { IfOk result (λ moved. moved ≡ false → NoPiece self.old self.new sender) }
         ensures bound { steps.new ≤ steps.old + 2 }
     {
@@ -328,9 +321,8 @@ impl Actor {
     ) -> Result<bool, Memory>
         ghost here: { Environment }
         requires stands { ActorInvariant here.lines f.now here.rings self.old }
-        ensures kept { IfOk result (λ _. Continues here.lines f.now here.rings self.old self.new) }
-        ensures moved { IfOk result (λ moved. moved ≡ did f.now.ranks self.old self.new) }
-        ensures stepped { IfOk result (λ moved. Stepped moved self.old self.new) }
+        ensures moves { IfOk result (λ moved.
+            Moves (record here { fabric = f.now }) moved self.old self.new) }
         ensures back { IfOk result (λ moved. moved ≡ false → IsFresh self.old.process.rank →
             FirstNotSent self.old self.new) }
         ensures bound { steps.new ≤ steps.old + 64 * 9 }
@@ -351,9 +343,8 @@ impl Actor {
     ) -> Result<bool, Memory>
         ghost here: { Environment }
         requires stands { ActorInvariant here.lines f.now here.rings self.old }
-        ensures kept { IfOk result (λ _. Continues here.lines f.now here.rings self.old self.new) }
-        ensures moved { IfOk result (λ moved. moved ≡ did f.now.ranks self.old self.new) }
-        ensures stepped { IfOk result (λ moved. Stepped moved self.old self.new) }
+        ensures moves { IfOk result (λ moved.
+            Moves (record here { fabric = f.now }) moved self.old self.new) }
         ensures none { IfOk result (λ moved. moved ≡ false → IsFresh self.old.process.rank →
             GaveNone self.old.process.rank.sizes.ranks self.old.port self.new.port) }
         ensures polled { IfOk result (λ _.
@@ -372,9 +363,8 @@ impl Actor {
     fn push_all<L: Ledger>(&mut self, r: &Rings, steps: &mut Steps<L>) -> Result<bool, Memory>
         ghost here: { Environment }
         requires stands { ActorInvariant here.lines here.fabric r.now self.old }
-        ensures kept { IfOk result (λ _. Continues here.lines here.fabric r.now self.old self.new) }
-        ensures moved { IfOk result (λ moved. moved ≡ did here.fabric.ranks self.old self.new) }
-        ensures stepped { IfOk result (λ moved. Stepped moved self.old self.new) }
+        ensures moves { IfOk result (λ moved.
+            Moves (record here { rings = r.now }) moved self.old self.new) }
         ensures back { IfOk result (λ moved. moved ≡ false → IsFresh self.old.process.rank →
             NextNotPushed self.old self.new) }
         ensures bound { steps.new ≤ steps.old + 64 * 3 }
@@ -397,9 +387,8 @@ impl Actor {
         ghost here: { Environment }
         requires stands { ActorInvariant here.lines here.fabric r.now self.old }
         requires sender { sender < r.now.ranks }
-        ensures kept { IfOk result (λ _. Continues here.lines here.fabric r.now self.old self.new) }
-        ensures moved { IfOk result (λ moved. moved ≡ did here.fabric.ranks self.old self.new) }
-        ensures stepped { IfOk result (λ moved. Stepped moved self.old self.new) }
+        ensures moves { IfOk result (λ moved.
+            Moves (record here { rings = r.now }) moved self.old self.new) }
         ensures none { IfOk result (λ moved. moved ≡ false → IsFresh self.old.process.rank →
             NoPiece self.old self.new sender) }
         ensures bound { steps.new ≤ steps.old + 4 * 3 }
@@ -422,9 +411,8 @@ impl Actor {
         ghost here: { Environment }
         requires ranks { f.now.ranks ≡ here.fabric.ranks }
         requires stands { ActorInvariant here.lines here.fabric r.now self.old }
-        ensures kept { IfOk result (λ _. Continues here.lines here.fabric r.now self.old self.new) }
-        ensures moved { IfOk result (λ moved. moved ≡ did here.fabric.ranks self.old self.new) }
-        ensures stepped { IfOk result (λ moved. Stepped moved self.old self.new) }
+        ensures moves { IfOk result (λ moved.
+            Moves (record here { rings = r.now }) moved self.old self.new) }
         ensures none { IfOk result (λ moved. moved ≡ false → IsFresh self.old.process.rank →
             (i : ℕ) → i < f.now.ranks → NoPiece self.old self.new i) }
         ensures bound { steps.new ≤ steps.old + f.now.ranks * 12 }
@@ -447,9 +435,8 @@ impl Actor {
         ghost here: { Environment }
         requires lines { lines.now ≡ here.lines }
         requires stands { ActorInvariant here.lines f.now here.rings self.old }
-        ensures kept { IfOk result (λ _. Continues here.lines f.now here.rings self.old self.new) }
-        ensures moved { IfOk result (λ moved. moved ≡ did f.now.ranks self.old self.new) }
-        ensures stepped { IfOk result (λ moved. Stepped moved self.old self.new) }
+        ensures moves { IfOk result (λ moved.
+            Moves (record here { fabric = f.now }) moved self.old self.new) }
         ensures polled { IfOk result (λ _.
             PolledUnlessWorn self.old.process.rank.sizes.ranks
             (looks_next lines.now self.old.process) self.old self.new) }

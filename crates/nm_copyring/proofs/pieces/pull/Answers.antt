@@ -1,5 +1,6 @@
 use Rattle.std.proofs.Common.{◌∙◌, ap, refl}
 use Rattle.nm_copyring.specs.Plays.{mine, one_pulled, one_empty, unlooked}
+use Rattle.nm_copyring.proofs.OpeningLemmas.{false_true}
 use Rattle.nm_copyring.proofs.PortLemmas.{lane_rests, lane_wide, lane_owned, lane_counts}
 use Rattle.nm_copyring.proofs.pieces.pull.Goals as goal
 
@@ -27,21 +28,26 @@ invariant_of-port-clause-counts g c = let p = c.args.port.now in
     c.empty_next.new.seat.me is
     c.count_pulled.new.tallies.items (c.count_pulled.ensures (unlooked (mine p.seat.me)) c.in-Ok.piece.value p.counts)
 
-pub returns-in-Ok-clause-owns : goal.returns-in-Ok-clause-owns
-returns-in-Ok-clause-owns g c = let p = c.args.port.now in
+pub returns-in-Ok-clause-keeps : goal.returns-in-Ok-clause-keeps
+returns-in-Ok-clause-keeps g c = let p = c.args.port.now in
     let is = c.in-Ok.ensures.pulled in
-    let o = c.requires.owns in (
-      (
+    let o = c.requires.owns.0 in
+    record {
+      owns = (
         c.empty_next.ensures.same ∙ o.0,
         lane_owned (one_pulled c.in-Ok.piece.value) c.args.sender (unlooked (mine p.seat.me))
             c.empty_next.new.seat.me is
             c.args.r.now.ranks o.1,
-      ),
-      refl,
-    )
+      );
+      rank = refl;
+    }
 
-pub returns-in-Ok-clause-pulled : goal.returns-in-Ok-clause-pulled
-returns-in-Ok-clause-pulled g c = ap (λ m. unlooked (mine m)) (c.in-Ok.ensures.pulled)
+pub returns-in-Ok-clause-pulls : goal.returns-in-Ok-clause-pulls
+returns-in-Ok-clause-pulls g c = record {
+  from = c.in-Ok.ensures.next.0;
+  number = c.in-Ok.ensures.next.1 ∙ c.pulled-number.ensures;
+  knew = ap (λ m. unlooked (mine m)) c.in-Ok.ensures.pulled;
+}
 
 pub invariant_of-port-in-Err-clause-rests : goal.invariant_of-port-in-Err-clause-rests
 invariant_of-port-in-Err-clause-rests g c = let p = c.args.port.now in
@@ -64,17 +70,19 @@ invariant_of-port-in-Err-clause-counts g c = let p = c.args.port.now in
     lane_counts one_empty c.args.sender (mine p.seat.me) c.empty_next.new.seat.me is
     c.count_empty.new.tallies.items (c.count_empty.ensures (mine p.seat.me) p.counts)
 
-pub returns-in-Err-clause-owns : goal.returns-in-Err-clause-owns
-returns-in-Err-clause-owns g c = let p = c.args.port.now in
+pub returns-in-Err-clause-keeps : goal.returns-in-Err-clause-keeps
+returns-in-Err-clause-keeps g c = let p = c.args.port.now in
     let is = c.in-Err.ensures.missed in
-    let o = c.requires.owns in (
-      (
+    let o = c.requires.owns.0 in
+    record {
+      owns = (
         c.empty_next.ensures.same ∙ o.0,
         lane_owned one_empty c.args.sender (mine p.seat.me) c.empty_next.new.seat.me is
             c.args.r.now.ranks o.1,
-      ),
-      refl,
-    )
+      );
+      rank = refl;
+    }
 
 pub returns-in-Err-clause-missed : goal.returns-in-Err-clause-missed
-returns-in-Err-clause-missed g c = ap (λ m. unlooked (mine m)) (c.in-Err.ensures.missed)
+returns-in-Err-clause-missed g c =
+    (ap (λ m. unlooked (mine m)) c.in-Err.ensures.missed, λ full. absurd (false_true (c.in-Err.ensures.sure full)))

@@ -1,5 +1,6 @@
 use Rattle.std.proofs.Common.{◌∙◌, ap, refl}
 use Rattle.nm_copyring.specs.Plays.{mine, one_pushed, one_full, unlooked}
+use Rattle.nm_copyring.proofs.OpeningLemmas.{false_true}
 use Rattle.nm_copyring.proofs.PortLemmas.{lane_rests, lane_wide, lane_owned, lane_counts}
 use Rattle.nm_copyring.proofs.pieces.push.Goals as goal
 
@@ -26,20 +27,21 @@ invariant_of-port-clause-counts g c = let p = c.args.port.now in
     lane_counts (one_pushed c.args.piece.value) c.args.to (unlooked (mine p.seat.me)) c.fill_next.new.seat.me is
     c.count_pushed.new.tallies.items (c.count_pushed.ensures (unlooked (mine p.seat.me)) c.args.piece.value p.counts)
 
-pub returns-in-Ok-clause-owns : goal.returns-in-Ok-clause-owns
-returns-in-Ok-clause-owns g c = let p = c.args.port.now in
+pub returns-in-Ok-clause-keeps : goal.returns-in-Ok-clause-keeps
+returns-in-Ok-clause-keeps g c = let p = c.args.port.now in
     let is = c.in-Ok.ensures.pushed in
-    let o = c.requires.owns in (
-      (
+    let o = c.requires.ready.0.0 in
+    record {
+      owns = (
         c.fill_next.ensures.same ∙ o.0,
         lane_owned (one_pushed c.args.piece.value) c.args.to (unlooked (mine p.seat.me)) c.fill_next.new.seat.me is
             c.args.r.now.ranks o.1,
-      ),
-      refl,
-    )
+      );
+      rank = refl;
+    }
 
-pub returns-in-Ok-clause-pushed : goal.returns-in-Ok-clause-pushed
-returns-in-Ok-clause-pushed g c = ap (λ m. unlooked (mine m)) (c.in-Ok.ensures.pushed)
+pub returns-in-Ok-clause-pushes : goal.returns-in-Ok-clause-pushes
+returns-in-Ok-clause-pushes g c = ap (λ m. unlooked (mine m)) (c.in-Ok.ensures.pushed)
 
 pub invariant_of-port-in-Err-clause-rests : goal.invariant_of-port-in-Err-clause-rests
 invariant_of-port-in-Err-clause-rests g c = let p = c.args.port.now in
@@ -62,18 +64,22 @@ invariant_of-port-in-Err-clause-counts g c = let p = c.args.port.now in
     lane_counts one_full c.args.to (mine p.seat.me) c.fill_next.new.seat.me is
     c.count_full.new.tallies.items (c.count_full.ensures (mine p.seat.me) p.counts)
 
-pub returns-in-Err-clause-owns : goal.returns-in-Err-clause-owns
-returns-in-Err-clause-owns g c = let p = c.args.port.now in
+pub returns-in-Err-clause-keeps : goal.returns-in-Err-clause-keeps
+returns-in-Err-clause-keeps g c = let p = c.args.port.now in
     let is = c.in-Err.ensures.refused.1 in
-    let o = c.requires.owns in (
-      (
+    let o = c.requires.ready.0.0 in
+    record {
+      owns = (
         c.fill_next.ensures.same ∙ o.0,
         lane_owned one_full c.args.to (mine p.seat.me) c.fill_next.new.seat.me is
             c.args.r.now.ranks o.1,
-      ),
-      refl,
-    )
+      );
+      rank = refl;
+    }
 
 pub returns-in-Err-clause-refused : goal.returns-in-Err-clause-refused
-returns-in-Err-clause-refused g c =
-    (c.in-Err.ensures.refused.0, ap (λ m. unlooked (mine m)) c.in-Err.ensures.refused.1)
+returns-in-Err-clause-refused g c = (
+  c.in-Err.ensures.refused.0,
+  ap (λ m. unlooked (mine m)) c.in-Err.ensures.refused.1,
+  λ free. absurd (false_true (c.in-Err.ensures.sure free)),
+)

@@ -4,10 +4,9 @@ use Rattle.nm_types.specs.declared.scripts.Line.{Line}
 use Rattle.nm_process.specs.Work.{IsAtWork}
 use Rattle.std.specs.Prelude.{IfOk}
 use Rattle.nm_world.specs.Looks.{Polled, PolledUnlessWorn, looks_next}
-use Rattle.nm_world.proofs.Did.{did_same}
-use Rattle.nm_world.proofs.Grows.{kept_same, port_same}
-use Rattle.nm_world.proofs.Idle.{stepped_none}
+use Rattle.nm_world.proofs.Grows.{port_same}
 use Rattle.nm_world.proofs.Looks.{polled_none}
+use Rattle.nm_world.proofs.Moves.{moves_none}
 use Rattle.nm_world.proofs.actors.Actor.look.Goals as goal
 
 pub returns-then-not-next_looks : goal.returns-then-not-next_looks
@@ -22,9 +21,7 @@ returns-then-not-next_looks g c =
     let next : 0 ≡ looks_next lines a.process = ap (λ (b : Bool). cond b 1 0) (sym c.if-not-next_looks.true ∙ found) in
     record {
       bound = omega arith;
-      kept = kept_same g.here.lines c.args.f.now g.here.rings a s;
-      moved = did_same c.args.f.now.ranks a;
-      stepped = stepped_none a;
+      moves = moves_none (record g.here { fabric = c.args.f.now }) a s;
       polled = inl (subst (λ (k : ℕ). Polled n k a.port a.port) next (polled_none n a.port a.port (port_same a.port)));
     }
 
@@ -42,9 +39,7 @@ returns g c =
     let next : 1 ≡ looks_next lines a.process = ap (λ (b : Bool). cond b 1 0) (sym c.if-not-next_looks.false ∙ found) in
     record {
       bound = c.take_next.ensures.bound;
-      kept = c.take_next.ensures.kept;
-      moved = c.take_next.ensures.moved;
-      stepped = c.take_next.ensures.stepped;
+      moves = c.take_next.ensures.moves;
       polled = subst (λ (k : ℕ). IfOk c.take_next.result
           (λ _. PolledUnlessWorn a.process.rank.sizes.ranks k a c.take_next.new.self)) next c.take_next.ensures.polled;
     }

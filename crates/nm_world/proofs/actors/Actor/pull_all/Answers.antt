@@ -2,18 +2,15 @@
 use Rattle.std.proofs.Common.{subst, sym, arith}
 use Rattle.nm_rank.specs.Ranks.{IsFresh}
 use Rattle.nm_process.specs.Processes.{ProcessView}
-use Rattle.nm_world.proofs.Did.{did_on, did_same}
-use Rattle.nm_world.proofs.Grows.{kept_on, kept_same}
-use Rattle.nm_world.proofs.Idle.{more_none, stepped_none, stepped_on}
+use Rattle.nm_world.proofs.Idle.{more_none}
+use Rattle.nm_world.proofs.Moves.{moves_none, moves_on}
 use Rattle.nm_world.proofs.Loops.{spent_all, spent_last, spent_more}
 use Rattle.nm_world.proofs.actors.Actor.pull_all.Goals as goal
 use Rattle.nm_types.proofs.TruthLemmas.{neither}
 
 pub loop-sender-init : goal.loop-sender-init
 loop-sender-init g c = record {
-  kept = kept_same g.here.lines g.here.fabric c.args.r.now c.args.self.now c.requires.1.1;
-  moved = did_same g.here.fabric.ranks c.args.self.now;
-  stepped = stepped_none c.args.self.now;
+  moves = moves_none (record g.here { rings = c.args.r.now }) c.args.self.now c.requires.1.1;
   none = λ none fresh i low. absurd (omega (arith, low));
   end = c.ranks-sender-end.ensures;
   bound = omega arith;
@@ -21,7 +18,7 @@ loop-sender-init g c = record {
 
 pub pull_some-requires : goal.pull_some-requires
 pull_some-requires g c lifetimes outlive =
-    let s = c.loop-sender.invariant.kept.stands in
+    let s = c.loop-sender.invariant.moves.kept.stands in
     let low = c.loop-sender-test.true in
     let end = c.loop-sender.invariant.end in
     let ranks = c.requires.1.0 in
@@ -37,15 +34,13 @@ loop-sender-preserved g c =
     let one = c.loop-sender.invariant in
     let two = c.in_ok-one.ensures in
     record {
-      kept = kept_on g.here.lines g.here.fabric c.args.r.now a b d one.kept two.kept;
-      moved = did_on g.here.fabric.ranks a b d c.loop-sender.moved c.in_ok-one.one one.kept.grows two.kept.grows
-          one.moved two.moved;
-      stepped = stepped_on c.loop-sender.moved c.in_ok-one.one a b d one.stepped two.stepped;
+      moves = moves_on (record g.here { rings = c.args.r.now }) c.loop-sender.moved c.in_ok-one.one a b d
+          one.moves two.moves;
       none = λ none fresh i low.
           let both = neither c.loop-sender.moved c.in_ok-one.one none in
-          let same = one.stepped.still both.0 in
+          let same = one.moves.stepped.still both.0 in
           let fresh_too = subst (λ (v : ProcessView). IsFresh v.rank) (sym same) fresh in
-          more_none a b d c.loop-sender.sender i one.kept.grows two.kept.grows same low
+          more_none a b d c.loop-sender.sender i one.moves.kept.grows two.moves.kept.grows same low
           (λ below. one.none both.0 fresh i below) (two.none both.1 fresh_too);
       end = one.end;
       bound = spent_more c.loop-sender.sender 12 c.args.steps.now c.loop-sender.steps c.pull_some.new.steps
@@ -58,9 +53,7 @@ returns g c =
     let end = i.end in
     let past = c.loop-sender-test.false in
     record {
-      kept = i.kept;
-      moved = i.moved;
-      stepped = i.stepped;
+      moves = i.moves;
       none = λ none fresh k low. i.none none fresh k (omega (arith, low, end, past));
       bound = spent_all c.loop-sender.sender c.args.f.now.ranks 12 c.args.steps.now c.loop-sender.steps
           (omega (arith, end)) i.bound;

@@ -1,7 +1,6 @@
 use Rattle.std.proofs.Common.{◌≡◌, ◌<◌, ◌≤◌, ◌+◌, ◌*◌, ℕ, false}
 use Rattle.nm_rank.specs.Ranks.{IsFresh}
-use Rattle.nm_world.specs.Actors.{Continues, did}
-use Rattle.nm_world.specs.Idle.{NoPiece, Stepped}
+use Rattle.nm_world.specs.Idle.{Moves, NoPiece}
 use Rattle.nm_world.proofs.actors.Actor.pull_all.Given as goal
 
 abbrev pub ghost-pull_some : goal.ghost-pull_some
@@ -9,9 +8,7 @@ ghost-pull_some g a = g.here
 
 abbrev pub invariant-loop-sender : goal.invariant-loop-sender
 invariant-loop-sender g l = record {
-  kept : Continues g.here.lines g.here.fabric l.r l.initial.self l.self;
-  moved : l.moved ≡ did g.here.fabric.ranks l.initial.self l.self;
-  stepped : Stepped l.moved l.initial.self l.self;
+  moves : Moves (record g.here { rings = l.r }) l.moved l.initial.self l.self;
   none : l.moved ≡ false → IsFresh l.initial.self.process.rank → (i : ℕ) → i < l.sender →
       NoPiece l.initial.self l.self i;
   end : l.sender-end ≡ l.f.ranks;

@@ -1,5 +1,5 @@
 -- The piece comes behind the others of its sender.
-use Rattle.std.proofs.Common.{ℕ, ◌<◌, true, false, length, sym, ap, subst, arith, refl}
+use Rattle.std.proofs.Common.{ℕ, ◌<◌, true, length, sym, ap, subst, arith, refl}
 use Rattle.nm_types.specs.declared.packets.Piece.{Piece}
 use Rattle.nm_rank.specs.Calls.{TakesPiece}
 use Rattle.nm_process.specs.Processes.{ProcessView}
@@ -10,9 +10,10 @@ use Rattle.nm_copyring.specs.Ports as ring
 use Rattle.nm_world.specs.declared.actors.Actor.{Actor}
 use Rattle.nm_world.specs.Actors.{Grows}
 use Rattle.nm_world.specs.Actors.Grew.{pulled}
-use Rattle.nm_world.proofs.Did.{did_more, ring_missed}
+use Rattle.nm_world.proofs.Did.{did_more}
 use Rattle.nm_world.proofs.Grows.{empty_up, port_same, pulled_more, pulled_up, ring_up}
 use Rattle.nm_world.proofs.Idle.{no_piece, stepped_fresh}
+use Rattle.nm_world.proofs.Moves.{port_missed}
 use Rattle.nm_world.proofs.Results.{clash}
 use Rattle.nm_world.proofs.Steps.{pull_on, seat_is}
 use Rattle.nm_world.proofs.actors.Actor.pull_due.Goals as goal
@@ -23,12 +24,12 @@ returns g c =
     let a = c.args.self.now in
     let v = c.take_piece.new.self in
     let q = c.in-Ok.piece.value in
-    let next = c.in-Ok.ensures.next in
-    let knew = c.in-Ok.ensures.pulled in
+    let pulls = c.in-Ok.ensures.pulls in
+    let knew = pulls.knew in
     let shape = a.process.rank.sizes in
     let sender = c.requires.1.1.0 in
     let ranks = s.is.ranks.1 in
-    let own = next.0 in
+    let own = pulls.from in
     let work = c.in_ok-take_piece.ensures.work shape g.here.lines s.is.standing.work in
     let due = c.requires.1.1.1.0 in
     let taken = subst (λ (p : Piece). TakesPiece p a.process.rank v.rank) c.deref.ensures
@@ -51,18 +52,20 @@ returns g c =
     } in
     let fresh = c.requires.1.1.1.1 in
     record {
-      bound = c.pull.ensures.bound;
-      stepped = stepped_fresh true a b fresh (ap (λ (x : ProcessView). x.at) c.in_ok-take_piece.ensures.others)
-          (λ none. absurd (clash none));
-      none = λ none. absurd (clash none);
-      moved = did_more n a b grows (pulled c.args.sender (omega (arith, sender, cells, ranks))
-          (pulled_more (ring.knows a.ring) (ring.knows port) c.args.sender q low knew));
-      kept = record {
-        grows = grows;
-        seat = seat_is a v a.port.rank refl taken.sizes;
-        stands = pull_on g.here.lines g.here.fabric c.args.r.now a v port c.args.sender q s
-            c.pull.ensures.owns.0 c.pull.ensures.owns.1 sender own knew work on;
+      moves = record {
+        kept = record {
+          grows = grows;
+          seat = seat_is a v a.port.rank refl taken.sizes;
+          stands = pull_on g.here.lines g.here.fabric c.args.r.now a v port c.args.sender q s
+              c.pull.ensures.keeps sender pulls work on;
+        };
+        moved = did_more n a b grows (pulled c.args.sender (omega (arith, sender, cells, ranks))
+            (pulled_more (ring.knows a.ring) (ring.knows port) c.args.sender q low knew));
+        stepped = stepped_fresh true a b fresh (ap (λ (x : ProcessView). x.at) c.in_ok-take_piece.ensures.others)
+            (λ none. absurd (clash none));
       };
+      bound = let cost = c.in-Ok.ensures.cost.0 in omega (arith, cost);
+      none = λ none. absurd (clash none);
     }
 
 pub returns-in-Err : goal.returns-in-Err
@@ -71,16 +74,14 @@ returns-in-Err g c =
     let a = c.args.self.now in
     let sender = c.requires.1.1.0 in
     let wide = s.is.rings.1.2 in
-    let missed = c.in-Err.ensures.missed in
-    let done = ring_missed g.here.lines g.here.fabric c.args.r.now a c.pull.new.port one_empty c.args.sender s
-    c.pull.ensures.owns.0 c.pull.ensures.owns.1 (omega (arith, sender, wide)) empty_up (λ l. (refl, refl))
-    missed in
+    let missed = c.in-Err.ensures.missed.0 in
     let fresh = c.requires.1.1.1.1 in
+    let done = port_missed (record g.here { rings = c.args.r.now }) a c.pull.new.port one_empty c.args.sender fresh s
+    c.pull.ensures.keeps (omega (arith, sender, wide)) empty_up (λ l. (refl, refl))
+    missed in
     let b : Actor = record a { ring = c.pull.new.port } in
     record {
-      bound = c.pull.ensures.bound;
-      kept = done.0;
-      moved = done.1;
-      stepped = stepped_fresh false a b fresh refl (λ none. refl);
+      bound = let cost = c.in-Err.ensures.cost.1 in omega (arith, cost);
+      moves = done;
       none = λ none. no_piece a b c.args.sender (omega (arith, sender, wide)) missed;
     }

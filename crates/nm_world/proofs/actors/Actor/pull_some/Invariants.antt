@@ -7,6 +7,6 @@ ghost-pull_next g a = g.here
 
 abbrev pub invariant-loop-pulled : goal.invariant-loop-pulled
 invariant-loop-pulled g l = record {
-  looped : HasLooped g.here.fabric.ranks g.here.lines g.here.fabric l.r l.pulled l.initial.self l.self;
+  looped : HasLooped (record g.here { rings = l.r }) l.pulled l.initial.self l.self;
   bound : l.steps ≤ l.initial.steps + l.pulled * 3;
 }

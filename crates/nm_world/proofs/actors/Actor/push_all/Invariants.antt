@@ -7,6 +7,6 @@ ghost-push_next g a = g.here
 
 abbrev pub invariant-loop-pushed : goal.invariant-loop-pushed
 invariant-loop-pushed g l = record {
-  looped : HasLooped g.here.fabric.ranks g.here.lines g.here.fabric l.r l.pushed l.initial.self l.self;
+  looped : HasLooped (record g.here { rings = l.r }) l.pushed l.initial.self l.self;
   bound : l.steps ≤ l.initial.steps + l.pushed * 3;
 }

@@ -1,14 +1,15 @@
 -- The piece comes behind the others for its receiver.
-use Rattle.std.proofs.Common.{◌<◌, true, false, Option, length, ap, subst, arith, refl}
+use Rattle.std.proofs.Common.{◌<◌, true, Option, length, ap, subst, arith, refl}
 use Rattle.std.specs.Prelude.{IfSome}
 use Rattle.nm_rndv.specs.Offers.{Offered}
 use Rattle.nm_process.specs.Processes.{ProcessView}
 use Rattle.nm_copyring.specs.Ports.{full_to}
 use Rattle.nm_copyring.specs.Plays.{one_full, one_pushed}
 use Rattle.nm_copyring.specs.Ports as ring
-use Rattle.nm_world.proofs.Did.{did_more, did_same, ring_missed}
-use Rattle.nm_world.proofs.Grows.{full_up, kept_same, port_same, pushed_more, pushed_up, ring_up}
-use Rattle.nm_world.proofs.Idle.{piece_back, stepped_fresh, stepped_none}
+use Rattle.nm_world.proofs.Did.{did_more}
+use Rattle.nm_world.proofs.Grows.{full_up, port_same, pushed_more, pushed_up, ring_up}
+use Rattle.nm_world.proofs.Idle.{piece_back, stepped_fresh}
+use Rattle.nm_world.proofs.Moves.{moves_none, port_missed}
 use Rattle.nm_world.proofs.Leaves.{push_on}
 use Rattle.nm_world.proofs.Results.{clash}
 use Rattle.nm_world.proofs.Steps.{seat_is}
@@ -31,7 +32,7 @@ returns g c =
     let shape = a.process.rank.sizes in
     let within = own.0 in
     let ranks = s.is.ranks.1 in
-    let knew = c.in-Ok.ensures.pushed in
+    let knew = c.in-Ok.ensures.pushes in
     let work = p.work shape g.here.lines s.is.standing.work in
     let on = c.a_piece_leaves.ensures shape g.here.lines a.port.rank a.process.rank v.rank s.past
     (to, q) next own.1 own.2 pops s.is.standing.rank in
@@ -48,18 +49,21 @@ returns g c =
     let cells = s.is.ranks.0 in
     let fresh = c.requires.1.1 in
     record {
-      bound = c.push.ensures.bound;
-      stepped = stepped_fresh true a b fresh (ap (λ (x : ProcessView). x.at) p.others) (λ none. absurd (clash none));
-      back = λ none. absurd (clash none);
-      moved = did_more n a b grows (pushed to (omega (arith, within, cells))
-          (pushed_more (ring.knows a.ring) (ring.knows c.push.new.port) to q
-          (omega (arith, low, wide)) knew));
-      kept = record {
-        grows = grows;
-        seat = seat_is a v a.port.rank refl pops.takes.sizes;
-        stands = push_on g.here.lines g.here.fabric c.args.r.now a v c.push.new.port to
-            q _ s c.push.ensures.owns.0 c.push.ensures.owns.1 low knew work on;
+      moves = record {
+        kept = record {
+          grows = grows;
+          seat = seat_is a v a.port.rank refl pops.takes.sizes;
+          stands = push_on g.here.lines g.here.fabric c.args.r.now a v c.push.new.port to
+              q _ s c.push.ensures.keeps low knew work on;
+        };
+        moved = did_more n a b grows (pushed to (omega (arith, within, cells))
+            (pushed_more (ring.knows a.ring) (ring.knows c.push.new.port) to q
+            (omega (arith, low, wide)) knew));
+        stepped = stepped_fresh true a b fresh (ap (λ (x : ProcessView). x.at) p.others)
+            (λ none. absurd (clash none));
       };
+      bound = let cost = c.in-Ok.ensures.cost.0 in omega (arith, cost);
+      back = λ none. absurd (clash none);
     }
 
 pub returns-in_default : goal.returns-in_default
@@ -67,9 +71,7 @@ returns-in_default g c =
     let a = c.args.self.now in
     record {
       bound = omega arith;
-      kept = kept_same g.here.lines g.here.fabric c.args.r.now a c.requires.1.0;
-      moved = did_same g.here.fabric.ranks a;
-      stepped = stepped_none a;
+      moves = moves_none (record g.here { rings = c.args.r.now }) a c.requires.1.0;
       back = λ none. subst (λ (o : Option Offered). IfSome o (λ o. full_to a.ring o.to < full_to a.ring o.to))
           (rw c.rank.ensures at c.in_default.ensures.next) tt;
     }
@@ -85,15 +87,13 @@ returns-in-Err g c =
     let wide = s.is.rings.1.2 in
     let low : to < length (ring.knows a.ring).lanes = omega (arith, within, ranks, wide) in
     let knew = c.in-Err.ensures.refused.1 in
-    let done = ring_missed g.here.lines g.here.fabric c.args.r.now a c.push.new.port one_full to s
-    c.push.ensures.owns.0 c.push.ensures.owns.1 low full_up (λ l. (refl, refl)) knew in
     let fresh = c.requires.1.1 in
+    let done = port_missed (record g.here { rings = c.args.r.now }) a c.push.new.port one_full to fresh s
+    c.push.ensures.keeps low full_up (λ l. (refl, refl)) knew in
     let b : Actor = record a { ring = c.push.new.port } in
     record {
-      bound = c.push.ensures.bound;
-      kept = done.0;
-      moved = done.1;
-      stepped = stepped_fresh false a b fresh refl (λ none. refl);
+      bound = let cost = c.in-Err.ensures.cost.1 in omega (arith, cost);
+      moves = done;
       back = λ none. piece_back a b to c.front_piece.new.into
           (rw c.rank.ensures at c.in-Some.ensures.next) low knew;
     }

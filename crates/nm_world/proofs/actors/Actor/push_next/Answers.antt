@@ -7,9 +7,9 @@ use Rattle.nm_copyring.specs.Ports as ring
 use Rattle.nm_copyring.specs.Rule.{lane}
 use Rattle.nm_copyring.specs.declared.table.Entry as ring_entry
 use Rattle.nm_world.specs.declared.actors.Actor.{Actor}
-use Rattle.nm_world.proofs.Did.{did_on, did_same, ring_looked, ring_missed}
-use Rattle.nm_world.proofs.Grows.{full_up, kept_on, kept_same}
-use Rattle.nm_world.proofs.Idle.{none_back, place_full, stepped_fresh, stepped_none}
+use Rattle.nm_world.proofs.Grows.{full_up}
+use Rattle.nm_world.proofs.Idle.{none_back, place_full}
+use Rattle.nm_world.proofs.Moves.{moves_none, moves_on, port_looked, port_missed}
 use Rattle.nm_world.proofs.Results.{clash}
 use Rattle.nm_world.proofs.actors.Actor.push_next.Goals as goal
 
@@ -18,9 +18,7 @@ returns-in_default g c =
     let a = c.args.self.now in
     record {
       bound = omega arith;
-      kept = kept_same g.here.lines g.here.fabric c.args.r.now a c.requires.1;
-      moved = did_same g.here.fabric.ranks a;
-      stepped = stepped_none a;
+      moves = moves_none (record g.here { rings = c.args.r.now }) a c.requires.1;
       back = λ none fresh. none_back a (rw c.rank-rank.ensures at c.in_default.ensures.to);
     }
 
@@ -29,9 +27,7 @@ returns-then-is_worn g c =
     let a = c.args.self.now in
     record {
       bound = omega arith;
-      kept = kept_same g.here.lines g.here.fabric c.args.r.now a c.requires.1;
-      moved = did_same g.here.fabric.ranks a;
-      stepped = stepped_none a;
+      moves = moves_none (record g.here { rings = c.args.r.now }) a c.requires.1;
       back = λ none fresh. absurd (clash (sym c.if-is_worn.true
           ∙ (rw c.rank-rank.ensures at c.is_worn.ensures).1 fresh));
     }
@@ -46,41 +42,38 @@ returns-then-not-can_push g c =
     let wide = s.is.rings.1.2 in
     let low : to < length (ring.knows a.ring).lanes = omega (arith, within, ranks, wide) in
     let knew = c.can_push.ensures.full c.if-not-can_push.true in
-    let done = ring_missed g.here.lines g.here.fabric c.args.r.now a c.can_push.new.port one_full to s
-    c.can_push.ensures.owns.0 c.can_push.ensures.owns.1 low full_up (λ l. (refl, refl)) knew in
     let fresh = (rw c.rank-rank.ensures at c.is_worn.ensures).0 c.if-is_worn.false in
+    let done = port_missed (record g.here { rings = c.args.r.now }) a c.can_push.new.port one_full to fresh s
+    c.can_push.ensures.keeps low full_up (λ l. (refl, refl)) knew in
     let b : Actor = record a { ring = c.can_push.new.port } in
     record {
       bound = let cost = c.can_push.ensures.cost in omega (arith, cost);
-      kept = done.0;
-      moved = done.1;
-      stepped = stepped_fresh false a b fresh refl (λ none. refl);
+      moves = done;
       back = λ none fresh. place_full a b to (rw c.rank-rank.ensures at c.in-Some.ensures.to) low knew;
     }
 
 pub push_front-requires : goal.push_front-requires
 push_front-requires g c lifetimes outlive =
     let a = c.args.self.now in
-    let looked = ring_looked g.here.lines g.here.fabric c.args.r.now a c.can_push.new.port c.requires.1
-    c.can_push.ensures.owns.0 c.can_push.ensures.owns.1 (c.can_push.ensures.free c.if-not-can_push.false) in
-    (outlive, (looked.0.stands, (rw c.rank-rank.ensures at c.is_worn.ensures).0 c.if-is_worn.false))
+    let fresh = (rw c.rank-rank.ensures at c.is_worn.ensures).0 c.if-is_worn.false in
+    let looked = port_looked (record g.here { rings = c.args.r.now }) a c.can_push.new.port fresh c.requires.1
+    c.can_push.ensures.keeps ((c.can_push.ensures.free c.if-not-can_push.false).0) in
+    (outlive, (looked.kept.stands, fresh))
 
 pub returns : goal.returns
 returns g c =
     let a = c.args.self.now in
     let port = c.can_push.new.port in
-    let knew = c.can_push.ensures.free c.if-not-can_push.false in
-    let looked = ring_looked g.here.lines g.here.fabric c.args.r.now a port c.requires.1
-    c.can_push.ensures.owns.0 c.can_push.ensures.owns.1 knew in
+    let knew = (c.can_push.ensures.free c.if-not-can_push.false).0 in
+    let fresh = (rw c.rank-rank.ensures at c.is_worn.ensures).0 c.if-is_worn.false in
+    let looked = port_looked (record g.here { rings = c.args.r.now }) a port fresh c.requires.1
+    c.can_push.ensures.keeps knew in
     let b : Actor = record a { ring = port } in
     let d = c.push_front.new.self in
     let e = c.push_front.ensures in
-    let fresh = (rw c.rank-rank.ensures at c.is_worn.ensures).0 c.if-is_worn.false in
     record {
       bound = let cost = c.can_push.ensures.cost in let more = e.bound in omega (arith, cost, more);
-      kept = kept_on g.here.lines g.here.fabric c.args.r.now a b d looked.0 e.kept;
-      moved = did_on g.here.fabric.ranks a b d false c.push_front.result looked.0.grows e.kept.grows looked.1 e.moved;
-      stepped = stepped_fresh c.push_front.result a d fresh e.stepped.at e.stepped.still;
+      moves = moves_on (record g.here { rings = c.args.r.now }) false c.push_front.result a b d looked e.moves;
       back = λ none fresh. subst
           (λ (x : ring_entry.Entry). IfSome (next_offered a.process.rank.sending.offers)
           (λ o. (lane x o.to).full < ring.full_to d.ring o.to)) knew (e.back none);

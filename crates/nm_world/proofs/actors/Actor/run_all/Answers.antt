@@ -13,7 +13,8 @@ use Rattle.nm_world.specs.Looks.{PolledBefore}
 use Rattle.nm_world.proofs.Did.{did_same, kept_and}
 use Rattle.nm_world.proofs.Grows.{kept_same}
 use Rattle.nm_world.proofs.Looks.{looked_last, looked_more, looked_none}
-use Rattle.nm_world.proofs.Loops.{all_made, is_first, none_ran, or_swap, some_more, spent_all, spent_last, spent_more, stays_worn}
+use Rattle.nm_world.proofs.Loops.{all_made, is_first, none_ran, or_swap}
+use Rattle.nm_world.proofs.Loops.{some_more, spent_all, spent_last, spent_more, stays_worn}
 use Rattle.nm_world.proofs.Results.{clash}
 use Rattle.nm_world.proofs.actors.Actor.run_all.Goals as goal
 use Rattle.nm_types.proofs.TruthLemmas.{or_right, neither}
@@ -46,7 +47,7 @@ pub run_next-requires : goal.run_next-requires
 run_next-requires g c =
     subst (λ (x : Fabric Packet). ActorInvariant c.args.lines.now x g.here.rings c.look.new.self) c.requires.1.0
     (subst (λ (x : List Line). ActorInvariant x c.args.f.now g.here.rings c.look.new.self) (sym c.requires.1.1.1)
-    c.in_ok-looked.ensures.kept.stands)
+    c.in_ok-looked.ensures.moves.kept.stands)
 
 pub loop-ran-preserved : goal.loop-ran-preserved
 loop-ran-preserved g c =
@@ -60,8 +61,9 @@ loop-ran-preserved g c =
     let one = c.loop-ran.invariant in
     let two = c.in_ok-looked.ensures in
     let two_kept = subst (λ (x : Fabric Packet). Continues lines x r b m) c.requires.1.0
-    (subst (λ (x : List Line). Continues x c.args.f.now r b m) (sym c.requires.1.1.1) two.kept) in
-    let two_moved = subst (λ (x : Fabric Packet). c.in_ok-looked.looked ≡ did x.ranks b m) c.requires.1.0 two.moved in
+    (subst (λ (x : List Line). Continues x c.args.f.now r b m) (sym c.requires.1.1.1) two.moves.kept) in
+    let two_moved = subst (λ (x : Fabric Packet). c.in_ok-looked.looked ≡ did x.ranks b m) c.requires.1.0
+    two.moves.moved in
     let three = c.in_ok-run_next.ensures in
     let ran = three.ran c.if-not-branch.false in
     let both = kept_and f.ranks lines f r a b m (c.loop-ran.took || nat_lt 0 c.loop-ran.ran) c.in_ok-looked.looked
@@ -74,11 +76,12 @@ loop-ran-preserved g c =
           ∙ sym (or_right ((c.loop-ran.took || nat_lt 0 c.loop-ran.ran) || c.in_ok-looked.looked)
           c.in_ok-run_next.field-0 c.if-not-branch.false) ∙ all.1;
       first = λ e. absurd (omega (arith, e));
-      polled = looked_more lines f r a b m d c.requires.1.1.0 one.kept two_kept three.kept two.stepped.at one.polled
+      polled = looked_more lines f r a b m d c.requires.1.1.0 one.kept two_kept three.kept two.moves.stepped.at
+          one.polled
           two.polled ran.0 ran.1;
-      worn = λ worn. absurd (none_ran a b m one.worn two.stepped.worn worn ran.0);
-      bound = spent_more c.loop-ran.ran (c.args.f.now.ranks + 10)
-          c.args.steps.now c.loop-ran.steps c.look.new.steps one.bound two.bound;
+      worn = λ worn. absurd (none_ran a b m one.worn two.moves.stepped.worn worn ran.0);
+      bound = spent_more c.loop-ran.ran (c.args.f.now.ranks + 10) c.args.steps.now c.loop-ran.steps
+          c.look.new.steps one.bound two.bound;
     }
 
 pub returns-then-not-branch : goal.returns-then-not-branch
@@ -93,8 +96,9 @@ returns-then-not-branch g c =
     let one = c.loop-ran.invariant in
     let two = c.in_ok-looked.ensures in
     let two_kept = subst (λ (x : Fabric Packet). Continues lines x r b m) c.requires.1.0
-    (subst (λ (x : List Line). Continues x c.args.f.now r b m) (sym c.requires.1.1.1) two.kept) in
-    let two_moved = subst (λ (x : Fabric Packet). c.in_ok-looked.looked ≡ did x.ranks b m) c.requires.1.0 two.moved in
+    (subst (λ (x : List Line). Continues x c.args.f.now r b m) (sym c.requires.1.1.1) two.moves.kept) in
+    let two_moved = subst (λ (x : Fabric Packet). c.in_ok-looked.looked ≡ did x.ranks b m) c.requires.1.0
+    two.moves.moved in
     let three = c.in_ok-run_next.ensures in
     let rests = c.if-not-branch.true in
     let took = c.loop-ran.took in
@@ -106,7 +110,7 @@ returns-then-not-branch g c =
     λ none. let two_none = neither (took || looked) (nat_lt 0 c.loop-ran.ran) none in
     (one.first (is_first c.loop-ran.ran two_none.1), (neither took looked two_none.0).1) in
     let still : (took || looked) || nat_lt 0 c.loop-ran.ran ≡ false → m.process ≡ a.process =
-    λ none. two.stepped.still (before none).1 ∙ ap (λ (x : Actor). x.process) (before none).0 in
+    λ none. two.moves.stepped.still (before none).1 ∙ ap (λ (x : Actor). x.process) (before none).0 in
     record {
       kept = subst (λ (x : Actor). Continues lines f r a x) (sym same) both.0;
       moved = or_swap took looked (nat_lt 0 c.loop-ran.ran)
@@ -115,10 +119,10 @@ returns-then-not-branch g c =
       stuck = λ none fresh. subst (λ (v : ProcessView). goes_on (commands_of v.rank.me lines) v ≡ false) (still none)
           (three.stuck rests (subst (λ (v : ProcessView). IsFresh v.rank) (sym (still none)) fresh));
       polled = subst (λ (x : Actor). PolledBefore lines a x) (sym same)
-          (looked_last lines f r a b m c.requires.1.1.0 one.kept two_kept two.stepped.at one.polled);
-      worn = λ worn. same ∙ stays_worn a b m one.worn two.stepped.worn worn;
-      bound = spent_last c.loop-ran.ran 64 (c.args.f.now.ranks + 10)
-          c.args.steps.now c.loop-ran.steps c.look.new.steps
+          (looked_last lines f r a b m c.requires.1.1.0 one.kept two_kept two.moves.stepped.at one.polled);
+      worn = λ worn. same ∙ stays_worn a b m one.worn two.moves.stepped.worn worn;
+      bound = spent_last c.loop-ran.ran 64 (c.args.f.now.ranks + 10) c.args.steps.now c.loop-ran.steps
+          c.look.new.steps
           c.loop-ran-test.true one.bound two.bound;
     }
 
@@ -143,6 +147,6 @@ returns g c =
       stuck = λ none fresh. absurd (clash none);
       polled = i.polled;
       worn = i.worn;
-      bound = spent_all c.loop-ran.ran 64 (c.args.f.now.ranks + 10)
-          c.args.steps.now c.loop-ran.steps (omega arith) i.bound;
+      bound = spent_all c.loop-ran.ran 64 (c.args.f.now.ranks + 10) c.args.steps.now c.loop-ran.steps
+          (omega arith) i.bound;
     }

@@ -7,6 +7,6 @@ ghost-send_next g a = g.here
 
 abbrev pub invariant-loop-sent : goal.invariant-loop-sent
 invariant-loop-sent g l = record {
-  looped : HasLooped l.f.ranks g.here.lines l.f g.here.rings l.sent l.initial.self l.self;
+  looped : HasLooped (record g.here { fabric = l.f }) l.sent l.initial.self l.self;
   bound : l.steps ≤ l.initial.steps + l.sent * 9;
 }

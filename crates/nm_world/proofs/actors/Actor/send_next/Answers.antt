@@ -1,10 +1,10 @@
 -- The packet comes behind the others for its receiver.
-use Rattle.std.proofs.Common.{◌≡◌, ℕ, true, Option, List, sym, ap, subst, ◌∙◌, arith, refl}
+use Rattle.std.proofs.Common.{◌≡◌, ℕ, true, Option, sym, ap, subst, ◌∙◌, arith, refl}
 use Rattle.nm_types.specs.declared.packets.Packet.{Packet}
 use Rattle.nm_cells.specs.Ports.{knows}
 use Rattle.nm_port.specs.Polls.{count_held}
 use Rattle.nm_chain.specs.Items.{is_short}
-use Rattle.nm_port.specs.Sends.{HadMiss, tried}
+use Rattle.nm_port.specs.Sends.{HadMiss, SendsBy, tried}
 use Rattle.nm_global.specs.Moments.{acted}
 use Rattle.nm_sending.specs.Departures.{ended_by}
 use Rattle.nm_sending.specs.Sent.{outs}
@@ -14,15 +14,16 @@ use Rattle.nm_process.specs.Processes.{ProcessView}
 use Rattle.nm_world.specs.Idle.{NotSent}
 use Rattle.nm_global.specs.ProcessInvariant.{IsOf, with_moment, with_packet_left}
 use Rattle.nm_chain.specs.declared.table.parcels.Parcel.{Parcel}
-use Rattle.nm_chain.specs.Rule.{Load, sent_to}
+use Rattle.nm_world.specs.Parcels.{parcel_of}
 use Rattle.nm_world.specs.declared.actors.Actor.{Actor}
 use Rattle.nm_world.specs.Actors.{Grows}
 use Rattle.nm_world.specs.Actors.Grew.{sent}
-use Rattle.nm_world.proofs.Did.{did_more, did_none, did_same}
-use Rattle.nm_world.proofs.Entries.{entry_on, miss_up, sent_by_way, sent_more, tried_up}
-use Rattle.nm_world.proofs.Grows.{grows_same, kept_same, port_by, ring_same}
-use Rattle.nm_world.proofs.Idle.{came_back, stepped_fresh, stepped_none}
-use Rattle.nm_world.proofs.Leaves.{send_carries, send_on}
+use Rattle.nm_world.proofs.Did.{did_more, did_none}
+use Rattle.nm_world.proofs.Entries.{entry_on, miss_up, sends_up, sent_more, tried_up}
+use Rattle.nm_world.proofs.Grows.{grows_same, port_by, ring_same}
+use Rattle.nm_world.proofs.Idle.{came_back, stepped_fresh}
+use Rattle.nm_world.proofs.Moves.{moves_none}
+use Rattle.nm_world.proofs.Leaves.{send_on}
 use Rattle.nm_world.proofs.Results.{clash, none_first}
 use Rattle.nm_world.proofs.Steps.{back_got, back_sent, nothing_carried, seat_is}
 use Rattle.nm_world.proofs.actors.Actor.send_next.Goals as goal
@@ -33,9 +34,7 @@ returns-then-is_worn g c =
     let a = c.args.self.now in
     record {
       bound = omega arith;
-      kept = kept_same g.here.lines c.args.f.now g.here.rings a c.requires.1;
-      moved = did_same c.args.f.now.ranks a;
-      stepped = stepped_none a;
+      moves = moves_none (record g.here { fabric = c.args.f.now }) a c.requires.1;
       back = λ none fresh. absurd
           (clash (sym c.if-is_worn.true ∙ (rw c.rank-rank.ensures at c.is_worn.ensures).1 fresh));
     }
@@ -45,9 +44,7 @@ returns-in_default g c =
     let a = c.args.self.now in
     record {
       bound = omega arith;
-      kept = kept_same g.here.lines c.args.f.now g.here.rings a c.requires.1;
-      moved = did_same c.args.f.now.ranks a;
-      stepped = stepped_none a;
+      moves = moves_none (record g.here { fabric = c.args.f.now }) a c.requires.1;
       back = λ none fresh. none_first (slice_get a.process.rank.sending.outbox.letters 0) _
           (NotSent a.port a.port) (rw c.rank-rank.ensures at c.in_default.ensures.first);
     }
@@ -75,7 +72,7 @@ returns-in-Err g c =
     let to = c.in-Some.to in
     let miss = subst (λ (x : Parcel Packet). HadMiss false
     (tried (is_short (length x.item.payload)) to (knows a.port)) (knows port)) c.in_ok-parcel.ensures
-    c.in-Err.ensures.back.2 in
+    c.in-Err.ensures.back.1.miss in
     let n = c.args.f.now.ranks in
     let fresh = (rw c.rank-rank.ensures at c.is_worn.ensures).0 c.if-is_worn.false in
     let letters = a.process.rank.sending.outbox.letters in
@@ -87,30 +84,28 @@ returns-in-Err g c =
     let wide = s.is.cells.2 in
     let there = first.2 in
     record {
-      stepped = stepped_fresh false a (record a { port = port }) fresh refl (λ none. refl);
+      moves = record {
+        kept = record {
+          grows = record {
+            events = (grows_same a).events;
+            ring = ring_same a.ring;
+            port = port_by a.port port (entry_on (knows a.port) (tried fits to (knows a.port)) (knows port)
+                (tried_up fits to (knows a.port)) (miss_up false (tried fits to (knows a.port)) (knows port) miss))
+                e.taken.0;
+          };
+          seat = seat_is a a.process port.rank e.keeps.rank refl;
+          stands = nothing_carried g.here.lines c.args.f.now g.here.rings a port s e.keeps
+              (e.taken.2 ∙ s.is.rest ∙ ap count_held (sym e.taken.1)) e.taken.0
+              (back_sent fits to (knows a.port) (knows port) miss)
+              (back_got fits to (knows a.port) (knows port) miss);
+        };
+        moved = did_none n a (record a { port = port }) refl
+            (λ j. ap (λ (t : ℕ → ℕ). t j) c.in-Err.ensures.back.1.sent) e.taken.0 (λ j. (refl, refl));
+        stepped = stepped_fresh false a (record a { port = port }) fresh refl (λ none. refl);
+      };
       back = λ none fresh. subst (λ (o : Option Letter). IfSome o (NotSent a.port port)) (sym first.1)
           (came_back a.port port first.0 len (ap (λ (x : Packet). length x.payload) first.3) (omega (arith, within, ranks, wide, there))
           (subst (λ (k : ℕ). HadMiss false (tried fits k (knows a.port)) (knows port)) first.2 miss));
-      moved = did_none n a (record a { port = port }) refl
-          (λ j. ap (λ (xs : List (ℕ × Load Packet)). sent_to j xs (knows port).put)
-          (back_sent fits to (knows a.port) (knows port) miss).box
-          ∙ ap (λ (xs : List (ℕ × Load Packet)). sent_to j (knows a.port).put_box xs)
-          (back_sent fits to (knows a.port) (knows port) miss).cell)
-          e.taken.0 (λ j. (refl, refl));
-      kept = record {
-        grows = record {
-          events = (grows_same a).events;
-          ring = ring_same a.ring;
-          port = port_by a.port port (entry_on (knows a.port) (tried fits to (knows a.port)) (knows port)
-              (tried_up fits to (knows a.port)) (miss_up false (tried fits to (knows a.port)) (knows port) miss))
-              e.taken.0;
-        };
-        seat = seat_is a a.process port.rank e.owns.1 refl;
-        stands = nothing_carried g.here.lines c.args.f.now g.here.rings a port s e.owns.0 e.owns.1
-            (e.taken.2 ∙ s.is.rest ∙ ap count_held (sym e.taken.1)) e.hands.0 e.taken.0
-            (back_sent fits to (knows a.port) (knows port) miss)
-            (back_got fits to (knows a.port) (knows port) miss);
-      };
       bound = e.bound;
     }
 
@@ -131,8 +126,10 @@ returns g c =
     let first = first_letter (slice_get letters 0) _ to c.in-Some.packet.now (λ none. cc)
     (rw c.rank-rank.ensures at c.in-Some.ensures.first) in
     let copied : packet ≡ first.0.packet = first.3 in
-    let way = sent_by_way c.in-Ok.sent.path to packet c.in_ok-parcel.parcel.value c.in_ok-parcel.ensures (knows a.port) (knows port)
-    (λ is. (c.in-Ok.ensures.by_box is).1) c.in-Ok.ensures.by_cell in
+    let way = c.in-Ok.sent.path in
+    let fits = is_short (length packet.payload) in
+    let sends = subst (λ (x : Parcel Packet). SendsBy way (is_short (length x.item.payload)) to x a.port port)
+    c.in_ok-parcel.ensures c.in-Ok.ensures.sends in
     let within = own.0 in
     let left = s.is.standing.rank.left to within in
     let number = own.2 ∙ sym left.packets.popped
@@ -152,21 +149,23 @@ returns g c =
     let b : Actor = record { process = v; port = port; ring = a.ring; places = tt } in
     let grows : Grows a b = record {
       events = (_, pops.left.events);
-      port = port_by a.port port way.1 e.taken.0;
+      port = port_by a.port port (sends_up fits to (parcel_of packet) a.port port way sends) e.taken.0;
       ring = ring_same a.ring;
     } in
     let fresh = (rw c.rank-rank.ensures at c.is_worn.ensures).0 c.if-is_worn.false in
     record {
-      stepped = stepped_fresh true a b fresh (ap (λ (x : ProcessView). x.at) p.others) (λ none. absurd (clash none));
-      back = λ none fresh. absurd (clash none);
-      moved = did_more n a b grows
-          (sent to (omega (arith, within, ranks)) (sent_more (knows a.port) (knows port) to packet way.0));
-      kept = record {
-        grows = grows;
-        seat = seat_is a v port.rank e.owns.1 pops.takes.sizes;
-        stands = send_on (send_carries c.a_send_carries.ensures.by_box c.a_send_carries.ensures.by_cell)
-            g.here.lines c.args.f.now g.here.rings a v port to packet _ s e.owns.0 e.owns.1 e.taken
-            e.hands.0 way.0 number work here;
+      moves = record {
+        kept = record {
+          grows = grows;
+          seat = seat_is a v port.rank e.keeps.rank pops.takes.sizes;
+          stands = send_on c.a_send_carries.ensures.some g.here.lines c.args.f.now g.here.rings a v port way
+              fits to packet _ s e.keeps e.taken sends number work here;
+        };
+        moved = did_more n a b grows
+            (sent to (omega (arith, within, ranks)) (sent_more fits to (parcel_of packet) a.port port way sends));
+        stepped = stepped_fresh true a b fresh (ap (λ (x : ProcessView). x.at) p.others)
+            (λ none. absurd (clash none));
       };
+      back = λ none fresh. absurd (clash none);
       bound = e.bound;
     }

@@ -1,16 +1,17 @@
 -- Each step goes on from the one before.
-use Rattle.std.proofs.Common.{◌+◌, Bool, subst, sym, ◌∙◌, arith, inl}
+use Rattle.std.proofs.Common.{◌+◌, Bool, subst, sym, arith, inl}
 use Rattle.nm_rank.specs.Ranks.{IsFresh}
 use Rattle.nm_world.specs.declared.actors.Actor.{Actor}
-use Rattle.nm_world.specs.Idle.{GaveNone, Stepped}
+use Rattle.nm_world.specs.Idle.{GaveNone, Moves}
 use Rattle.nm_world.proofs.Looks.{polled_by_step, polled_last}
-use Rattle.nm_world.proofs.Loops.{all_made, loop_last, loop_more, loop_none, some_made, spent_all, spent_last, spent_more}
+use Rattle.nm_world.proofs.Loops.{all_made, loop_last, loop_more, loop_none}
+use Rattle.nm_world.proofs.Loops.{some_made, spent_all, spent_last, spent_more}
 use Rattle.nm_world.proofs.Results.{clash}
 use Rattle.nm_world.proofs.actors.Actor.take_all.Goals as goal
 
 pub loop-took-init : goal.loop-took-init
 loop-took-init g c = record {
-  looped = loop_none c.args.f.now.ranks g.here.lines c.args.f.now g.here.rings c.args.self.now c.requires.1;
+  looped = loop_none (record g.here { fabric = c.args.f.now }) c.args.self.now c.requires.1;
   polled = λ some. absurd (omega (arith, some));
   bound = omega arith;
 }
@@ -21,15 +22,13 @@ loop-took-preserved g c =
     let a = c.args.self.now in
     let b = c.loop-took.self in
     let d = c.take_next.new.self in
-    let looped = loop_more c.args.f.now.ranks g.here.lines c.args.f.now g.here.rings c.args.self.now c.loop-took.took
-    c.loop-took.self
-    c.take_next.new.self c.in_ok-take_next.field-0 c.if-not-branch.false c.loop-took.invariant.looped e.kept e.moved
-    e.stepped in
+    let looped = loop_more (record g.here { fabric = c.args.f.now }) c.args.self.now c.loop-took.took c.loop-took.self
+    c.take_next.new.self c.in_ok-take_next.field-0 c.if-not-branch.false
+    c.loop-took.invariant.looped e.moves in
     record {
       looped = looped;
-      polled = λ some. polled_by_step g.here.lines c.args.f.now g.here.rings c.args.f.now.ranks a b d
-          c.in_ok-take_next.field-0 c.loop-took.invariant.looped.kept
-          c.if-not-branch.false e.moved e.polled;
+      polled = λ some. polled_by_step (record g.here { fabric = c.args.f.now }) a b d
+          c.in_ok-take_next.field-0 c.loop-took.invariant.looped.moves.kept c.if-not-branch.false e.moves e.polled;
       bound = spent_more c.loop-took.took (c.args.f.now.ranks + 10) c.args.steps.now c.loop-took.steps
           c.take_next.new.steps c.loop-took.invariant.bound e.bound;
     }
@@ -40,18 +39,15 @@ returns-then-not-branch g c =
     let a = c.args.self.now in
     let b = c.loop-took.self in
     let d = c.take_next.new.self in
-    let done = loop_last c.args.f.now.ranks g.here.lines c.args.f.now g.here.rings a c.loop-took.took b d
-    c.in_ok-take_next.field-0
-    c.if-not-branch.true c.loop-took.invariant.looped e.kept e.moved e.stepped in
+    let done = loop_last (record g.here { fabric = c.args.f.now }) a c.loop-took.took b d
+    c.in_ok-take_next.field-0 c.if-not-branch.true c.loop-took.invariant.looped e.moves in
     record {
-      kept = done.kept;
-      moved = done.moved;
-      stepped = done.stepped;
+      moves = done.moves;
       none = λ none fresh. let same = done.sole none in
           subst (λ (x : Actor). GaveNone x.process.rank.sizes.ranks x.port d.port) same
           (e.none c.if-not-branch.true (subst (λ (x : Actor). IsFresh x.process.rank) (sym same) fresh));
-      polled = polled_last g.here.lines c.args.f.now g.here.rings c.args.f.now.ranks c.loop-took.took a b d
-          c.loop-took.invariant.looped c.loop-took.invariant.polled e.kept.grows e.polled;
+      polled = polled_last (record g.here { fabric = c.args.f.now }) c.loop-took.took a b d
+          c.loop-took.invariant.looped c.loop-took.invariant.polled e.moves.kept.grows e.polled;
       bound = spent_last c.loop-took.took 64 (c.args.f.now.ranks + 10) c.args.steps.now c.loop-took.steps
           c.take_next.new.steps c.loop-took-test.true c.loop-took.invariant.bound e.bound;
     }
@@ -66,9 +62,8 @@ returns g c =
     let i = c.loop-took.invariant.looped in
     let some = all_made c.loop-took.took 64 c.loop-took-test.false (omega arith) in
     record {
-      kept = i.kept;
-      moved = sym some ∙ i.moved;
-      stepped = subst (λ (p : Bool). Stepped p c.args.self.now c.loop-took.self) some i.stepped;
+      moves = subst (λ (p : Bool). Moves (record g.here { fabric = c.args.f.now }) p c.args.self.now
+          c.loop-took.self) some i.moves;
       none = λ none fresh. absurd (clash none);
       polled = inl (c.loop-took.invariant.polled (some_made c.loop-took.took 64 c.loop-took-test.false (omega arith)));
       bound = spent_all c.loop-took.took 64 (c.args.f.now.ranks + 10) c.args.steps.now c.loop-took.steps (omega arith)

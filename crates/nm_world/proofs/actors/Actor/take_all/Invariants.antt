@@ -8,7 +8,7 @@ ghost-take_next g a = g.here
 
 abbrev pub invariant-loop-took : goal.invariant-loop-took
 invariant-loop-took g l = record {
-  looped : HasLooped l.f.ranks g.here.lines l.f g.here.rings l.took l.initial.self l.self;
+  looped : HasLooped (record g.here { fabric = l.f }) l.took l.initial.self l.self;
   polled : 0 < l.took →
       Polled l.initial.self.process.rank.sizes.ranks 1 l.initial.self.port l.self.port;
   bound : l.steps ≤ l.initial.steps + l.took * (l.f.ranks + 10);

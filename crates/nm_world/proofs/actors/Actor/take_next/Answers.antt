@@ -13,11 +13,12 @@ use Rattle.nm_world.specs.Parcels.{packet_of}
 use Rattle.nm_world.specs.declared.actors.Actor.{Actor}
 use Rattle.nm_world.specs.Actors.{Grows, PortGrows}
 use Rattle.nm_world.specs.Actors.Grew.{taken}
-use Rattle.nm_world.proofs.Did.{did_more, did_none, did_same}
+use Rattle.nm_world.proofs.Did.{did_more, did_none}
 use Rattle.nm_world.proofs.Entries.{all_missed_up, entry_on, miss_up, polled_up}
-use Rattle.nm_world.proofs.Grows.{grows_same, kept_same, port_by, port_took, ring_same}
-use Rattle.nm_world.proofs.Idle.{gave_none, stepped_fresh, stepped_none}
+use Rattle.nm_world.proofs.Grows.{grows_same, port_by, port_took, ring_same}
+use Rattle.nm_world.proofs.Idle.{gave_none, stepped_fresh}
 use Rattle.nm_world.proofs.Looks.{polled_miss, polled_some}
+use Rattle.nm_world.proofs.Moves.{moves_none}
 use Rattle.nm_world.proofs.Results.{clash}
 use Rattle.nm_world.proofs.Steps.{none_got, none_sent, nothing_carried, seat_is, take_on}
 use Rattle.nm_types.specs.declared.packets.Packet.{Packet}
@@ -31,9 +32,7 @@ returns-then-is_worn g c =
     (sym c.if-is_worn.true ∙ (rw c.rank-rank.ensures at c.is_worn.ensures).1 fresh) in
     record {
       bound = omega arith;
-      kept = kept_same g.here.lines c.args.f.now g.here.rings a c.requires.1;
-      moved = did_same c.args.f.now.ranks a;
-      stepped = stepped_none a;
+      moves = moves_none (record g.here { fabric = c.args.f.now }) a c.requires.1;
       none = λ none fresh. absurd (not fresh);
       polled = inr (not, refl);
     }
@@ -41,33 +40,35 @@ returns-then-is_worn g c =
 pub returns-in-Err : goal.returns-in-Err
 returns-in-Err g c =
     let n = c.args.f.now.ranks in
-    let gave_back = c.in-Err.ensures.none in
+    let gave_back = c.in-Err.ensures.none.1 in
     let s = c.requires.1 in
     let a = c.args.self.now in
     let port = c.poll.new.port in
     let b : Actor = record a { port = port } in
-    let sent = none_sent (knows a.port) (knows port) gave_back.3 in
+    let sent = none_sent (knows a.port) (knows port) gave_back.miss in
     let fresh = (rw c.rank-rank.ensures at c.is_worn.ensures).0 c.if-is_worn.false in
-    let gave = gave_none a.process.rank.sizes.ranks a.port port (s.is.cells.2 ∙ s.is.ranks.0) gave_back.3 in
+    let gave = gave_none a.process.rank.sizes.ranks a.port port (s.is.cells.2 ∙ s.is.ranks.0) gave_back.miss in
     let grows : PortGrows a.port port = port_by a.port port (entry_on (knows a.port)
     (with_all_missed (knows a.port)) (knows port) (all_missed_up (knows a.port))
-    (miss_up true (with_all_missed (knows a.port)) (knows port) gave_back.3)) gave_back.4 in
+    (miss_up true (with_all_missed (knows a.port)) (knows port) gave_back.miss)) gave_back.taken in
     record {
+      moves = record {
+        kept = record {
+          grows = record { events = (grows_same a).events; ring = ring_same a.ring; port = grows };
+          seat = seat_is a a.process port.rank c.poll.ensures.keeps.rank refl;
+          stands = nothing_carried g.here.lines c.args.f.now g.here.rings a port s c.poll.ensures.keeps
+              c.poll.ensures.rest gave_back.taken sent
+              (none_got (knows a.port) (knows port) gave_back.miss);
+        };
+        moved = did_none n a b refl
+            (λ j. ap (λ (xs : List (ℕ × Load Packet)). sent_to j xs (knows port).put) sent.box
+            ∙ ap (λ (xs : List (ℕ × Load Packet)). sent_to j (knows a.port).put_box xs) sent.cell)
+            gave_back.taken (λ j. (refl, refl));
+        stepped = stepped_fresh false a b fresh refl (λ none. refl);
+      };
       bound = c.poll.ensures.bound;
-      stepped = stepped_fresh false a b fresh refl (λ none. refl);
       none = λ none fresh. gave;
       polled = inl (polled_miss a.process.rank.sizes.ranks a.port port grows gave.queue);
-      moved = did_none n a b refl
-          (λ j. ap (λ (xs : List (ℕ × Load Packet)). sent_to j xs (knows port).put) sent.box
-          ∙ ap (λ (xs : List (ℕ × Load Packet)). sent_to j (knows a.port).put_box xs) sent.cell)
-          gave_back.4 (λ j. (refl, refl));
-      kept = record {
-        grows = record { events = (grows_same a).events; ring = ring_same a.ring; port = grows };
-        seat = seat_is a a.process port.rank c.poll.ensures.owns.1 refl;
-        stands = nothing_carried g.here.lines c.args.f.now g.here.rings a port s c.poll.ensures.owns.0
-            c.poll.ensures.owns.1 c.poll.ensures.rest c.poll.ensures.hands.0 gave_back.4 sent
-            (none_got (knows a.port) (knows port) gave_back.3);
-      };
     }
 
 pub take_packet-requires-clause-sender : goal.take_packet-requires-clause-sender
@@ -75,7 +76,8 @@ take_packet-requires-clause-sender g c =
     let ranks = c.args.self.now.process.rank.sizes.ranks in
     let letter_is = ap (λ (z : Parcel Packet). z.item) c.deref.ensures ∙ c.restore_header.ensures
     ∙ ap packet_of c.deref_mut.ensures.value in
-    let low : c.in-Ok.letter.value.from < ranks = omega (arith, c.in-Ok.ensures.next.0.sender, c.requires.1.is.ranks.0) in
+    let low : c.in-Ok.letter.value.from < ranks = omega
+    (arith, c.in-Ok.ensures.polls.next.sender, c.requires.1.is.ranks.0) in
     subst (λ (z : Packet). z.from < ranks) (sym letter_is) low
 
 pub take_packet-requires-clause-number : goal.take_packet-requires-clause-number
@@ -83,7 +85,7 @@ take_packet-requires-clause-number g c =
     let s = c.requires.1 in
     let v = c.args.self.now.process.rank in
     let x = c.in-Ok.letter.value in
-    let next = c.in-Ok.ensures.next.0 in
+    let next = c.in-Ok.ensures.polls.next in
     let letter_is = ap (λ (z : Parcel Packet). z.item) c.deref.ensures ∙ c.restore_header.ensures
     ∙ ap packet_of c.deref_mut.ensures.value in
     let low : x.from < v.sizes.ranks = omega (arith, next.sender, s.is.ranks.0) in
@@ -97,10 +99,9 @@ returns g c =
     let v = c.take_packet.new.self in
     let x = c.in-Ok.letter.value in
     let p = packet_of x in
-    let came = c.in-Ok.ensures in
-    let next = came.next in
-    let way = came.way.0 in
-    let sender = next.0.sender in
+    let polls = c.in-Ok.ensures.polls in
+    let next = polls.next in
+    let sender = next.sender in
     let ranks = s.is.ranks.0 in
     let letter_is = ap (λ (z : Parcel Packet). z.item) c.deref.ensures ∙ c.restore_header.ensures
     ∙ ap packet_of c.deref_mut.ensures.value in
@@ -118,26 +119,27 @@ returns g c =
     let grows : Grows a b = record {
       events = (_, (took.happened (λ s. [])).events);
       port = port_took a.port port p.from
-          (polled_up (knows a.port) (knows port) came.way.1 c.poll.ensures.later) next.0.taken;
+          (polled_up (knows a.port) (knows port) polls.same polls.later) next.taken;
       ring = ring_same a.ring;
     } in
-    let more = ap (λ (t : ℕ → ℕ). t p.from) next.0.taken
+    let more = ap (λ (t : ℕ → ℕ). t p.from) next.taken
     ∙ update_here (taken_by a.port) p.from (taken_by a.port p.from + 1) p.from refl in
     let fresh = (rw c.rank-rank.ensures at c.is_worn.ensures).0 c.if-is_worn.false in
     let up : taken_by a.port p.from < taken_by port p.from = omega (arith, more) in
     record {
+      moves = record {
+        kept = record {
+          grows = grows;
+          seat = seat_is a v port.rank c.poll.ensures.keeps.rank took.sizes;
+          stands = take_on c.a_poll_carries.ensures.some g.here.lines c.args.f.now g.here.rings a v port x s
+              c.poll.ensures.keeps c.poll.ensures.rest polls work on;
+        };
+        moved = did_more n a b grows (taken p.from sender up);
+        stepped = stepped_fresh true a b fresh (ap (λ (x : ProcessView). x.at) c.in_ok-take_packet.ensures.others)
+            (λ none. absurd (clash none));
+      };
       bound = c.poll.ensures.bound;
-      stepped = stepped_fresh true a b fresh (ap (λ (x : ProcessView). x.at) c.in_ok-take_packet.ensures.others)
-          (λ none. absurd (clash none));
       none = λ none fresh. absurd (clash none);
       polled = inl (polled_some a.process.rank.sizes.ranks p.from a.port port grows.port
           (omega (arith, sender, ranks)) up);
-      moved = did_more n a b grows (taken p.from sender up);
-      kept = record {
-        grows = grows;
-        seat = seat_is a v port.rank c.poll.ensures.owns.1 took.sizes;
-        stands = take_on c.a_poll_carries.ensures.some g.here.lines c.args.f.now g.here.rings
-            a v port x s c.poll.ensures.owns.0 c.poll.ensures.owns.1
-            c.poll.ensures.rest c.poll.ensures.hands.0 next.0 next.1 way came.way.1 work on;
-      };
     }
