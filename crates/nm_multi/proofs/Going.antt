@@ -5,6 +5,8 @@ use Rattle.std.specs.List.{cons_option}
 use Rattle.std.proofs.lemmas.List.Elements.{filter_map-append}
 use Rattle.nm_types.specs.declared.answers.Answer.{Answer}
 use Rattle.nm_types.specs.declared.lists.Memory.{Memory}
+use Rattle.nm_types.specs.declared.messages.Peer.TheVariants as peer
+use Rattle.nm_types.specs.declared.messages.TagPick.TheVariants as pick
 use Rattle.nm_types.specs.declared.scripts.Body.{Body}
 use Rattle.nm_types.specs.Sizes.{Sizes}
 use Rattle.nm_request.specs.declared.Req.{Req}
@@ -13,13 +15,14 @@ use Rattle.nm_rank.specs.Calls.{TakesNone}
 use Rattle.nm_rank.specs.Pops.{PopsPacket}
 use Rattle.nm_rank.specs.Ranks.{IsFresh, RankView, count_of}
 use Rattle.nm_rank.specs.Requests.{Finishes}
+use Rattle.nm_rank.specs.Steps.{Cancels, StartsReceive, StartsSend}
 use Rattle.nm_multi.specs.declared.calls.Call.{Call}
 use Rattle.nm_multi.specs.declared.calls.Call.TheVariants as call
 use Rattle.nm_multi.specs.declared.calls.Entry.{Entry}
 use Rattle.nm_multi.specs.declared.calls.Reply.{Reply}
 use Rattle.nm_multi.specs.declared.calls.Reply.TheVariants as reply
-use Rattle.nm_multi.specs.Acts.{Acts, AreReplayed, Cancels, GoesOn, IsReplay, Leads, MovesAll, MovesSome}
-use Rattle.nm_multi.specs.Acts.{ShowsBody, StartsReceive, StartsSend, bodies_of, body_sent}
+use Rattle.nm_multi.specs.Acts.{Acts, AreReplayed, GoesOn, IsReplay, Leads, MovesAll, MovesSome}
+use Rattle.nm_multi.specs.Acts.{ShowsBody, bodies_of, body_sent, sent_by}
 use Rattle.nm_multi.specs.Moves.{IsAlone, MovesFirst, MovesMany}
 use Rattle.nm_multi.specs.Standing.{DeskInvariant}
 use Rattle.nm_multi.proofs.Alone.{moved_one}
@@ -29,10 +32,10 @@ use Rattle.std.specs.Prelude.{IfOk, OnErr, Ok, Err, Result}
 -- what is shown of each call with each reply that it can have
 pub record Cases (P : Call → Reply → RankView → RankView → Type 0) : Type 0 where
   pub sends :
-      (tag : ℕ) (body : Body) (r : Req) (old new : RankView) → StartsSend tag body r old new →
+      (tag : ℕ) (body : Body) (r : Req) (old new : RankView) → StartsSend (sent_by old tag body) body r old new →
       P (call.Isend tag body) (reply.Started r) old new
   pub receives :
-      (tag cap : ℕ) (r : Req) (old new : RankView) → StartsReceive tag cap r old new →
+      (tag cap : ℕ) (r : Req) (old new : RankView) → StartsReceive (peer.One 0) (pick.One tag) 0 cap 0 r old new →
       P (call.Irecv tag cap) (reply.Started r) old new
   pub moves :
       (k : ℕ) (old new : RankView) → MovesAll k old new → P call.Pump (reply.Moved k) old new

@@ -2,30 +2,23 @@
 use Rattle.std.specs.Prelude.{◌≡◌, ℕ, ◌<◌, ◌≤◌, ◌⊎◌, Bool, true, false, if◌then◌else◌}
 use Rattle.std.specs.Prelude.{Option, None, Some, filter_map, slice_get}
 use Rattle.std.specs.Prelude.{IsSomeAnd, List, [], ◌∷◌, ◌++◌, length}
-use Rattle.nm_types.specs.declared.answers.Answer.{Answer}
 use Rattle.nm_types.specs.declared.answers.Answer.TheVariants.{Got}
 use Rattle.nm_types.specs.declared.messages.Peer.TheVariants as peer
 use Rattle.nm_types.specs.declared.messages.TagPick.TheVariants as pick
 use Rattle.nm_types.specs.declared.scripts.Body.{Body}
 use Rattle.nm_types.specs.Bodies.{bytes_of}
 use Rattle.nm_types.specs.Sizes.{Sizes}
-use Rattle.nm_history.specs.declared.events.Happened.TheVariants as event
 use Rattle.nm_history.specs.Completion.{is_complete}
-use Rattle.nm_history.specs.Matching.{first_message, matched_pairs}
-use Rattle.nm_history.specs.Sends.{Sent, receives}
+use Rattle.nm_history.specs.Sends.{Sent}
 use Rattle.nm_request.specs.declared.Kind.{Kind}
-use Rattle.nm_request.specs.declared.Kind.TheVariants as kind
-use Rattle.nm_request.specs.declared.Req.{Req}
 use Rattle.nm_request.specs.Requests.{kind_of}
-use Rattle.nm_receiving.specs.Receipts.{taken_events}
-use Rattle.nm_rank.specs.declared.answers.Cancelled.{Cancelled}
 use Rattle.nm_rank.specs.declared.answers.State.{State}
 use Rattle.nm_rank.specs.declared.answers.State.TheVariants as state
-use Rattle.nm_rank.specs.Calls.{Happens, Starts, TakesNone}
 use Rattle.nm_rank.specs.New.{IsNew}
 use Rattle.nm_rank.specs.Ranks.{IsFresh, RankView, request_of}
-use Rattle.nm_rank.specs.Requests.{Finishes, cancel_answer, cancel_events, offers_cancelled, pair_with}
-use Rattle.nm_rank.specs.Sends.{event_of, next_send, offers_sent}
+use Rattle.nm_rank.specs.Requests.{Finishes, pair_with}
+use Rattle.nm_rank.specs.Sends.{next_send}
+use Rattle.nm_rank.specs.Steps.{Cancels, StartsReceive, StartsSend}
 use Rattle.nm_multi.specs.declared.calls.Call.{Call}
 use Rattle.nm_multi.specs.declared.calls.Call.TheVariants as call
 use Rattle.nm_multi.specs.declared.calls.Entry.{Entry}
@@ -37,44 +30,6 @@ use Rattle.nm_multi.specs.Standing.{DeskInvariant}
 -- the send to itself that a rank starts with this tag and this body
 abbrev pub sent_by : RankView → ℕ → Body → Sent
 sent_by v tag body = next_send v 0 tag 0 body false 0
-
--- A send of this tag and this body to the rank itself is started, as the next one.
-pub record StartsSend (tag : ℕ) (body : Body) (r : Req) (old new : RankView) : Type 0 where
-  pub started :
-      let s = sent_by old tag body in
-      (bodies : Sent → List ℕ) → bodies s ≡ bytes_of body →
-      Starts bodies (event_of s ∷ []) (kind.Send 0 s.n) old new r
-  pub offers : new.sending.offers ≡ offers_sent old.sending.offers (sent_by old tag body) body
-
--- A receive of this tag from the rank itself is started, as the next one.
-pub record StartsReceive (tag cap : ℕ) (r : Req) (old new : RankView) : Type 0 where
-  pub started :
-      let number = length (receives old.events) in
-      let h = old.events in
-      (bodies : Sent → List ℕ) →
-      Starts bodies
-      (event.Post
-      (record {
-        number = number;
-        from = peer.One 0;
-        tag = pick.One tag;
-        ctx = 0;
-        cap = cap;
-      }) 0
-      ∷ taken_events (first_message h (matched_pairs h) (peer.One 0) (pick.One tag) 0))
-      (kind.Receive number) old new r
-  pub offers : new.sending.offers ≡ old.sending.offers
-
--- A request is cancelled, as far as it can be.
-pub record Cancels (r : Req) (answer : Cancelled) (old new : RankView) : Type 0 where
-  pub kind : Kind
-  pub live : kind_of old.requests r ≡ Some kind
-  pub answered : answer ≡ cancel_answer old.events kind
-  pub happened :
-      (bodies : Sent → List ℕ) → Happens bodies old.clock (cancel_events old.events kind) old new
-  pub offers : new.sending.offers ≡ offers_cancelled old.events kind old.sending.offers
-  pub takes : TakesNone old new
-  pub requests : new.requests ≡ old.requests
 
 -- so many packets were moved: all that there were, or those until the rank could go on no more
 abbrev pub MovesAll : ℕ → RankView → RankView → Type 0
@@ -93,8 +48,9 @@ state_of v k =
 
 -- a call of a rank that can go on has this reply, and makes the rank so
 abbrev pub GoesOn : Call → Reply → RankView → RankView → Type 0
-GoesOn (call.Isend tag body) (reply.Started r) old new = StartsSend tag body r old new
-GoesOn (call.Irecv tag cap) (reply.Started r) old new = StartsReceive tag cap r old new
+GoesOn (call.Isend tag body) (reply.Started r) old new = StartsSend (sent_by old tag body) body r old new
+GoesOn (call.Irecv tag cap) (reply.Started r) old new =
+    StartsReceive (peer.One 0) (pick.One tag) 0 cap 0 r old new
 GoesOn call.Pump (reply.Moved k) old new = MovesAll k old new
 GoesOn call.Pump (reply.Short k) old new = MovesSome k old new
 GoesOn (call.Test r) (reply.Is s) old new =

@@ -5,6 +5,8 @@
 ghost use Rattle.std.specs.Prelude.{◌≡◌, ℕ, List, [], ◌∷◌, ◌++◌};
 ghost use Rattle.std.specs.List.{cons_option};
 ghost use Rattle.nm_types.specs.declared.answers.Answer.{Answer};
+ghost use Rattle.nm_types.specs.declared.messages.Peer.TheVariants.{One};
+ghost use Rattle.nm_types.specs.declared.messages.TagPick.TheVariants.{One as TagOne};
 ghost use Rattle.nm_types.specs.declared.scripts.Body.{Body};
 ghost use Rattle.nm_types.specs.Sizes.{Sizes};
 ghost use Rattle.nm_history.specs.Rules.{AreRight};
@@ -13,12 +15,12 @@ ghost use Rattle.nm_rank.specs.declared.answers.Cancelled.{Cancelled};
 ghost use Rattle.nm_rank.specs.New.{IsNew};
 ghost use Rattle.nm_rank.specs.Ranks.{IsFresh, RankView};
 ghost use Rattle.nm_rank.specs.Requests.{Finishes};
+ghost use Rattle.nm_rank.specs.Steps.{Cancels, StartsReceive, StartsSend};
 ghost use Rattle.nm_multi.specs.declared.calls.Call.{Call};
 ghost use Rattle.nm_multi.specs.declared.calls.Call.TheVariants.{Finish, Isend};
 ghost use Rattle.nm_multi.specs.declared.calls.Reply.{Reply};
 ghost use Rattle.nm_multi.specs.declared.calls.Reply.TheVariants.{Ended};
-ghost use Rattle.nm_multi.specs.Acts.{Acts, Cancels, ShowsBody, StartsReceive};
-ghost use Rattle.nm_multi.specs.Acts.{StartsSend, body_sent};
+ghost use Rattle.nm_multi.specs.Acts.{Acts, ShowsBody, body_sent, sent_by};
 ghost use Rattle.nm_multi.specs.Calls.{IsInRange};
 ghost use Rattle.nm_multi.specs.Moves.{IsAlone, MovesFirst};
 ghost use Rattle.nm_multi.specs.Standing.{DeskInvariant};
@@ -45,7 +47,7 @@ pub(crate) fn a_desk_begins()
 pub(crate) fn a_send_goes_on()
     ensures { (sent : List Body) (v v' : RankView) (tag : ℕ) (body : Body) (r : Req) →
         IsInRange (Isend tag body) → AreRight v.sizes.ranks [] v.events → IsFresh v →
-        StartsSend tag body r v v' → DeskInvariant sent v → DeskInvariant (sent ++ body ∷ []) v' }
+        StartsSend (sent_by v tag body) body r v v' → DeskInvariant sent v → DeskInvariant (sent ++ body ∷ []) v' }
 {
     a_send_starts();
     sends_keep_left();
@@ -54,7 +56,7 @@ pub(crate) fn a_send_goes_on()
 /// None by a receive (`Rank::irecv`).
 pub(crate) fn a_receive_goes_on()
     ensures { (sent : List Body) (v v' : RankView) (tag cap : ℕ) (r : Req) → IsFresh v →
-        StartsReceive tag cap r v v' → DeskInvariant sent v → DeskInvariant sent v' }
+        StartsReceive (One 0) (TagOne tag) 0 cap 0 r v v' → DeskInvariant sent v → DeskInvariant sent v' }
 {
     a_receive_starts();
     receives_keep_left();

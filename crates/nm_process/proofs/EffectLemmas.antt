@@ -26,7 +26,8 @@ use Rattle.nm_history.specs.RankRun.{is_start, line_of_claim, start_of, without_
 use Rattle.nm_history.specs.Sends.{Sent, receives}
 use Rattle.nm_history.specs.Clock.{stamped}
 use Rattle.nm_request.specs.declared.Kind.{Kind}
-use Rattle.nm_rndv.specs.Offers.{Offering}
+use Rattle.nm_request.specs.declared.Req.{Req}
+use Rattle.nm_rank.specs.Calls.{Starts}
 use Rattle.nm_rank.specs.Ranks.{RankView, request_of}
 use Rattle.nm_rank.proofs.ResultLemmas.{finished_as}
 use Rattle.nm_process.specs.Names.{handled, message_with, named, request_named}
@@ -91,10 +92,10 @@ module _ (shape : Sizes) (lines : List Line) (a b : ProcessView) (place : ℕ) (
       (λ m. ap (λ (v : ProcessView). handled v m) has.others))
 
   -- the command started what happened here
-  pub starts : (Fits : (Sent → List ℕ) → Type 0) (offers : Offering) (w : Happened) (ws : List Happened)
-      (k : Kind) (c : Command) (q : ℕ) (bodies : Sent → List ℕ) → Fits bodies →
-      l.command ≡ c → (p : HasStarted Fits offers (w ∷ ws) k a (record b { at = a.at; next = a.next }) q
-      (place + 2)) →
+  pub starts : (Call : Req → RankView → RankView → Type 0) (w : Happened) (ws : List Happened)
+      (k : Kind) (c : Command) (q : ℕ) (bodies : Sent → List ℕ) →
+      ((r : Req) (v : RankView) → Call r a.rank v → Starts bodies (w ∷ ws) k a.rank v r) →
+      l.command ≡ c → (p : HasStarted Call k a (record b { at = a.at; next = a.next }) q (place + 2)) →
       is_answer w ≡ false → line_of w ≡ place + 2 →
       MayDo shape.eager (commands_of a.rank.me lines) a.rank.events w → are_of_packets ws ≡ true →
       answers.request_of (place + 2) w ≡ Some (request_of k) →
@@ -114,9 +115,9 @@ module _ (shape : Sizes) (lines : List Line) (a b : ProcessView) (place : ℕ) (
         what =
             Ran (place + 2) answer.Started;
       } ∷ []) m)) → IsAtWork shape lines b
-  starts Fits offers w ws k c q bodies fits same p none line_is may packets made no_cancel no_claim
+  starts Call w ws k c q bodies opens same p none line_is may packets made no_cancel no_claim
       start_names end_names claim_names no_probe rest =
-      let started = p.begun.starts bodies fits in
+      let started = opens p.begun.request p.mid.rank p.begun.starts in
       let h' : List Event = h ++ stamped a.rank.clock (w ∷ ws) in
       let mid : Mid shape lines a place h' (filter is_start (w ∷ [])) [] [] =
       subst (λ (cs : List Happened). Mid shape lines a place h' (filter is_start (w ∷ [])) cs []) no_cancel

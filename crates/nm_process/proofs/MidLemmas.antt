@@ -238,9 +238,9 @@ module _ (shape : Sizes) (lines : List Line) (a : ProcessView) (place : ℕ) (l 
       (next_command lines a.rank.me a.next place a.at l is work.counted
       ∙ ap (λ (c : Command). Some (record { line = place + 2; command = c })) same)
       (found command same) right made off claimed in
-      let events_are : b.rank.events ≡ h ++ e ∷ [] = has.noted.events
+      let events_are : b.rank.events ≡ h ++ e ∷ [] = has.records.noted.events
       ∙ ap (λ (k : List Event). k ++ e ∷ []) events in
-      let me_is : b.rank.me ≡ a.rank.me = has.takes.me ∙ me in
+      let me_is : b.rank.me ≡ a.rank.me = has.records.takes.me ∙ me in
       whole shape lines b
       (subst (λ (i : ℕ). Working shape lines b.rank.sizes i b.at b.next b.rank.events (named b)
       (handled b)) (sym me_is)
@@ -248,13 +248,13 @@ module _ (shape : Sizes) (lines : List Line) (a : ProcessView) (place : ℕ) (l 
       (handled b)) (sym events_are)
       (subst (λ (i : ℕ). Working shape lines b.rank.sizes a.rank.me i b.next (h ++ e ∷ []) (named b)
       (handled b)) (sym at) (record {
-        same = has.takes.sizes ∙ sizes ∙ work.sizes;
+        same = has.records.takes.sizes ∙ sizes ∙ work.sizes;
         done = done;
         past = below-more (place + 1 + 2) (b.next + 2) (h ++ e ∷ []) (omega (arith, next.past))
             (below-push (place + 1 + 2) h e now.below (line_below (place + 2) refl));
         counted = next.first ∙ next_counted lines a.rank.me a.next place a.at l is work.counted;
         own = next.own;
-        requests = λ q. ap (λ r. request_named r b.names q) has.requests
+        requests = λ q. ap (λ r. request_named r b.names q) has.records.requests
             ∙ ap (λ (v : ProcessView). request_named mid.rank.requests v.names q) has.others ∙ names q;
         handles = messages;
       })))) where

@@ -19,8 +19,7 @@ use Rattle.nm_history.specs.Effects.{whole_if}
 use Rattle.nm_request.specs.declared.Kind.{Kind}
 use Rattle.nm_request.specs.declared.Kind.TheVariants as kind
 use Rattle.nm_request.specs.declared.Req.{Req}
-use Rattle.nm_request.specs.Requests.{kind_of}
-use Rattle.nm_rndv.specs.Offers.{Offering}
+use Rattle.nm_request.specs.Requests.{AddsRequest, kind_of}
 use Rattle.nm_receiving.specs.Receipts.{is_empty_ask, taken_events}
 use Rattle.nm_rank.specs.Calls.{Starts}
 use Rattle.nm_rank.specs.Ranks.{RankView, request_of}
@@ -59,27 +58,21 @@ start_keeps bodies ws kind v w r handles starts leaves held =
     (sym starts.happened.events) (held_after x v.events (stamped v.clock ws) (leaves x) is)) held
 
 -- a start of a free name, and its answer
-pub start_answered : (Fits : (Sent → List ℕ) → Type 0) (offers : Offering) (ws : List Happened)
-    (kind : Kind) (a mid b : ProcessView) (v : RankView) (r : Req) (q line : ℕ)
-    (bodies : Sent → List ℕ) → Fits bodies → AreLive a.rank.requests a.names →
-    lookup (nat_eq q) a.names ≡ None →
-    ((bodies : Sent → List ℕ) → Fits bodies → Starts bodies ws kind a.rank v r) →
-    v.sending.offers ≡ offers → mid.rank ≡ v →
+pub start_answered : (Call : Req → RankView → RankView → Type 0)
+    (kind : Kind) (a mid b : ProcessView) (v : RankView) (r : Req) (q line : ℕ) →
+    AddsRequest a.rank.requests v.requests r kind → AreLive a.rank.requests a.names →
+    lookup (nat_eq q) a.names ≡ None → Call r a.rank v → mid.rank ≡ v →
     ((k : ℕ) → lookup (nat_eq k) mid.names ≡ cond (nat_eq q k) (Some r) (lookup (nat_eq k) a.names)) →
     (mid.at ≡ a.at) × (mid.next ≡ a.next) →
-    HasAnswered mid b line answer.Started → HasStarted Fits offers ws kind a b q line
-start_answered Fits offers ws kind a mid b v r q line bodies fits live free starts asked is sets place
-    answered =
-    let adds = (starts bodies fits).request in
+    HasAnswered mid b line answer.Started → HasStarted Call kind a b q line
+start_answered Call kind a mid b v r q line adds live free starts is sets place answered =
     record {
       free = ap (λ (o : Option Req). option_map request_of (option_and_then (kind_of a.rank.requests) o))
           free;
       mid = mid;
       begun = record {
         request = r;
-        starts = λ bodies fits. subst (λ (w : RankView). Starts bodies ws kind a.rank w r) (sym is)
-            (starts bodies fits);
-        asked = ap (λ (w : RankView). w.sending.offers) is ∙ asked;
+        starts = subst (λ (w : RankView). Call r a.rank w) (sym is) starts;
         names = subst (λ (w : RankView). SetsName a (record mid { rank = w }) q (Some (request_of kind)))
             (sym is) (record {
               own = named_own v.requests a.names mid.names q (Some r) sets

@@ -43,8 +43,11 @@ use Rattle.nm_history.specs.Rules.{AreRight, IsRightAt}
 use Rattle.nm_request.specs.declared.Kind.{Kind}
 use Rattle.nm_request.specs.declared.Kind.TheVariants as kind
 use Rattle.nm_receiving.specs.Receipts.{is_empty_ask, taken_events}
+use Rattle.nm_rank.specs.declared.answers.Cancelled.{Cancelled}
 use Rattle.nm_rank.specs.Ranks.{request_of}
 use Rattle.nm_rank.specs.Requests.{cancel_answer as cancelled, cancel_events}
+use Rattle.nm_rank.specs.Sends.{next_send}
+use Rattle.nm_rank.specs.Steps.{StartsMatched, StartsReceive, StartsSend}
 use Rattle.nm_process.specs.declared.steps.Step.TheVariants.{Ran as Took}
 use Rattle.nm_process.specs.Names.{handled, named}
 use Rattle.nm_process.specs.Places.{IsNextLine, IsPlaceFrom}
@@ -53,7 +56,7 @@ use Rattle.nm_process.specs.Starts.{HasAnswered, HasAwaited, HasCancelled, HasCl
 use Rattle.nm_process.specs.Starts.{HasFoundNone, HasMatched, HasProbed, HasStarted, HasTried, IsBusy}
 use Rattle.nm_process.specs.Starts.{IsHandleBusy, IsHandleNull, IsNull, KeepsHandles, HasTriedMprobe}
 use Rattle.nm_process.specs.Starts.{HasTriedMrecv, HasTriedReceive, HasTriedSend, HasTriedTest}
-use Rattle.nm_process.specs.Starts.{answer_for, message_probed, offers_sent, sent_now}
+use Rattle.nm_process.specs.Starts.{answer_for, message_probed}
 use Rattle.nm_process.specs.Work.{IsAtWork}
 use Rattle.nm_process.proofs.DoingLemmas.{MayDo}
 use Rattle.nm_process.proofs.LineLemmas.{claim_made, no_claim_yet}
@@ -119,14 +122,12 @@ module _ (shape : Sizes) (lines : List Line) (a b : ProcessView) (place : ℕ) (
         w : Happened
         w = Send to n tag ctx (body_len body) (how_of a.rank.sizes.eager sync (body_len body)) (place + 2)
 
-        start : HasStarted (λ bodies. bodies (sent_now a.rank to tag ctx body sync (place + 2))
-            ≡ bytes_of body) (offers_sent a.rank to body sync) (w ∷ []) (kind.Send to n) a
+        start : HasStarted (StartsSend (next_send a.rank to tag ctx body sync (place + 2)) body) (kind.Send to n) a
             (record b { at = a.at; next = a.next }) q (place + 2) →
             KeepsHandles a (record b { at = a.at; next = a.next }) → IsAtWork shape lines b
         start p keeps = starts shape lines a b place l work is at next
-            (λ bodies. bodies (sent_now a.rank to tag ctx body sync (place + 2))
-            ≡ bytes_of body) (offers_sent a.rank to body sync) w [] (kind.Send to n) c q
-            (λ s. bytes_of body) refl
+            (StartsSend (next_send a.rank to tag ctx body sync (place + 2)) body) w [] (kind.Send to n) c q
+            (λ s. bytes_of body) (λ r v is. is.started (λ s. bytes_of body) refl)
             same p refl refl (record { starts = tt; cancels = tt; claims = tt }) refl
             (rw (eqb_self (place + 2)) refl) refl refl (λ k. refl) (λ k. refl) (λ k. refl) refl
             (λ mid. (
@@ -159,12 +160,12 @@ module _ (shape : Sizes) (lines : List Line) (a b : ProcessView) (place : ℕ) (
         ws : List Happened
         ws = taken_events (first_message a.rank.events (matched_pairs a.rank.events) from tag ctx)
 
-        start : HasStarted (λ bodies. Unit {0}) a.rank.sending.offers (w ∷ ws) (kind.Receive number) a
+        start : HasStarted (StartsReceive from tag ctx room (place + 2)) (kind.Receive number) a
             (record b { at = a.at; next = a.next }) q (place + 2) →
             KeepsHandles a (record b { at = a.at; next = a.next }) → IsAtWork shape lines b
-        start p keeps = starts shape lines a b place l work is at next (λ bodies. Unit {0}) a.rank.sending.offers w ws
-            (kind.Receive number) c q
-            (λ s. []) tt
+        start p keeps = starts shape lines a b place l work is at next
+            (StartsReceive from tag ctx room (place + 2)) w ws (kind.Receive number) c q
+            (λ s. []) (λ r v is. is.started (λ s. []))
             same p refl refl (record { starts = tt; cancels = tt; claims = tt })
             (taken_of_packets (first_message a.rank.events (matched_pairs a.rank.events) from tag ctx))
             (rw (eqb_self (place + 2)) refl) refl refl
@@ -328,7 +329,7 @@ module _ (shape : Sizes) (lines : List Line) (a b : ProcessView) (place : ℕ) (
             let e : Event = record { stamp = a.rank.clock + 1; what = Recall to n } in
             let sent = (right_at b.rank.sizes.ranks a.rank.events e
             (record { stamp = mid.rank.clock + 1; what = Ran (place + 2) answer.Asked }) b.rank.events
-            (has.noted.events ∙ ap (λ (k : List Event). k ++ record {
+            (has.records.noted.events ∙ ap (λ (k : List Event). k ++ record {
               stamp = mid.rank.clock + 1;
               what =
                   Ran (place + 2) answer.Asked;
@@ -349,8 +350,10 @@ module _ (shape : Sizes) (lines : List Line) (a b : ProcessView) (place : ℕ) (
       (λ p. null shape lines a b place l work is at next (command.Cancel q) q same p (λ none. rw none refl)
       (λ none. subst (λ (o : Option Request). CancelsOf a.rank.events o)
       (sym none) work.cancels.no_others))
-      (λ p. cancels_it q p.kind p.mid same right p.live p.takes.me p.takes.sizes p.requests p.others
-      (p.happened (λ s. [])).events p.answered) tried
+      (λ p. cancels_it q p.cancels.kind p.mid same right p.live p.cancels.takes.me p.cancels.takes.sizes
+      p.cancels.requests p.others (p.cancels.happened (λ s. [])).events
+      (subst (λ (x : Cancelled). HasAnswered p.mid (record b { at = a.at; next = a.next }) (place + 2)
+      (answer_for x)) p.cancels.answered p.answered)) tried
 
   -- a matched probe
   claims_one : (m : ℕ) (from : Peer) (tag : TagPick) (ctx : ℕ) →
@@ -405,8 +408,8 @@ module _ (shape : Sizes) (lines : List Line) (a b : ProcessView) (place : ℕ) (
         } in
         let now = mid_line shape lines a place l work is e refl refl may in
         let numbers = right-numbers b.rank.sizes.ranks a.rank.events
-        (right_front b.rank.sizes.ranks a.rank.events e f b.rank.events (p.answered.noted.events
-        ∙ ap (λ (k : List Event). k ++ f ∷ []) p.claimed.events) right) in
+        (right_front b.rank.sizes.ranks a.rank.events e f b.rank.events (p.answered.records.noted.events
+        ∙ ap (λ (k : List Event). k ++ f ∷ []) p.claims.claimed.events) right) in
         let message = first_is_message b.rank.sizes.ranks a.rank.events from tag ctx x numbers p.first in
         let here : claim_at h' (place + 2) ≡ Some (record { from = x.env.from; n = x.n }) =
         claim_made (place + 2) a.rank.events e (record { from = x.env.from; n = x.n })
@@ -414,12 +417,12 @@ module _ (shape : Sizes) (lines : List Line) (a b : ProcessView) (place : ℕ) (
         let came : message_of h' x.env.from x.n ≡ Some x =
         ap (λ (ms : List Arrival). find (λ a. a.env.from == x.env.from && a.n == x.n) ms)
         (messages-push a.rank.events e ∙ append-nil (messages a.rank.events)) ∙ message in
-        works shape lines a place l work is p.mid b c h' (seen x) [] [] ((place + 2) ∷ []) same p.takes.me
-        p.takes.sizes p.claimed.events p.answered at next now
+        works shape lines a place l work is p.mid b c h' (seen x) [] [] ((place + 2) ∷ []) same p.claims.takes.me
+        p.claims.takes.sizes p.claims.claimed.events p.answered at next now
         (rw (now.message_is m ∙ p.free, here, came) refl) refl now.since.cancels refl
         (kept_names shape lines a place l work is p.mid c h' (p.mid.rank.clock + 1) (seen x) [] []
         ((place + 2) ∷ []) same now (λ k. refl) (λ k. refl)
-        (kept_all shape lines a b place l work is at next p.mid p.requests p.names))
+        (kept_all shape lines a b place l work is at next p.mid p.claims.requests p.names))
         (claimed_handles shape lines a place l work is b c h' (p.mid.rank.clock + 1) (seen x) [] []
         ((place + 2) ∷ []) m (record { from = x.env.from; n = x.n }) same now refl (λ k. refl)
         (λ k. refl) here
@@ -464,8 +467,8 @@ module _ (shape : Sizes) (lines : List Line) (a b : ProcessView) (place : ℕ) (
         let w : Happened = Match number x.from x.n room (place + 2) in
         let ws : List Happened = taken_events (message_of a.rank.events x.from x.n) in
         let h' : List Event = a.rank.events ++ stamped a.rank.clock (w ∷ ws) in
-        starts shape lines a b place l work is at next (λ bodies. Unit {0}) a.rank.sending.offers w ws
-        (kind.Receive number) c q (λ s. []) tt
+        starts shape lines a b place l work is at next (StartsMatched x.from x.n room (place + 2)) w ws
+        (kind.Receive number) c q (λ s. []) (λ r v is. is.started (λ s. []))
         same p.started refl refl (record { starts = p.claimed; cancels = tt; claims = tt })
         (taken_of_packets (message_of a.rank.events x.from x.n)) (rw (eqb_self (place + 2)) refl) refl
         refl

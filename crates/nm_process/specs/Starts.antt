@@ -1,6 +1,6 @@
 -- What each command does to a process, before the process counts it as run.
-use Rattle.std.specs.Prelude.{◌≡◌, ◌≢◌, ◌⊎◌, ℕ, ◌+◌, Bool, true, false, Option, Some, None, IsSome}
-use Rattle.std.specs.Prelude.{List, [], ◌∷◌, length, if◌then◌else◌}
+use Rattle.std.specs.Prelude.{◌≡◌, ◌≢◌, ◌⊎◌, ℕ, Bool, true, false, Option, Some, None, IsSome}
+use Rattle.std.specs.Prelude.{length}
 use Rattle.std.specs.Option.{option_map_or}
 use Rattle.nm_types.specs.declared.answers.Answer.{Answer}
 use Rattle.nm_types.specs.declared.answers.Answer.TheVariants as answer
@@ -10,25 +10,20 @@ use Rattle.nm_types.specs.declared.messages.TagPick.{TagPick}
 use Rattle.nm_types.specs.declared.scripts.Body.{Body}
 use Rattle.nm_types.specs.declared.scripts.Command.{Command}
 use Rattle.nm_types.specs.declared.scripts.Command.TheVariants as command
-use Rattle.nm_types.specs.Bodies.{body_len, bytes_of}
-use Rattle.nm_history.specs.declared.events.Happened.{Happened}
-use Rattle.nm_history.specs.declared.events.Happened.TheVariants.{Send, Post, Claim, Match, Ran}
 use Rattle.nm_history.specs.Answers.{Message, seen}
 use Rattle.nm_history.specs.Completion.{Request, is_complete}
 use Rattle.nm_history.specs.Matching.{first_message, is_claimed, matched_pairs}
-use Rattle.nm_history.specs.RankRun.{how_of}
-use Rattle.nm_history.specs.Sends.{Sent, is_ask, message_of, receives, sends}
+use Rattle.nm_history.specs.Sends.{receives}
 use Rattle.nm_request.specs.declared.Kind.{Kind}
 use Rattle.nm_request.specs.declared.Kind.TheVariants as kind
 use Rattle.nm_request.specs.declared.Req.{Req}
 use Rattle.nm_request.specs.Requests.{kind_of}
-use Rattle.nm_rndv.specs.Offers.{Offering, destined, with_asked, with_destined}
-use Rattle.nm_receiving.specs.Receipts.{taken_events}
 use Rattle.nm_rank.specs.declared.answers.Cancelled.{Cancelled}
 use Rattle.nm_rank.specs.declared.answers.Cancelled.TheVariants as cancelled
-use Rattle.nm_rank.specs.Calls.{Happens, Notes, Starts, TakesNone}
 use Rattle.nm_rank.specs.Ranks.{RankView, request_of}
-use Rattle.nm_rank.specs.Requests.{Finishes, cancel_answer, cancel_events, offers_cancelled}
+use Rattle.nm_rank.specs.Requests.{Finishes}
+use Rattle.nm_rank.specs.Sends.{next_send}
+use Rattle.nm_rank.specs.Steps.{Cancels, Claims, Records, StartsMatched, StartsReceive, StartsSend}
 use Rattle.nm_process.specs.declared.steps.Step.{Step}
 use Rattle.nm_process.specs.declared.steps.Step.TheVariants.{Waits, Ran as Took}
 use Rattle.nm_process.specs.Names.{handled, named}
@@ -40,11 +35,7 @@ KeepsAllBut a b = b ≡ record a { rank = b.rank }
 
 -- the rank recorded the answer of a line's command, and did nothing else
 pub record HasAnswered (a b : ProcessView) (line : ℕ) (x : Answer) : Type 0 where
-  pub noted : Notes (Ran line x ∷ []) a.rank b.rank
-  pub takes : TakesNone a.rank b.rank
-  pub sending : b.rank.sending ≡ a.rank.sending
-  pub receiving : b.rank.receiving ≡ a.rank.receiving
-  pub requests : b.rank.requests ≡ a.rank.requests
+  pub records : Records line x a.rank b.rank
   pub others : KeepsAllBut a b
 
 -- this name stands for this request, or for none, and every other for what it stood for
@@ -62,22 +53,20 @@ pub record KeepsHandles (a b : ProcessView) : Type 0 where
   pub place : (b.at ≡ a.at) × (b.next ≡ a.next)
   pub handles : b.handles ≡ a.handles
 
--- the rank started what happened here, and the name stands for its request
-pub record HasBegun (Fits : (Sent → List ℕ) → Type 0) (offers : Offering) (ws : List Happened)
-    (kind : Kind) (a b : ProcessView) (q : ℕ) : Type 0 where
+-- the rank made this call, which started a request of this kind, and the name stands for it
+pub record HasBegun (Call : Req → RankView → RankView → Type 0) (kind : Kind) (a b : ProcessView)
+    (q : ℕ) : Type 0 where
   pub request : Req
-  pub starts :
-      (bodies : Sent → List ℕ) → Fits bodies → Starts bodies ws kind a.rank b.rank request
-  pub asked : b.rank.sending.offers ≡ offers
+  pub starts : Call request a.rank b.rank
   pub names : SetsName a b q (Some (request_of kind))
   pub place : (b.at ≡ a.at) × (b.next ≡ a.next)
 
 -- a start of a free name, and its answer
-pub record HasStarted (Fits : (Sent → List ℕ) → Type 0) (offers : Offering) (ws : List Happened)
-    (kind : Kind) (a b : ProcessView) (q line : ℕ) : Type 0 where
+pub record HasStarted (Call : Req → RankView → RankView → Type 0) (kind : Kind)
+    (a b : ProcessView) (q line : ℕ) : Type 0 where
   pub free : named a q ≡ None
   pub mid : ProcessView
-  pub begun : HasBegun Fits offers ws kind a mid q
+  pub begun : HasBegun Call kind a mid q
   pub answered : HasAnswered mid b line answer.Started
 
 -- a start of a name that stands for a request was answered busy
@@ -90,50 +79,22 @@ pub record IsNull (a b : ProcessView) (q line : ℕ) : Type 0 where
   pub free : named a q ≡ None
   pub answered : HasAnswered a b line answer.Null
 
--- the message of a send
-abbrev pub sent_now : RankView → (to tag ctx : ℕ) → Body → Bool → ℕ → Sent
-sent_now v to tag ctx body sync line = record {
-  stamp = v.clock + 1;
-  to = to;
-  n = length (sends v.events to);
-  tag = tag;
-  ctx = ctx;
-  len = body_len body;
-  how = how_of v.sizes.eager sync (body_len body);
-  line = line;
-}
-
--- the messages that were sent by asking, after a send
-abbrev pub offers_sent : RankView → ℕ → Body → Bool → Offering
-offers_sent v to body sync =
-    let offers = v.sending.offers in
-    if is_ask (how_of v.sizes.eager sync (body_len body))
-    then with_destined offers to (with_asked (destined offers to) (length (sends v.events to)) body)
-    else offers
-
 -- what a send comes to
 abbrev pub HasTriedSend :
     ProcessView → ProcessView → (q to tag ctx : ℕ) → Body → Bool → ℕ → Type 0
 HasTriedSend a b q to tag ctx body sync line =
-    let v = a.rank in
-    let n = length (sends v.events to) in
+    let s = next_send a.rank to tag ctx body sync line in
     IsBusy a b q line
-    ⊎ (HasStarted (λ bodies. bodies (sent_now v to tag ctx body sync line) ≡ bytes_of body)
-    (offers_sent v to body sync)
-    (Send to n tag ctx (body_len body) (how_of v.sizes.eager sync (body_len body)) line ∷ [])
-    (kind.Send to n) a b q line) × KeepsHandles a b
+    ⊎ HasStarted (StartsSend s body) (kind.Send to s.n) a b q line × KeepsHandles a b
 
 -- what a receive comes to
 abbrev pub HasTriedReceive :
     ProcessView → ProcessView → ℕ → Peer → TagPick → (ctx cap line : ℕ) → Type 0
 HasTriedReceive a b q from tag ctx cap line =
-    let h = a.rank.events in
-    let number = length (receives h) in
+    let number = length (receives a.rank.events) in
     IsBusy a b q line
-    ⊎ (HasStarted (λ bodies. Unit {0}) a.rank.sending.offers
-    (Post (record { number = number; from = from; tag = tag; ctx = ctx; cap = cap }) line
-    ∷ taken_events (first_message h (matched_pairs h) from tag ctx))
-    (kind.Receive number) a b q line) × KeepsHandles a b
+    ⊎ HasStarted (StartsReceive from tag ctx cap line) (kind.Receive number) a b q line
+    × KeepsHandles a b
 
 -- the request of a name gave its result, and is no longer live
 pub record Ends (a b : ProcessView) (q : ℕ) (x : Answer) : Type 0 where
@@ -204,17 +165,12 @@ answer_for cancelled.Asked = answer.Asked
 -- a cancel of the request of a name
 pub record HasCancelled (a b : ProcessView) (q line : ℕ) : Type 0 where
   pub mid : ProcessView
-  pub kind : Kind
-  pub live : named a q ≡ Some (request_of kind)
-  pub happened :
-      (bodies : Sent → List ℕ) →
-      Happens bodies a.rank.clock (cancel_events a.rank.events kind) a.rank mid.rank
-  pub offers :
-      mid.rank.sending.offers ≡ offers_cancelled a.rank.events kind a.rank.sending.offers
-  pub takes : TakesNone a.rank mid.rank
-  pub requests : mid.rank.requests ≡ a.rank.requests
+  pub request : Req
+  pub answer : Cancelled
+  pub cancels : Cancels request answer a.rank mid.rank
+  pub live : named a q ≡ Some (request_of cancels.kind)
   pub others : KeepsAllBut a mid
-  pub answered : HasAnswered mid b line (answer_for (cancel_answer a.rank.events kind))
+  pub answered : HasAnswered mid b line (answer_for answer)
 
 -- a matched probe of a handle that stands for a message was answered busy
 pub record IsHandleBusy (a b : ProcessView) (m line : ℕ) : Type 0 where
@@ -235,10 +191,7 @@ pub record HasClaimed (a b : ProcessView) (m : ℕ) (from : Peer) (tag : TagPick
   pub mid : ProcessView
   pub message : Arrival
   pub first : message_probed a from tag ctx ≡ Some message
-  pub claimed : Notes (Claim message.env.from message.n line ∷ []) a.rank mid.rank
-  pub takes : TakesNone a.rank mid.rank
-  pub sending : mid.rank.sending ≡ a.rank.sending
-  pub requests : mid.rank.requests ≡ a.rank.requests
+  pub claims : Claims message line a.rank mid.rank
   pub names : mid.names ≡ a.names
   pub place : (mid.at ≡ a.at) × (mid.next ≡ a.next)
   pub handles : SetsHandle a mid m (Some (record { from = message.env.from; n = message.n }))
@@ -264,11 +217,8 @@ pub record HasMatched (a b : ProcessView) (q m cap line : ℕ) : Type 0 where
   pub claimed :
       is_claimed a.rank.events (matched_pairs a.rank.events) message.from message.n ≡ true
   pub started :
-      let number = length (receives a.rank.events) in
-      HasStarted (λ bodies. Unit {0}) a.rank.sending.offers
-      (Match number message.from message.n cap line
-      ∷ taken_events (message_of a.rank.events message.from message.n))
-      (kind.Receive number) a b q line
+      HasStarted (StartsMatched message.from message.n cap line)
+      (kind.Receive (length (receives a.rank.events))) a b q line
   pub handles : SetsHandle a b m None
 
 -- what a matched receive comes to

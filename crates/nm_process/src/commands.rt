@@ -1,16 +1,14 @@
 //! What each command does.
 
 ghost use Rattle.std.specs.Prelude.{◌≡◌, ◌≢◌, ◌<◌, ◌≤◌, ◌⊎◌, ℕ, Some, nat_eq, IfOk, IfSome, IfNone};
-ghost use Rattle.std.specs.Prelude.{List, [], ◌∷◌, OnErr, OnOk, if◌then◌else◌};
+ghost use Rattle.std.specs.Prelude.{OnErr, OnOk, if◌then◌else◌};
 ghost use Rattle.std.specs.Map.{lookup};
 ghost use Rattle.nm_types.specs.declared.limits.TheConstants.{MAX_BODY, MAX_STAMP, MAX_TAG};
-ghost use Rattle.nm_types.specs.Bodies.{body_len, bytes_of};
+ghost use Rattle.nm_types.specs.Bodies.{body_len};
 ghost use Rattle.nm_history.specs.Answers.{seen as seen_lem};
-ghost use Rattle.nm_history.specs.Sends.{Sent};
-ghost use Rattle.nm_request.specs.declared.Kind.TheVariants as kind;
-ghost use Rattle.nm_rank.specs.Calls.{Starts};
 ghost use Rattle.nm_rank.specs.Ranks.{IsFresh};
-ghost use Rattle.nm_rank.specs.Sends.{event_of, next_send, offers_sent};
+ghost use Rattle.nm_rank.specs.Sends.{next_send};
+ghost use Rattle.nm_rank.specs.Steps.{StartsSend};
 ghost use Rattle.nm_process.specs.declared.steps.Step.TheVariants as step_is;
 ghost use Rattle.nm_process.specs.Names.{IsOlder};
 ghost use Rattle.nm_process.specs.Starts.{Ends, HasAnswered, HasCancelled, HasProbed};
@@ -74,11 +72,8 @@ fn send_copy(
     requires tag { tag ≤ MAX_TAG }
     requires short { body_len body.now ≤ MAX_BODY }
     requires fresh { IsFresh rank.old }
-    ensures started { IfOk result (λ r. let s = next_send rank.old to tag ctx body.now sync line in
-        (bodies : Sent → List ℕ) → bodies s ≡ bytes_of body.now →
-        Starts bodies (event_of s ∷ []) (kind.Send to s.n) rank.old rank.new r) }
-    ensures offers { OnOk result (rank.new.sending.offers ≡ offers_sent rank.old.sending.offers
-        (next_send rank.old to tag ctx body.now sync line) body.now) }
+    ensures starts { IfOk result (λ r. StartsSend
+        (next_send rank.old to tag ctx body.now sync line) body.now r rank.old rank.new) }
     ensures err { OnErr result (rank.new ≡ rank.old) }
 {
     let body = body.copy()?;

@@ -1,7 +1,7 @@
 -- A send that is recalled, the first time.
 use Rattle.std.proofs.Common.{◌≡◌, ℕ, ◌+◌, ◌≤◌, Bool, true, false, List, [], ◌∷◌, ◌++◌, length, refl, sym, ap, subst}
 use Rattle.std.proofs.Common.{append-nil, arith}
-use Rattle.std.specs.Prelude.{if◌then◌else◌, Option, Some, None, IfSome}
+use Rattle.std.specs.Prelude.{if◌then◌else◌, None}
 use Rattle.nm_types.specs.declared.packets.What.TheVariants as what
 use Rattle.nm_history.specs.declared.events.Event.{Event}
 use Rattle.nm_history.specs.declared.events.Happened.{Happened}
@@ -170,10 +170,6 @@ recall-calls bodies h c to n other = by_answer (happened (is_recall to n) h) whe
       ≡ (if b then [] else only_to to (c + 1) (what.Withdraw n) other)
   by_answer true = refl
   by_answer false = append-nil (only_to to (c + 1) (what.Withdraw n) other)
-
--- a clause on the kind of a live request
-pub if-live : (o : Option Kind) (k : Kind) (P : Kind → Type 0) → o ≡ Some k → P k → IfSome o P
-if-live o k P e p = subst (λ (x : Option Kind). IfSome x P) (sym e) p
 
 recall-puts_by : (bodies : Sent → List ℕ) (h : List Event) (k to n clock : ℕ) (o o' : OutboxView) (b : Bool)
     → happened (is_recall to n) h ≡ b

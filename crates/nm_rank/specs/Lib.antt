@@ -6,4 +6,5 @@ pub mod Pops
 pub mod Ranks
 pub mod Requests
 pub mod Sends
+pub mod Steps
 pub mod Takes

@@ -12,7 +12,8 @@
 //! pieces and strays. Room is not seen.
 //! # What is proved
 //! - Each call says exactly which events it adds, and which packets it puts for each rank: those
-//!   that the events call for (`started`, `happened`, `taken`).
+//!   that the events call for. What it did is one relation, named after the call (`starts`, `claims`,
+//!   `cancels`, `finishes`, `records`, `taken`; `specs/Steps`).
 //! - The history keeps the rules of a rank's run that commands play no part in (`history`:
 //!   `right`).
 //! - `test`, `finish`, `probe` and `cancel` answer as MPI's definitions do on that history.

@@ -1,18 +1,11 @@
 //! What became of requests, probes, cancels, and the answers of commands.
 
-ghost use Rattle.std.specs.Prelude.{◌≡◌, ◌≢◌, ◌++◌, ◌+◌, ◌<◌, ◌≤◌, ◌↔◌, ◌&&◌, ℕ, false, not, Some, None, Ok, Err, List, []};
-ghost use Rattle.std.specs.Prelude.{◌∷◌, if◌then◌else◌, length, option_map, IfOk, IfErr, IfSome, IsSome, IsSomeAnd};
-ghost use Rattle.std.specs.Prelude.{MatchOption, OnErr, OnOk};
-ghost use Rattle.std.specs.List.{list_any};
-ghost use Rattle.nm_types.specs.declared.answers.Answer.TheVariants.{Got};
+ghost use Rattle.std.specs.Prelude.{◌≡◌, ◌++◌, ◌+◌, ◌<◌, ◌≤◌, ◌↔◌, ℕ, false, Some, None, Ok, Err, List, []};
+ghost use Rattle.std.specs.Prelude.{if◌then◌else◌, length, option_map, IfOk, IfSome};
+ghost use Rattle.std.specs.Prelude.{OnErr, OnOk};
 ghost use Rattle.nm_history.specs.declared.events.Happened.{Happened};
-ghost use Rattle.nm_history.specs.declared.events.Happened.TheVariants as event;
-ghost use Rattle.nm_history.specs.Answers.{without_bytes};
-ghost use Rattle.nm_history.specs.Completion.{is_complete, result_of};
-ghost use Rattle.nm_history.specs.Delivery.{pair_of_request};
-ghost use Rattle.nm_history.specs.Happens.{happened, is_recall};
-ghost use Rattle.nm_history.specs.Matching.{first_message, is_of_receive, matched_pairs};
-ghost use Rattle.nm_history.specs.Sends.{Sent};
+ghost use Rattle.nm_history.specs.Completion.{is_complete};
+ghost use Rattle.nm_history.specs.Matching.{first_message, matched_pairs};
 ghost use Rattle.nm_history.specs.declared.events.Event.{Event};
 ghost use Rattle.nm_history.specs.Clock.{stamped};
 ghost use Rattle.nm_history.specs.Effects.{happenings};
@@ -24,14 +17,13 @@ ghost use Rattle.nm_sending.specs.Outboxes.{put_to};
 ghost use Rattle.nm_sending.specs.Sent.{AreSent, Puts};
 ghost use Rattle.nm_receiving.specs.Received.{AreReceived};
 ghost use Rattle.nm_rank.specs.declared.answers.CancelFault.TheVariants as cancel_fault;
-ghost use Rattle.nm_rank.specs.declared.answers.Cancelled.TheVariants as cancelled;
 ghost use Rattle.nm_rank.specs.declared.answers.FinishFault.TheVariants as finish_fault;
 ghost use Rattle.nm_rank.specs.declared.answers.State.TheVariants as state;
-ghost use Rattle.nm_rank.specs.Calls.{Happens, Notes, TakesNone};
 ghost use Rattle.nm_rank.specs.Fields.{endings};
 ghost use Rattle.nm_rank.specs.Ranks.{IsFresh, request_of};
 ghost use Rattle.nm_rank.specs.Requests.{cancel_events, cancel_answer, offers_cancelled};
 ghost use Rattle.nm_rank.specs.Requests.{Finishes, WasSent, withdrawal_of};
+ghost use Rattle.nm_rank.specs.Steps.{Cancels, Records};
 
 use crate::journal::Journal;
 use crate::room::make_room;
@@ -179,16 +171,7 @@ impl Rank {
         requires fresh { IsFresh self.old }
         ensures no_such { (kind_of self.old.requests r ≡ None)
             ↔ (result ≡ Err cancel_fault.NoSuch) }
-        ensures answer { IfOk result (λ answer. IsSomeAnd (kind_of self.old.requests r)
-            (λ k. answer ≡ cancel_answer self.old.events k)) }
-        ensures happened { OnOk result (IfSome (kind_of self.old.requests r)
-            (λ k. (bodies : Sent → List ℕ) →
-            Happens bodies self.old.clock (cancel_events self.old.events k) self.old self.new)) }
-        ensures offers { OnOk result (IfSome (kind_of self.old.requests r) (λ k.
-            self.new.sending.offers
-            ≡ offers_cancelled self.old.events k self.old.sending.offers)) }
-        ensures takes { OnOk result (TakesNone self.old self.new
-            × (self.new.requests ≡ self.old.requests)) }
+        ensures cancels { IfOk result (λ answer. Cancels r answer self.old self.new) }
         ensures err { OnErr result (self.new ≡ self.old) }
     {
         let Ok(kind) = self.requests.get(r) else {
@@ -210,10 +193,7 @@ impl Rank {
     /// Records the answer of a line's command. The rank may have become worn by that command.
     pub fn ran(&mut self, line: u32, answer: Answer) -> Result<(), Memory>
         requires in_time { self.old.clock < MAX_STAMP }
-        ensures noted { OnOk result (Notes (event.Ran line answer ∷ []) self.old self.new) }
-        ensures takes { OnOk result (TakesNone self.old self.new
-            × (self.new.sending ≡ self.old.sending) × (self.new.receiving ≡ self.old.receiving)
-            × (self.new.requests ≡ self.old.requests)) }
+        ensures records { OnOk result (Records line answer self.old self.new) }
         ensures err { OnErr result (self.new ≡ self.old) }
     {
         sides_stay();

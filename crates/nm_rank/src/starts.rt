@@ -1,21 +1,20 @@
 //! Sends and receives, and matched probes.
 
-ghost use Rattle.std.specs.Prelude.{◌≡◌, ◌+◌, ◌<◌, ◌≤◌, ℕ, List, [], ◌∷◌, ◌++◌, None, length, if◌then◌else◌, IfOk, IfSome, IsTrue};
-ghost use Rattle.std.specs.Prelude.{MatchOption, OnErr, OnOk};
+ghost use Rattle.std.specs.Prelude.{◌≡◌, ◌+◌, ◌<◌, ◌≤◌, ℕ, ◌++◌, None, length, if◌then◌else◌, IfOk, IfSome, IsTrue};
+ghost use Rattle.std.specs.Prelude.{MatchOption, OnErr};
 ghost use Rattle.nm_types.specs.declared.limits.TheConstants.{MAX_BODY, MAX_EAGER, MAX_PACKETS, MAX_STAMP, MAX_TAG};
-ghost use Rattle.nm_types.specs.Bodies.{body_len, bytes_of};
-ghost use Rattle.nm_history.specs.declared.events.Happened.TheVariants as event;
+ghost use Rattle.nm_types.specs.Bodies.{body_len};
 ghost use Rattle.nm_history.specs.Matching.{first_message, is_claimed as is_claimed_lem, matched_pairs};
 ghost use Rattle.nm_history.specs.RankRun.{how_of};
-ghost use Rattle.nm_history.specs.Sends.{Sent, is_ask, message_of, receives};
-ghost use Rattle.nm_request.specs.declared.Kind.TheVariants as kind;
+ghost use Rattle.nm_history.specs.Sends.{is_ask};
 ghost use Rattle.nm_history.specs.Clock.{stamped};
 ghost use Rattle.nm_sending.specs.Outboxes.{put_to};
 ghost use Rattle.nm_sending.specs.Sent.{Puts};
 ghost use Rattle.nm_receiving.specs.Receipts.{taken_events};
-ghost use Rattle.nm_rank.specs.Calls.{Notes, Starts, TakesNone, clearance_of};
+ghost use Rattle.nm_rank.specs.Calls.{clearance_of};
 ghost use Rattle.nm_rank.specs.Ranks.{IsFresh};
-ghost use Rattle.nm_rank.specs.Sends.{event_of, next_send, offers_sent};
+ghost use Rattle.nm_rank.specs.Sends.{next_send};
+ghost use Rattle.nm_rank.specs.Steps.{Claims, StartsMatched, StartsReceive, StartsSend};
 
 use crate::Rank;
 use crate::journal::Journal;
@@ -84,11 +83,8 @@ impl Rank {
         requires tag { tag ≤ MAX_TAG }
         requires short { body_len body ≤ MAX_BODY }
         requires fresh { IsFresh self.old }
-        ensures started { IfOk result (λ r. let s = next_send self.old to tag ctx body sync line in
-            (bodies : Sent → List ℕ) → bodies s ≡ bytes_of body →
-            Starts bodies (event_of s ∷ []) (kind.Send to s.n) self.old self.new r) }
-        ensures offers { OnOk result (self.new.sending.offers ≡ offers_sent self.old.sending.offers
-            (next_send self.old to tag ctx body sync line) body) }
+        ensures starts { IfOk result (λ r. StartsSend
+            (next_send self.old to tag ctx body sync line) body r self.old self.new) }
         ensures err { OnErr result (self.new ≡ self.old) }
     {
         let len = body.len();
@@ -120,14 +116,8 @@ impl Rank {
         line: u32,
     ) -> Result<Req, Memory>
         requires fresh { IsFresh self.old }
-        ensures started { IfOk result (λ r. let number = length (receives self.old.events) in
-            let h = self.old.events in
-            (bodies : Sent → List ℕ) → Starts bodies
-            (event.Post
-            (record { number = number; from = from; tag = tag; ctx = ctx; cap = cap }) line
-            ∷ taken_events (first_message h (matched_pairs h) from tag ctx)) (kind.Receive number)
-            self.old self.new r) }
-        ensures offers { OnOk result (self.new.sending.offers ≡ self.old.sending.offers) }
+        ensures starts { IfOk result
+            (λ r. StartsReceive from tag ctx cap line r self.old self.new) }
         ensures err { OnErr result (self.new ≡ self.old) }
     {
         sides_stay();
@@ -158,10 +148,8 @@ impl Rank {
         requires fresh { IsFresh self.old }
         ensures oldest { let h = self.old.events in
             IfOk result (λ found. found ≡ first_message h (matched_pairs h) from tag ctx) }
-        ensures claimed { IfOk result (λ found. MatchOption found (self.new ≡ self.old)
-            (λ a. Notes (event.Claim a.env.from a.n line ∷ []) self.old self.new)) }
-        ensures takes { OnOk result (TakesNone self.old self.new
-            × (self.new.sending ≡ self.old.sending) × (self.new.requests ≡ self.old.requests)) }
+        ensures claims { IfOk result (λ found. MatchOption found (self.new ≡ self.old)
+            (λ a. Claims a line self.old self.new)) }
         ensures err { OnErr result (self.new ≡ self.old) }
     {
         sides_stay();
@@ -187,11 +175,7 @@ impl Rank {
         requires claimed { let h = self.old.events in
             IsTrue (is_claimed_lem h (matched_pairs h) from n) }
         requires fresh { IsFresh self.old }
-        ensures started { IfOk result (λ r. let number = length (receives self.old.events) in
-            (bodies : Sent → List ℕ) → Starts bodies
-            (event.Match number from n cap line ∷ taken_events (message_of self.old.events from n))
-            (kind.Receive number) self.old self.new r) }
-        ensures offers { OnOk result (self.new.sending.offers ≡ self.old.sending.offers) }
+        ensures starts { IfOk result (λ r. StartsMatched from n cap line r self.old self.new) }
         ensures err { OnErr result (self.new ≡ self.old) }
     {
         sides_stay();

@@ -1,12 +1,9 @@
 use Rattle.std.proofs.Common.{ap}
 use Rattle.std.specs.Prelude.{Err}
-use Rattle.nm_multi.proofs.Results.{cancelled}
 use Rattle.nm_multi.proofs.desks.cancel.Goals as goal
 
 pub returns-in-Ok-clause-acts : goal.returns-in-Ok-clause-acts
-returns-in-Ok-clause-acts c =
-    let e = c.in-Ok.ensures in
-    cancelled c.args.r c.in-Ok.cancelled c.args.rank.now c.cancel.new.self e.answer e.happened e.offers e.takes
+returns-in-Ok-clause-acts c = c.in-Ok.ensures.cancels
 
 pub returns-in-Err-NoSuch-clause-acts : goal.returns-in-Err-NoSuch-clause-acts
 returns-in-Err-NoSuch-clause-acts c =

@@ -1,11 +1,11 @@
 -- What is sent is an equal body.
 use Rattle.std.proofs.Common.{subst}
 use Rattle.nm_types.specs.declared.scripts.Body.{Body}
-use Rattle.nm_multi.specs.Acts.{StartsSend}
+use Rattle.nm_rank.specs.Steps.{StartsSend}
+use Rattle.nm_multi.specs.Acts.{sent_by}
 use Rattle.nm_multi.proofs.desks.send.Goals as goal
 
 pub returns-clause-acts : goal.returns-clause-acts
 returns-clause-acts c =
-    let e = c.in_ok-isend.ensures in
-    subst (λ (b : Body). StartsSend c.args.tag b c.in_ok-isend.field-0 c.args.rank.now c.isend.new.self)
-    c.in_ok-body.ensures (record { started = e.started; offers = e.offers })
+    subst (λ (b : Body). StartsSend (sent_by c.args.rank.now c.args.tag b) b c.in_ok-isend.field-0 c.args.rank.now
+    c.isend.new.self) c.in_ok-body.ensures c.in_ok-isend.ensures.starts

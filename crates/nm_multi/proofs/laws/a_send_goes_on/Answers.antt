@@ -10,14 +10,16 @@ use Rattle.nm_history.specs.Clock.{stamped}
 use Rattle.nm_receiving.proofs.Lists.{slice_get-last}
 use Rattle.nm_request.specs.declared.Req.{Req}
 use Rattle.nm_rank.specs.Ranks.{RankView}
-use Rattle.nm_multi.specs.Acts.{StartsSend, sent_by}
+use Rattle.nm_rank.specs.Steps.{StartsSend}
+use Rattle.nm_multi.specs.Acts.{sent_by}
 use Rattle.nm_multi.specs.Standing.{AreBodies}
 use Rattle.nm_multi.proofs.Standing.{acted_on}
 use Rattle.nm_multi.proofs.laws.a_send_goes_on.Goals as goal
 use Rattle.nm_types.proofs.ListLemmas.{get_front}
 use Rattle.nm_history.proofs.AppendLemmas.{sends-append}
 
-one_sent : (sent : List Body) (v v' : RankView) (tag : ℕ) (body : Body) (r : Req) → StartsSend tag body r v v' →
+one_sent : (sent : List Body) (v v' : RankView) (tag : ℕ) (body : Body) (r : Req) →
+    StartsSend (sent_by v tag body) body r v v' →
     length (sends v.events 0) ≡ length sent → length (sends v'.events 0) ≡ length (sent ++ body ∷ [])
 one_sent sent v v' tag body r is many =
     let s : Sent = sent_by v tag body in

@@ -10,11 +10,11 @@ pub invariant_of-self-2 : goal.invariant_of-self-2
 invariant_of-self-2 c =
     let p = c.self.inside in
     let i = c.self.invariant in
-    let takes = c.in_ok-ran.ensures.takes in (
-      subst (λ (r : Live). AreLive r p.requests.entries) (sym takes.3) i.0,
+    let records = c.in_ok-ran.ensures.records in (
+      subst (λ (r : Live). AreLive r p.requests.entries) (sym records.requests) i.0,
       all_held p.rank.events c.ran.new.self.events p.handles.entries
-          (λ x held. subst (λ (h : List Event). IsHeld h x) (sym c.in_ok-ran.ensures.noted.events)
+          (λ x held. subst (λ (h : List Event). IsHeld h x) (sym records.noted.events)
           (held_after x p.rank.events _ (tt, tt) held)) i.1,
-      i.2 ∙ sym takes.0.me,
+      i.2 ∙ sym records.takes.me,
       i.3,
     )

@@ -1,24 +1,19 @@
 -- A process cancels a request.
-use Rattle.std.proofs.Common.{◌≡◌, ◌⊎◌, inr, ℕ, Option, Some, List, [], refl, sym, subst, ap, ◌∙◌, arith}
+use Rattle.std.proofs.Common.{◌≡◌, ◌⊎◌, inr, Option, Some, List, [], refl, sym, subst, ap, ◌∙◌, arith}
 use Rattle.std.specs.Prelude.{option_map, option_and_then, nat_eq}
 use Rattle.std.specs.Map.{lookup}
 use Rattle.nm_types.specs.declared.answers.Answer.{Answer}
 use Rattle.nm_history.specs.declared.events.Event.{Event}
-use Rattle.nm_history.specs.Sends.{Sent}
 use Rattle.nm_request.specs.declared.Kind.{Kind}
 use Rattle.nm_request.specs.declared.Req.{Req}
 use Rattle.nm_request.specs.Requests.{Live, kind_of}
-use Rattle.nm_rank.specs.declared.answers.Cancelled.{Cancelled}
-use Rattle.nm_rank.specs.Calls.{Happens}
 use Rattle.nm_rank.specs.Ranks.{request_of}
-use Rattle.nm_rank.specs.Requests.{cancel_answer, cancel_events, offers_cancelled}
 use Rattle.nm_process.specs.Names.{AreLive, IsHeld}
 use Rattle.nm_process.specs.Processes.{ProcessView}
-use Rattle.nm_process.specs.Starts.{HasAnswered, HasCancelled, IsNull, answer_for}
+use Rattle.nm_process.specs.Starts.{HasAnswered, HasCancelled, IsNull}
 use Rattle.nm_process.proofs.HeldLemmas.{all_held, held_after}
 use Rattle.nm_process.proofs.StartLemmas.{cancel_leaves, cancel_short, on_ok}
 use Rattle.nm_process.proofs.processes.Process.cancel.Goals as goal
-use Rattle.nm_types.proofs.OptionLemmas.{if_some, some_and}
 
 pub invariant_of-self : goal.invariant_of-self
 invariant_of-self c =
@@ -26,37 +21,26 @@ invariant_of-self c =
     let i = c.self.invariant in
     let v = p.rank in
     let w = c.cancel.new.self in
-    let takes = c.in-Ok.ensures.takes in
-    let k = some_and (λ k. c.in-Ok.cancelled ≡ cancel_answer v.events k)
-    (kind_of v.requests c.in-Some.request) c.in-Ok.ensures.answer in
-    let happened = if_some (λ k. (bodies : Sent → List ℕ) →
-    Happens bodies v.clock (cancel_events v.events k) v w) (kind_of v.requests c.in-Some.request) k.0
-    k.1
-    c.in-Ok.ensures.happened (λ s. []) in (
-      subst (λ (r : Live). AreLive r p.requests.entries) (sym takes.1) i.0,
+    let is = c.in-Ok.ensures.cancels in (
+      subst (λ (r : Live). AreLive r p.requests.entries) (sym is.requests) i.0,
       all_held v.events w.events p.handles.entries
-          (λ x held. subst (λ (h : List Event). IsHeld h x) (sym happened.events)
-          (held_after x v.events _ (cancel_leaves x v.events v.clock k.0) held)) i.1,
-      i.2 ∙ sym takes.0.me,
+          (λ x held. subst (λ (h : List Event). IsHeld h x) (sym (is.happened (λ s. [])).events)
+          (held_after x v.events _ (cancel_leaves x v.events v.clock is.kind) held)) i.1,
+      i.2 ∙ sym is.takes.me,
       i.3,
     )
 
 pub answer-requires-in-Ok : goal.answer-requires-in-Ok
 answer-requires-in-Ok c =
     let v = c.self.inside.rank in
-    let w = c.cancel.new.self in
-    let k = some_and (λ k. c.in-Ok.cancelled ≡ cancel_answer v.events k)
-    (kind_of v.requests c.in-Some.request) c.in-Ok.ensures.answer in
-    let happened = if_some (λ k. (bodies : Sent → List ℕ) →
-    Happens bodies v.clock (cancel_events v.events k) v w) (kind_of v.requests c.in-Some.request) k.0
-    k.1
-    c.in-Ok.ensures.happened (λ s. []) in
+    let is = c.in-Ok.ensures.cancels in
+    let happened = is.happened (λ s. []) in
     let same = ap (λ (v : ProcessView). v.rank.clock) c.self.view_is in
     record {
       in_time = omega (
         arith,
         happened.clock,
-        cancel_short v.events k.0,
+        cancel_short v.events is.kind,
         c.requires.fresh.clock,
         same,
       );
@@ -69,7 +53,7 @@ returns-in-Ok-clause-tried c =
     let w = c.cancel.new.self in
     let q = c.args.q in
     let b = c.answer-in-Ok.new.self in
-    let takes = c.in-Ok.ensures.takes in
+    let is = c.in-Ok.ensures.cancels in
     let a : ProcessView = record {
       rank = v;
       at = p.at;
@@ -79,25 +63,17 @@ returns-in-Ok-clause-tried c =
       handles = p.handles.entries;
     } in
     let mid : ProcessView = record a { rank = w } in
-    let k = some_and (λ k. c.in-Ok.cancelled ≡ cancel_answer v.events k)
-    (kind_of v.requests c.in-Some.request) c.in-Ok.ensures.answer in
     let named : lookup (nat_eq q) p.requests.entries ≡ Some c.in-Some.request = sym c.request_of_name.ensures
     ∙ c.in-Some.is in
     on_ok c.answer-in-Ok.result (λ answered.
     subst (λ (v : ProcessView). IsNull v b q c.args.line ⊎ HasCancelled v b q c.args.line) c.self.view_is
     (inr (record {
       mid = mid;
-      kind = k.0;
+      request = c.in-Some.request;
+      answer = c.in-Ok.cancelled;
+      cancels = is;
       live = ap (λ (o : Option Req). option_map request_of (option_and_then (kind_of v.requests) o)) named
-          ∙ ap (λ (k : Option Kind). option_map request_of k) k.1;
-      happened = if_some (λ k. (bodies : Sent → List ℕ) →
-          Happens bodies v.clock (cancel_events v.events k) v w) (kind_of v.requests c.in-Some.request)
-          k.0 k.1 c.in-Ok.ensures.happened;
-      offers = if_some (λ k. w.sending.offers ≡ offers_cancelled v.events k v.sending.offers)
-          (kind_of v.requests c.in-Some.request) k.0 k.1 c.in-Ok.ensures.offers;
-      takes = takes.0;
-      requests = takes.1;
+          ∙ ap (λ (k : Option Kind). option_map request_of k) is.live;
       others = refl;
-      answered = subst (λ (x : Cancelled). HasAnswered mid b c.args.line (answer_for x)) k.2
-          (subst (λ (x : Answer). HasAnswered mid b c.args.line x) c.answer_for.ensures answered);
+      answered = subst (λ (x : Answer). HasAnswered mid b c.args.line x) c.answer_for.ensures answered;
     }))) c.answer-in-Ok.ensures.answered

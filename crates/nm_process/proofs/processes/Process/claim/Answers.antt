@@ -1,11 +1,10 @@
 -- A process claims a message.
-use Rattle.std.proofs.Common.{◌≡◌, ℕ, Option, List, [], ◌∷◌, sym, subst, ◌∙◌}
+use Rattle.std.proofs.Common.{◌≡◌, ℕ, Option, List, sym, subst, ◌∙◌}
 use Rattle.std.specs.Prelude.{MatchOption}
 use Rattle.nm_types.specs.declared.messages.Arrival.{Arrival}
 use Rattle.nm_history.specs.declared.events.Event.{Event}
-use Rattle.nm_history.specs.declared.events.Happened.TheVariants.{Claim}
 use Rattle.nm_request.specs.Requests.{Live}
-use Rattle.nm_rank.specs.Calls.{Notes}
+use Rattle.nm_rank.specs.Steps.{Claims}
 use Rattle.nm_process.specs.declared.steps.Handle.{Handle}
 use Rattle.nm_process.specs.Names.{AreHeld, AreLive, IsHeld}
 use Rattle.nm_process.proofs.HeldLemmas.{all_held, claimed_held, first_unheld, held_after, held_set}
@@ -19,17 +18,15 @@ invariant_of-self-in_err-insert c =
     let w = c.improbe.new.self in
     let g = c.args in
     let a = c.in-Some.message in
-    let takes = c.in_ok-message.ensures.takes in
-    let notes : Notes (Claim a.env.from a.n g.line ∷ []) v w =
-    subst (λ (o : Option Arrival). MatchOption o (w ≡ v)
-    (λ a. Notes (Claim a.env.from a.n g.line ∷ []) v w)) c.in-Some.is
-    c.in_ok-message.ensures.claimed in
+    let claims : Claims a g.line v w =
+    subst (λ (o : Option Arrival). MatchOption o (w ≡ v) (λ a. Claims a g.line v w)) c.in-Some.is
+    c.in_ok-message.ensures.claims in
     let held : AreHeld w.events p.handles.entries = all_held v.events w.events p.handles.entries
-    (λ x held. subst (λ (h : List Event). IsHeld h x) (sym notes.events)
+    (λ x held. subst (λ (h : List Event). IsHeld h x) (sym claims.claimed.events)
     (held_after x v.events _ (tt, tt) held)) i.1 in (
-      subst (λ (r : Live). AreLive r p.requests.entries) (sym takes.2) i.0,
+      subst (λ (r : Live). AreLive r p.requests.entries) (sym claims.requests) i.0,
       subst (λ (es : List (ℕ × Handle)). AreHeld w.events es) (sym c.in_err-insert.ensures.err) held,
-      i.2 ∙ sym takes.0.me,
+      i.2 ∙ sym claims.takes.me,
       i.3,
     )
 
@@ -41,22 +38,20 @@ invariant_of-self-2 c =
     let w = c.improbe.new.self in
     let g = c.args in
     let a = c.in-Some.message in
-    let takes = c.in_ok-message.ensures.takes in
-    let notes : Notes (Claim a.env.from a.n g.line ∷ []) v w =
-    subst (λ (o : Option Arrival). MatchOption o (w ≡ v)
-    (λ a. Notes (Claim a.env.from a.n g.line ∷ []) v w)) c.in-Some.is
-    c.in_ok-message.ensures.claimed in
+    let claims : Claims a g.line v w =
+    subst (λ (o : Option Arrival). MatchOption o (w ≡ v) (λ a. Claims a g.line v w)) c.in-Some.is
+    c.in_ok-message.ensures.claims in
     let first = sym c.in_ok-message.ensures.oldest ∙ c.in-Some.is in
     let held : AreHeld w.events p.handles.entries = all_held v.events w.events p.handles.entries
-    (λ x held. subst (λ (h : List Event). IsHeld h x) (sym notes.events)
+    (λ x held. subst (λ (h : List Event). IsHeld h x) (sym claims.claimed.events)
     (held_after x v.events _ (tt, tt) held)) i.1 in (
-      subst (λ (r : Live). AreLive r p.requests.entries) (sym takes.2) i.0,
+      subst (λ (r : Live). AreLive r p.requests.entries) (sym claims.requests) i.0,
       held_set w.events p.handles.entries c.insert.new.self.entries g.m
           (record { from = a.env.from; n = a.n }) held
-          (subst (λ (h : List Event). IsHeld h (record { from = a.env.from; n = a.n })) (sym notes.events)
+          (subst (λ (h : List Event). IsHeld h (record { from = a.env.from; n = a.n })) (sym claims.claimed.events)
           (claimed_held v.events g.from g.tag g.ctx _ g.line a first))
           (first_unheld v.events g.from g.tag g.ctx a p.handles.entries first i.1)
           c.in_ok-insert.ensures.updates.0,
-      i.2 ∙ sym takes.0.me,
+      i.2 ∙ sym claims.takes.me,
       i.3,
     )

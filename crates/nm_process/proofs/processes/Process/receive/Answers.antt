@@ -5,6 +5,7 @@ use Rattle.std.specs.Map.{lookup}
 use Rattle.nm_history.specs.Matching.{first_message, matched_pairs}
 use Rattle.nm_history.specs.Sends.{Sent, receives}
 use Rattle.nm_request.specs.declared.Kind.TheVariants as kind
+use Rattle.nm_rank.specs.Steps.{StartsReceive}
 use Rattle.nm_process.specs.Processes.{ProcessView}
 use Rattle.nm_process.specs.Starts.{HasTriedReceive}
 use Rattle.nm_process.proofs.NameLemmas.{live_more, new_older, new_unnamed}
@@ -18,7 +19,7 @@ invariant_of-self-2 c =
     let p = c.self.inside in
     let i = c.self.invariant in
     let bodies : Sent → List ℕ = λ s. [] in
-    let starts = c.in_ok-request.ensures.started bodies in (
+    let starts = c.in_ok-request.ensures.starts.started bodies in (
       live_more p.rank.requests c.irecv.new.self.requests c.in_ok-request.request _ starts.request
           p.requests.entries i.0,
       start_keeps bodies _ _ p.rank c.irecv.new.self c.in_ok-request.request p.handles.entries starts
@@ -31,19 +32,19 @@ invariant_of-self-2 c =
 
 pub name-requires-clause-live : goal.name-requires-clause-live
 name-requires-clause-live c =
-    let starts = c.in_ok-request.ensures.started (λ s. []) in
+    let starts = c.in_ok-request.ensures.starts.started (λ s. []) in
     new_older c.self.inside.rank.requests c.irecv.new.self.requests c.in_ok-request.request _
     starts.request c.self.inside.requests.entries c.self.invariant.0
 
 pub name-requires-clause-unnamed : goal.name-requires-clause-unnamed
 name-requires-clause-unnamed c =
-    let starts = c.in_ok-request.ensures.started (λ s. []) in
+    let starts = c.in_ok-request.ensures.starts.started (λ s. []) in
     new_unnamed c.self.inside.rank.requests c.irecv.new.self.requests c.in_ok-request.request _
     starts.request c.self.inside.requests.entries c.self.invariant.0
 
 pub answer-requires-2 : goal.answer-requires-2
 answer-requires-2 c =
-    let starts = c.in_ok-request.ensures.started (λ s. []) in
+    let starts = c.in_ok-request.ensures.starts.started (λ s. []) in
     let same = ap (λ (v : ProcessView). v.rank.clock) c.self.view_is in
     let clock = ap (λ v. v.clock) c.in_ok-name.ensures.same.0 in
     let short = taken-few (first_message c.self.inside.rank.events
@@ -69,10 +70,11 @@ returns-clause-tried c =
     on_ok c.answer-2.result (λ answered.
     subst (λ (v : ProcessView). HasTriedReceive v b g.q g.from g.tag g.ctx g.cap g.line) c.self.view_is
     (inr (
-      start_answered (λ bodies. Unit {0}) p.rank.sending.offers _
+      start_answered (StartsReceive g.from g.tag g.ctx g.cap g.line)
           (kind.Receive (length (receives p.rank.events))) a c.name.new.self b
-          c.irecv.new.self c.in_ok-request.request g.q g.line (λ s. []) tt c.self.invariant.0 free
-          (λ bodies fits. c.in_ok-request.ensures.started bodies) c.in_ok-request.ensures.offers
+          c.irecv.new.self c.in_ok-request.request g.q g.line
+          (c.in_ok-request.ensures.starts.started (λ s. [])).request c.self.invariant.0 free
+          c.in_ok-request.ensures.starts
           c.in_ok-name.ensures.same.0 c.in_ok-name.ensures.named (places.1, places.0) answered,
       keeps_handles a c.name.new.self b g.line _ (places.1, places.0) c.in_ok-name.ensures.same.1 answered,
     ))) c.answer-2.ensures.answered

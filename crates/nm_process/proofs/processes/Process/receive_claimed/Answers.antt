@@ -6,6 +6,7 @@ use Rattle.std.specs.Map.{lookup}
 use Rattle.nm_history.specs.declared.events.Event.{Event}
 use Rattle.nm_history.specs.Sends.{Sent, message_of, receives}
 use Rattle.nm_request.specs.declared.Kind.TheVariants as kind
+use Rattle.nm_rank.specs.Steps.{StartsMatched}
 use Rattle.nm_process.specs.declared.steps.Handle.{Handle}
 use Rattle.nm_process.specs.Names.{IsHeld, message_with}
 use Rattle.nm_process.specs.Processes.{ProcessView}
@@ -22,7 +23,7 @@ invariant_of-self-2 c =
     let i = c.self.invariant in
     let x = c.in-Some.handle in
     let bodies : Sent → List ℕ = λ s. [] in
-    let starts = c.in_ok-request.ensures.started bodies in
+    let starts = c.in_ok-request.ensures.starts.started bodies in
     let named : lookup (nat_eq c.args.m) p.handles.entries ≡ Some x = sym c.message_of_handle.ensures
     ∙ c.in-Some.is in (
       live_more p.rank.requests c.imrecv.new.self.requests c.in_ok-request.request _ starts.request
@@ -39,19 +40,19 @@ invariant_of-self-2 c =
 
 pub name-requires-clause-live : goal.name-requires-clause-live
 name-requires-clause-live c =
-    let starts = c.in_ok-request.ensures.started (λ s. []) in
+    let starts = c.in_ok-request.ensures.starts.started (λ s. []) in
     new_older c.self.inside.rank.requests c.imrecv.new.self.requests c.in_ok-request.request _
     starts.request c.self.inside.requests.entries c.self.invariant.0
 
 pub name-requires-clause-unnamed : goal.name-requires-clause-unnamed
 name-requires-clause-unnamed c =
-    let starts = c.in_ok-request.ensures.started (λ s. []) in
+    let starts = c.in_ok-request.ensures.starts.started (λ s. []) in
     new_unnamed c.self.inside.rank.requests c.imrecv.new.self.requests c.in_ok-request.request _
     starts.request c.self.inside.requests.entries c.self.invariant.0
 
 pub answer-requires-2 : goal.answer-requires-2
 answer-requires-2 c =
-    let starts = c.in_ok-request.ensures.started (λ s. []) in
+    let starts = c.in_ok-request.ensures.starts.started (λ s. []) in
     let same = ap (λ (v : ProcessView). v.rank.clock) c.self.view_is in
     let clock = ap (λ v. v.clock) c.in_ok-name.ensures.same.0 in
     let short = taken-few (message_of c.self.inside.rank.events c.in-Some.handle.from
@@ -89,10 +90,11 @@ returns-clause-tried c =
       message = message_with x;
       held = ap (λ (o : Option Handle). option_map message_with o) named;
       claimed = held.claimed;
-      started = start_answered (λ bodies. Unit {0}) p.rank.sending.offers _
+      started = start_answered (StartsMatched x.from x.n g.cap g.line)
           (kind.Receive (length (receives p.rank.events))) a mid b
-          c.imrecv.new.self c.in_ok-request.request g.q g.line (λ s. []) tt c.self.invariant.0 free
-          (λ bodies fits. c.in_ok-request.ensures.started bodies) c.in_ok-request.ensures.offers
+          c.imrecv.new.self c.in_ok-request.request g.q g.line
+          (c.in_ok-request.ensures.starts.started (λ s. [])).request c.self.invariant.0 free
+          c.in_ok-request.ensures.starts
           c.in_ok-name.ensures.same.0 c.in_ok-name.ensures.named (places.1, places.0) answered;
       handles = record {
         own = ap (λ (es : List (ℕ × Handle)). option_map message_with (lookup (nat_eq g.m) es)) handles

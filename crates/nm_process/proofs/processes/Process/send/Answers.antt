@@ -1,12 +1,14 @@
 -- A process starts a send.
-use Rattle.std.proofs.Common.{◌≡◌, inr, ℕ, List, length, refl, sym, ◌∙◌, ap, subst, arith}
+use Rattle.std.proofs.Common.{inr, ℕ, List, length, refl, sym, ◌∙◌, ap, subst, arith}
 use Rattle.std.specs.Prelude.{nat_eq}
 use Rattle.std.specs.Map.{lookup}
 use Rattle.nm_types.specs.Bodies.{bytes_of}
 use Rattle.nm_history.specs.Sends.{Sent, sends}
 use Rattle.nm_request.specs.declared.Kind.TheVariants as kind
+use Rattle.nm_rank.specs.Sends.{next_send}
+use Rattle.nm_rank.specs.Steps.{StartsSend}
 use Rattle.nm_process.specs.Processes.{ProcessView}
-use Rattle.nm_process.specs.Starts.{HasTriedSend, offers_sent, sent_now}
+use Rattle.nm_process.specs.Starts.{HasTriedSend}
 use Rattle.nm_process.proofs.NameLemmas.{live_more, new_older, new_unnamed}
 use Rattle.nm_process.proofs.StartLemmas.{keeps_handles, none_found, on_ok, start_answered, start_keeps}
 use Rattle.nm_process.proofs.processes.Process.send.Goals as goal
@@ -16,7 +18,7 @@ invariant_of-self-2 c =
     let p = c.self.inside in
     let i = c.self.invariant in
     let bodies : Sent → List ℕ = λ s. bytes_of c.args.body.now in
-    let starts = c.in_ok-request.ensures.started bodies refl in (
+    let starts = c.in_ok-request.ensures.starts.started bodies refl in (
       live_more p.rank.requests c.send_copy.new.rank.requests c.in_ok-request.request _ starts.request
           p.requests.entries i.0,
       start_keeps bodies _ _ p.rank c.send_copy.new.rank c.in_ok-request.request p.handles.entries starts
@@ -27,19 +29,19 @@ invariant_of-self-2 c =
 
 pub name-requires-clause-live : goal.name-requires-clause-live
 name-requires-clause-live c =
-    let starts = c.in_ok-request.ensures.started (λ s. bytes_of c.args.body.now) refl in
+    let starts = c.in_ok-request.ensures.starts.started (λ s. bytes_of c.args.body.now) refl in
     new_older c.self.inside.rank.requests c.send_copy.new.rank.requests c.in_ok-request.request _
     starts.request c.self.inside.requests.entries c.self.invariant.0
 
 pub name-requires-clause-unnamed : goal.name-requires-clause-unnamed
 name-requires-clause-unnamed c =
-    let starts = c.in_ok-request.ensures.started (λ s. bytes_of c.args.body.now) refl in
+    let starts = c.in_ok-request.ensures.starts.started (λ s. bytes_of c.args.body.now) refl in
     new_unnamed c.self.inside.rank.requests c.send_copy.new.rank.requests c.in_ok-request.request _
     starts.request c.self.inside.requests.entries c.self.invariant.0
 
 pub answer-requires-2 : goal.answer-requires-2
 answer-requires-2 c =
-    let starts = c.in_ok-request.ensures.started (λ s. bytes_of c.args.body.now) refl in
+    let starts = c.in_ok-request.ensures.starts.started (λ s. bytes_of c.args.body.now) refl in
     let same = ap (λ (v : ProcessView). v.rank.clock) c.self.view_is in
     let clock = ap (λ v. v.clock) c.in_ok-name.ensures.same.0 in
     record { in_time = omega (arith, starts.happened.clock, c.requires.fresh.clock, same, clock) }
@@ -58,17 +60,17 @@ returns-clause-tried c =
     } in
     let b = c.answer-2.new.self in
     let n = length (sends p.rank.events g.to) in
-    let body = c.args.body.now in
     let places = c.in_ok-name.ensures.places in
     let free = none_found c.contains_key.result (lookup (nat_eq g.q) p.requests.entries)
     c.if-contains_key.false c.contains_key.ensures in
     on_ok c.answer-2.result (λ answered.
     subst (λ (v : ProcessView). HasTriedSend v b g.q g.to g.tag g.ctx g.body.now g.sync g.line)
     c.self.view_is (inr (
-      start_answered (λ bodies. bodies (sent_now p.rank g.to g.tag g.ctx body g.sync g.line)
-          ≡ bytes_of body) (offers_sent p.rank g.to body g.sync) _ (kind.Send g.to n) a c.name.new.self b
-          c.send_copy.new.rank c.in_ok-request.request g.q g.line (λ s. bytes_of body) refl c.self.invariant.0
-          free c.in_ok-request.ensures.started c.in_ok-request.ensures.offers
+      start_answered (StartsSend (next_send p.rank g.to g.tag g.ctx g.body.now g.sync g.line) g.body.now)
+          (kind.Send g.to n) a c.name.new.self b
+          c.send_copy.new.rank c.in_ok-request.request g.q g.line
+          (c.in_ok-request.ensures.starts.started (λ s. bytes_of g.body.now) refl).request c.self.invariant.0
+          free c.in_ok-request.ensures.starts
           c.in_ok-name.ensures.same.0 c.in_ok-name.ensures.named (places.1, places.0) answered,
       keeps_handles a c.name.new.self b g.line _ (places.1, places.0) c.in_ok-name.ensures.same.1 answered,
     ))) c.answer-2.ensures.answered

@@ -1,16 +1,17 @@
-use Rattle.std.proofs.Common.{◌≡◌, ℕ, List, Some, refl, sym, ◌∙◌, ap, subst, arith}
-use Rattle.std.specs.Prelude.{map, IfSome}
-use Rattle.nm_history.specs.Sends.{Sent}
+use Rattle.std.proofs.Common.{◌≡◌, List, Some, refl, sym, ◌∙◌, ap, subst, arith}
+use Rattle.std.specs.Prelude.{map}
 use Rattle.nm_request.specs.declared.Kind.TheVariants as kind
 use Rattle.nm_request.specs.Requests.{kind_of}
 use Rattle.nm_sending.specs.Departures.{SendingView}
 use Rattle.nm_sending.specs.Sent.{AreSent}
-use Rattle.nm_rank.specs.Calls.{Happens, TakesNone}
+use Rattle.nm_rank.specs.declared.answers.Cancelled.TheVariants.{Asked}
+use Rattle.nm_rank.specs.Calls.{Happens}
 use Rattle.nm_rank.specs.Ranks.{RankView, seen}
 use Rattle.nm_rndv.specs.Offers.{Offering}
 use Rattle.nm_rank.specs.Requests.{cancel_events, offers_cancelled}
+use Rattle.nm_rank.specs.Steps.{Cancels}
 use Rattle.nm_history.specs.declared.events.Event.{Event}
-use Rattle.nm_rank.proofs.CancelLemmas.{cancel-order, cancel-takes, fields-cancel, fields-recall, if-live, recall-puts}
+use Rattle.nm_rank.proofs.CancelLemmas.{cancel-order, cancel-takes, fields-cancel, fields-recall, recall-puts}
 use Rattle.nm_rank.proofs.PutLemmas.{cancel-leaves, puts-none}
 use Rattle.nm_rank.proofs.ViewLemmas.{happens-room, same-events, same-offers}
 use Rattle.nm_rank.proofs.FinishLemmas.{found, was-started}
@@ -73,90 +74,60 @@ invariant_of-self-in-Send c =
     c.recall.new.sending.offers (c.in_ok-recall-in-Send.ensures.offers h roomy.history.sent))
     puts.me puts.popped
 
-pub returns-in_ok-recall-in-Send-clause-happened : goal.returns-in_ok-recall-in-Send-clause-happened
-returns-in_ok-recall-in-Send-clause-happened c =
+pub returns-in_ok-recall-in-Send-clause-cancels : goal.returns-in_ok-recall-in-Send-clause-cancels
+returns-in_ok-recall-in-Send-clause-cancels c =
     let a = c.self.inside in
+    let known = map (λ s. s.known) a.streams.items in
     let roomy = fields-room a.me a.shape a.journal c.make_room.new.journal a.sending c.make_room.new.sending
-    a.receiving (map (λ s. s.known) a.streams.items) a.requests c.make_room.new.requests a.took.items
-    a.pulled.items
+    a.receiving known a.requests c.make_room.new.requests a.took.items a.pulled.items
     c.make_room.ensures.events c.make_room.ensures.kept c.make_room.ensures.letters
     c.make_room.ensures.requests c.self.invariant in
+    let to = c.in-Send.to in
+    let n = c.in-Send.n in
     let live : kind_of a.requests c.args.r ≡ Some (kind.Send c.in-Send.to c.in-Send.n) =
     found (kind_of a.requests c.args.r) c.in-Ok.kind _ (sym c.in-Ok.is ∙ c.get.ensures.kind)
     ∙ ap Some c.in-Send.is in
     let h = c.make_room.new.journal.events in
     let k = c.make_room.new.journal.clock in
-    let to = c.in-Send.to in
-    let n = c.in-Send.n in
     let clock = c.in_ok-recall-in-Send.ensures.clock h roomy.history.sent in
-    subst (λ (v : RankView). IfSome (kind_of v.requests c.args.r) (λ k. (bodies : Sent → List ℕ) →
-    Happens bodies v.clock (cancel_events v.events k) v
-    (seen a.me a.shape c.recall.new.journal c.recall.new.sending a.receiving
-    (map (λ s. s.known) a.streams.items) c.make_room.new.requests a.took.items a.pulled.items a.strays)))
-    c.self.view_is
-    (if-live (kind_of a.requests c.args.r) (kind.Send to n) _ live
-    (λ bodies. subst (λ (events : List Event). Happens bodies a.journal.clock
-    (cancel_events events (kind.Send to n))
-    (seen a.me a.shape a.journal a.sending a.receiving (map (λ s. s.known) a.streams.items) a.requests
-    a.took.items a.pulled.items a.strays)
+    let takes = cancel-takes a.me a.shape a.journal c.recall.new.journal a.sending c.recall.new.sending a.receiving
+    a.receiving known a.requests c.make_room.new.requests a.took.items a.pulled.items a.strays refl
+    c.make_room.ensures.requests in
+    subst (λ (v : RankView). Cancels c.args.r Asked v
     (seen a.me a.shape c.recall.new.journal c.recall.new.sending a.receiving
     (map (λ s. s.known) a.streams.items) c.make_room.new.requests a.took.items a.pulled.items a.strays))
-    (same-events a.journal c.make_room.new.journal c.make_room.ensures.events)
-    (happens-room bodies a.me a.shape a.journal c.make_room.new.journal c.recall.new.journal
-    a.sending c.make_room.new.sending c.recall.new.sending a.receiving a.receiving
-    (map (λ s. s.known) a.streams.items) a.requests c.make_room.new.requests a.took.items a.pulled.items
-    a.strays (cancel_events h (kind.Send to n)) c.make_room.ensures.events c.make_room.ensures.letters
-    (c.in_ok-recall-in-Send.ensures.events h roomy.history.sent) clock (cancel-leaves h (kind.Send to n))
-    (recall-puts bodies h k to n c.recall.new.journal.clock c.make_room.new.sending.outbox
-    c.recall.new.sending.outbox clock
-    (λ called below. c.in_ok-recall-in-Send.ensures.puts h called roomy.history.sent below))
-    c.in_ok-recall-in-Send.ensures.pushed)))
+    c.self.view_is (record {
+      kind = kind.Send to n;
+      live = live;
+      answered = refl;
+      happened = λ bodies. subst (λ (events : List Event). Happens bodies a.journal.clock
+          (cancel_events events (kind.Send to n))
+          (seen a.me a.shape a.journal a.sending a.receiving (map (λ s. s.known) a.streams.items) a.requests
+          a.took.items a.pulled.items a.strays)
+          (seen a.me a.shape c.recall.new.journal c.recall.new.sending a.receiving
+          (map (λ s. s.known) a.streams.items) c.make_room.new.requests a.took.items a.pulled.items a.strays))
+          (same-events a.journal c.make_room.new.journal c.make_room.ensures.events)
+          (happens-room bodies a.me a.shape a.journal c.make_room.new.journal c.recall.new.journal
+          a.sending c.make_room.new.sending c.recall.new.sending a.receiving a.receiving
+          (map (λ s. s.known) a.streams.items) a.requests c.make_room.new.requests a.took.items a.pulled.items
+          a.strays (cancel_events h (kind.Send to n)) c.make_room.ensures.events c.make_room.ensures.letters
+          (c.in_ok-recall-in-Send.ensures.events h roomy.history.sent) clock (cancel-leaves h (kind.Send to n))
+          (recall-puts bodies h k to n c.recall.new.journal.clock c.make_room.new.sending.outbox
+          c.recall.new.sending.outbox clock
+          (λ called below. c.in_ok-recall-in-Send.ensures.puts h called roomy.history.sent below))
+          c.in_ok-recall-in-Send.ensures.pushed);
+      offers = c.in_ok-recall-in-Send.ensures.offers h roomy.history.sent
+          ∙ ap (λ (o : Offering). offers_cancelled h (kind.Send c.in-Send.to c.in-Send.n) o)
+          (same-offers a.sending c.make_room.new.sending c.make_room.ensures.letters)
+          ∙ ap (λ (events : List Event). offers_cancelled events (kind.Send c.in-Send.to c.in-Send.n)
+          a.sending.offers)
+          (same-events a.journal c.make_room.new.journal c.make_room.ensures.events);
+      takes = takes.0;
+      requests = takes.1;
+    })
 
-pub returns-in_ok-recall-in-Send-clause-offers : goal.returns-in_ok-recall-in-Send-clause-offers
-returns-in_ok-recall-in-Send-clause-offers c =
-    let a = c.self.inside in
-    let roomy = fields-room a.me a.shape a.journal c.make_room.new.journal a.sending c.make_room.new.sending
-    a.receiving (map (λ s. s.known) a.streams.items) a.requests c.make_room.new.requests a.took.items
-    a.pulled.items
-    c.make_room.ensures.events c.make_room.ensures.kept c.make_room.ensures.letters
-    c.make_room.ensures.requests c.self.invariant in
-    let live : kind_of a.requests c.args.r ≡ Some (kind.Send c.in-Send.to c.in-Send.n) =
-    found (kind_of a.requests c.args.r) c.in-Ok.kind _ (sym c.in-Ok.is ∙ c.get.ensures.kind)
-    ∙ ap Some c.in-Send.is in
-    let h = c.make_room.new.journal.events in
-    let made = c.in_ok-recall-in-Send.ensures.offers h roomy.history.sent
-    ∙ ap (λ (o : Offering). offers_cancelled h (kind.Send c.in-Send.to c.in-Send.n) o)
-    (same-offers a.sending c.make_room.new.sending c.make_room.ensures.letters)
-    ∙ ap (λ (events : List Event). offers_cancelled events (kind.Send c.in-Send.to c.in-Send.n) a.sending.offers)
-    (same-events a.journal c.make_room.new.journal c.make_room.ensures.events) in
-    subst (λ (v : RankView). IfSome (kind_of v.requests c.args.r) (λ k. c.recall.new.sending.offers
-    ≡ offers_cancelled v.events k v.sending.offers)) c.self.view_is
-    (if-live (kind_of a.requests c.args.r) (kind.Send c.in-Send.to c.in-Send.n) _ live made)
-
-pub returns-in_ok-recall-in-Send-clause-takes : goal.returns-in_ok-recall-in-Send-clause-takes
-returns-in_ok-recall-in-Send-clause-takes c =
-    let a = c.self.inside in
-    let known = map (λ s. s.known) a.streams.items in
-    subst (λ (v : RankView). TakesNone v (seen a.me a.shape c.recall.new.journal c.recall.new.sending a.receiving
-    known c.make_room.new.requests a.took.items a.pulled.items a.strays)
-    × (record c.make_room.new.requests { spare = 0 } ≡ v.requests)) c.self.view_is
-    (cancel-takes a.me a.shape a.journal c.recall.new.journal a.sending c.recall.new.sending a.receiving a.receiving
-    known a.requests c.make_room.new.requests a.took.items a.pulled.items a.strays refl
-    c.make_room.ensures.requests)
-
-pub returns-in-Receive-clause-takes : goal.returns-in-Receive-clause-takes
-returns-in-Receive-clause-takes c =
-    let a = c.self.inside in
-    let known = map (λ s. s.known) a.streams.items in
-    subst (λ (v : RankView). TakesNone v (seen a.me a.shape c.cancel_receive.new.journal c.make_room.new.sending
-    c.cancel_receive.new.receiving known c.make_room.new.requests a.took.items a.pulled.items a.strays)
-    × (record c.make_room.new.requests { spare = 0 } ≡ v.requests)) c.self.view_is
-    (cancel-takes a.me a.shape a.journal c.cancel_receive.new.journal a.sending c.make_room.new.sending a.receiving
-    c.cancel_receive.new.receiving known a.requests c.make_room.new.requests a.took.items a.pulled.items a.strays
-    c.cancel_receive.ensures.same.0 c.make_room.ensures.requests)
-
-pub returns-in-Receive-clause-happened : goal.returns-in-Receive-clause-happened
-returns-in-Receive-clause-happened c =
+pub returns-in-Receive-clause-cancels : goal.returns-in-Receive-clause-cancels
+returns-in-Receive-clause-cancels c =
     let a = c.self.inside in
     let known = map (λ s. s.known) a.streams.items in
     let roomy = fields-room a.me a.shape a.journal c.make_room.new.journal a.sending c.make_room.new.sending
@@ -168,22 +139,30 @@ returns-in-Receive-clause-happened c =
     found (kind_of a.requests c.args.r) c.in-Ok.kind _ (sym c.in-Ok.is ∙ c.get.ensures.kind)
     ∙ ap Some c.in-Receive.is in
     let h = c.make_room.new.journal.events in
-    subst (λ (v : RankView). IfSome (kind_of v.requests c.args.r) (λ k. (bodies : Sent → List ℕ) →
-    Happens bodies v.clock (cancel_events v.events k) v
-    (seen a.me a.shape c.cancel_receive.new.journal c.make_room.new.sending c.cancel_receive.new.receiving
-    (map (λ s. s.known) a.streams.items) c.make_room.new.requests a.took.items a.pulled.items a.strays)))
-    c.self.view_is
-    (if-live (kind_of a.requests c.args.r) (kind.Receive number) _ live
-    (λ bodies. subst (λ (events : List Event). Happens bodies a.journal.clock
-    (cancel_events events (kind.Receive number))
-    (seen a.me a.shape a.journal a.sending a.receiving (map (λ s. s.known) a.streams.items) a.requests
-    a.took.items a.pulled.items a.strays)
+    let takes = cancel-takes a.me a.shape a.journal c.cancel_receive.new.journal a.sending c.make_room.new.sending
+    a.receiving c.cancel_receive.new.receiving known a.requests c.make_room.new.requests a.took.items a.pulled.items
+    a.strays c.cancel_receive.ensures.same.0 c.make_room.ensures.requests in
+    subst (λ (v : RankView). Cancels c.args.r c.cancel_receive.result v
     (seen a.me a.shape c.cancel_receive.new.journal c.make_room.new.sending c.cancel_receive.new.receiving
     (map (λ s. s.known) a.streams.items) c.make_room.new.requests a.took.items a.pulled.items a.strays))
-    (same-events a.journal c.make_room.new.journal c.make_room.ensures.events)
-    (happens-room bodies a.me a.shape a.journal c.make_room.new.journal c.cancel_receive.new.journal
-    a.sending c.make_room.new.sending c.make_room.new.sending a.receiving c.cancel_receive.new.receiving
-    (map (λ s. s.known) a.streams.items) a.requests c.make_room.new.requests a.took.items a.pulled.items
-    a.strays (cancel_events h (kind.Receive number)) c.make_room.ensures.events c.make_room.ensures.letters
-    (c.cancel_receive.ensures.events h roomy.history.received) c.cancel_receive.ensures.clock refl
-    (puts-none _ _ _ (λ to. refl)) refl)))
+    c.self.view_is (record {
+      kind = kind.Receive number;
+      live = live;
+      answered = c.cancel_receive.ensures.answer a.journal.events c.self.invariant.history.received;
+      happened = λ bodies. subst (λ (events : List Event). Happens bodies a.journal.clock
+          (cancel_events events (kind.Receive number))
+          (seen a.me a.shape a.journal a.sending a.receiving (map (λ s. s.known) a.streams.items) a.requests
+          a.took.items a.pulled.items a.strays)
+          (seen a.me a.shape c.cancel_receive.new.journal c.make_room.new.sending c.cancel_receive.new.receiving
+          (map (λ s. s.known) a.streams.items) c.make_room.new.requests a.took.items a.pulled.items a.strays))
+          (same-events a.journal c.make_room.new.journal c.make_room.ensures.events)
+          (happens-room bodies a.me a.shape a.journal c.make_room.new.journal c.cancel_receive.new.journal
+          a.sending c.make_room.new.sending c.make_room.new.sending a.receiving c.cancel_receive.new.receiving
+          (map (λ s. s.known) a.streams.items) a.requests c.make_room.new.requests a.took.items a.pulled.items
+          a.strays (cancel_events h (kind.Receive number)) c.make_room.ensures.events c.make_room.ensures.letters
+          (c.cancel_receive.ensures.events h roomy.history.received) c.cancel_receive.ensures.clock refl
+          (puts-none _ _ _ (λ to. refl)) refl);
+      offers = same-offers a.sending c.make_room.new.sending c.make_room.ensures.letters;
+      takes = takes.0;
+      requests = takes.1;
+    })

@@ -1,17 +1,16 @@
-use Rattle.std.proofs.Common.{◌≡◌, ℕ, List, ◌+◌, ◌<◌, [], ◌∷◌, length, refl, sym, ◌∙◌, ap, subst}
+use Rattle.std.proofs.Common.{◌≡◌, ℕ, ◌+◌, ◌<◌, [], ◌∷◌, length, refl, sym, ◌∙◌, ap, subst}
 use Rattle.std.specs.Prelude.{if◌then◌else◌, map}
 use Rattle.nm_history.specs.declared.events.Happened.TheVariants as event
 use Rattle.nm_sending.specs.Sent.{Preserves}
-use Rattle.nm_types.specs.Bodies.{body_len, bytes_of}
+use Rattle.nm_types.specs.Bodies.{body_len}
 use Rattle.nm_history.specs.RankRun.{how_of}
-use Rattle.nm_history.specs.Sends.{Sent, is_ask, sends}
+use Rattle.nm_history.specs.Sends.{is_ask, sends}
 use Rattle.nm_rndv.specs.Offers.{destined, with_asked, with_destined}
 use Rattle.nm_sending.specs.declared.TheConstants.{MAX_MESSAGES}
-use Rattle.nm_request.specs.declared.Kind.TheVariants as kind
 use Rattle.nm_sending.specs.Departures.{SendingView, departures_to}
-use Rattle.nm_rank.specs.Calls.{Starts}
 use Rattle.nm_rank.specs.Ranks.{IsFresh, RankView, seen}
-use Rattle.nm_rank.specs.Sends.{event_of, next_send}
+use Rattle.nm_rank.specs.Sends.{next_send}
+use Rattle.nm_rank.specs.Steps.{StartsSend}
 use Rattle.nm_rank.proofs.Goes.{length-sent}
 use Rattle.nm_rank.proofs.ViewLemmas.{same-offers, starts-send}
 use Rattle.nm_rank.proofs.RoomLemmas.{fields-room}
@@ -47,49 +46,8 @@ invariant_of-self-2 c =
     roomy.history.received)
     (rw (c.unwrap.ensures) at c.add-2.ensures.ok)
 
-pub returns-clause-started : goal.returns-clause-started
-returns-clause-started c =
-    let a = c.self.inside in
-    let number : c.in_ok-n.n ≡ length (sends a.journal.events c.args.to) =
-    c.in_ok-n.ensures.number
-    ∙ ap (λ (s : SendingView). length (departures_to s c.args.to)) c.make_room.ensures.letters
-    ∙ length-sent a.sending a.journal.events c.self.invariant.history.sent c.args.to in
-    let s : RankView → Sent = λ v.
-    next_send v c.args.to c.args.tag c.args.ctx c.args.body c.args.sync c.args.line in
-    subst (λ (v : RankView). (bodies : Sent → List ℕ) → bodies (s v) ≡ bytes_of c.args.body →
-    Starts bodies (event_of (s v) ∷ []) (kind.Send c.args.to (s v).n) v
-    (seen a.me a.shape c.add.new.self c.send.new.self a.receiving
-    (map (λ s. s.known) a.streams.items) c.add-2.new.self a.took.items a.pulled.items a.strays)
-    c.unwrap.result) c.self.view_is
-    (λ bodies same. starts-send bodies c.args.body a.me a.shape a.journal c.make_room.new.journal
-    c.add.new.self
-    a.sending c.make_room.new.sending c.send.new.self a.receiving (map (λ s. s.known) a.streams.items)
-    a.requests c.make_room.new.requests c.add-2.new.self a.took.items a.pulled.items a.strays
-    c.args.to c.in_ok-n.n c.args.tag c.args.ctx c.len-len.result c.args.line
-    (c.clock-stamp.result + 1) c.mode-how.result
-    (how_of a.shape.eager c.args.sync (body_len c.args.body)) c.unwrap.result
-    (length (sends a.journal.events c.args.to)) (body_len c.args.body) same
-    c.make_room.ensures.events c.make_room.ensures.letters c.make_room.ensures.requests
-    c.add.ensures.events c.add.ensures.clock (ap (λ k. k + 1) c.clock-stamp.ensures.value)
-    (c.in_ok-n.ensures.puts a.journal.events c.args.line) c.in_ok-n.ensures.same
-    (rw (c.unwrap.ensures) at c.add-2.ensures.ok) number c.len-len.ensures
-    (c.mode-how.ensures.value
-    ∙ ap (λ (e : ℕ). how_of e c.args.sync c.len-len.result) c.eager.ensures.value
-    ∙ ap (λ (l : ℕ). how_of a.shape.eager c.args.sync l) c.len-len.ensures))
-
-pub send-requires-clause-few : goal.send-requires-clause-few
-send-requires-clause-few c =
-    let a = c.self.inside in
-    let fresh = subst (λ (v : RankView). IsFresh v) (sym c.self.view_is) c.requires.fresh in
-    let within : c.args.to < a.shape.ranks =
-    subst (λ (v : RankView). c.args.to < v.sizes.ranks) (sym c.self.view_is) c.requires.to in
-    subst (λ (k : ℕ). k < MAX_MESSAGES)
-    (sym (ap (λ (s : SendingView). length (departures_to s c.args.to)) c.make_room.ensures.letters
-    ∙ length-sent a.sending a.journal.events c.self.invariant.history.sent c.args.to))
-    (fresh.messages c.args.to within).0
-
-pub returns-clause-offers : goal.returns-clause-offers
-returns-clause-offers c =
+pub returns-clause-starts : goal.returns-clause-starts
+returns-clause-starts c =
     let a = c.self.inside in
     let to = c.args.to in
     let body = c.args.body in
@@ -101,13 +59,43 @@ returns-clause-offers c =
     c.mode-how.ensures.value
     ∙ ap (λ (e : ℕ). how_of e c.args.sync c.len-len.result) c.eager.ensures.value
     ∙ ap (λ (l : ℕ). how_of a.shape.eager c.args.sync l) c.len-len.ensures in
-    subst (λ (v : RankView). c.send.new.self.offers
-    ≡ (if is_ask (how_of v.sizes.eager c.args.sync (body_len c.args.body))
-    then with_destined v.sending.offers c.args.to
-    (with_asked (destined v.sending.offers c.args.to) (length (sends v.events c.args.to)) c.args.body)
-    else v.sending.offers)) c.self.view_is
+    let offers : c.send.new.self.offers
+    ≡ (if is_ask (how_of a.shape.eager c.args.sync (body_len body))
+    then with_destined a.sending.offers to
+    (with_asked (destined a.sending.offers to) (length (sends a.journal.events to)) body)
+    else a.sending.offers) =
     (rw (
       ← how,
       ← number,
       ← same-offers a.sending c.make_room.new.sending c.make_room.ensures.letters,
-    ) c.in_ok-n.ensures.asked)
+    ) c.in_ok-n.ensures.asked) in
+    subst (λ (v : RankView). StartsSend
+    (next_send v c.args.to c.args.tag c.args.ctx c.args.body c.args.sync c.args.line) c.args.body c.unwrap.result v
+    (seen a.me a.shape c.add.new.self c.send.new.self a.receiving
+    (map (λ s. s.known) a.streams.items) c.add-2.new.self a.took.items a.pulled.items a.strays)) c.self.view_is
+    (record {
+      started = λ bodies same. starts-send bodies c.args.body a.me a.shape a.journal c.make_room.new.journal
+          c.add.new.self
+          a.sending c.make_room.new.sending c.send.new.self a.receiving (map (λ s. s.known) a.streams.items)
+          a.requests c.make_room.new.requests c.add-2.new.self a.took.items a.pulled.items a.strays
+          c.args.to c.in_ok-n.n c.args.tag c.args.ctx c.len-len.result c.args.line
+          (c.clock-stamp.result + 1) c.mode-how.result
+          (how_of a.shape.eager c.args.sync (body_len c.args.body)) c.unwrap.result
+          (length (sends a.journal.events c.args.to)) (body_len c.args.body) same
+          c.make_room.ensures.events c.make_room.ensures.letters c.make_room.ensures.requests
+          c.add.ensures.events c.add.ensures.clock (ap (λ k. k + 1) c.clock-stamp.ensures.value)
+          (c.in_ok-n.ensures.puts a.journal.events c.args.line) c.in_ok-n.ensures.same
+          (rw (c.unwrap.ensures) at c.add-2.ensures.ok) number c.len-len.ensures how;
+      offers = offers;
+    })
+
+pub send-requires-clause-few : goal.send-requires-clause-few
+send-requires-clause-few c =
+    let a = c.self.inside in
+    let fresh = subst (λ (v : RankView). IsFresh v) (sym c.self.view_is) c.requires.fresh in
+    let within : c.args.to < a.shape.ranks =
+    subst (λ (v : RankView). c.args.to < v.sizes.ranks) (sym c.self.view_is) c.requires.to in
+    subst (λ (k : ℕ). k < MAX_MESSAGES)
+    (sym (ap (λ (s : SendingView). length (departures_to s c.args.to)) c.make_room.ensures.letters
+    ∙ length-sent a.sending a.journal.events c.self.invariant.history.sent c.args.to))
+    (fresh.messages c.args.to within).0

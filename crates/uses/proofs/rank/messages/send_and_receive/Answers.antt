@@ -10,8 +10,8 @@ use Rattle.uses.proofs.rank.messages.send_and_receive.Goals as goal
 pub exchange-requires : goal.exchange-requires
 exchange-requires c =
     let a = first_stays _ _ _ (started_stays _ _ _
-    (c.in_ok-sent.ensures.started (λ s. bytes_of (Gen c.args.len)) refl)) c.requires.step in record {
-      step = second_stays _ _ _ (started_stays _ _ _ (c.in_ok-received.ensures.started (λ s. []))) a;
+    (c.in_ok-sent.ensures.starts.started (λ s. bytes_of (Gen c.args.len)) refl)) c.requires.step in record {
+      step = second_stays _ _ _ (started_stays _ _ _ (c.in_ok-received.ensures.starts.started (λ s. []))) a;
     }
 
 pub returns : goal.returns
@@ -24,6 +24,6 @@ returns c =
 pub returns-in_err-received : goal.returns-in_err-received
 returns-in_err-received c =
     let a = first_stays _ _ _ (started_stays _ _ _
-    (c.in_ok-sent.ensures.started (λ s. bytes_of (Gen c.args.len)) refl)) c.requires.step in record {
+    (c.in_ok-sent.ensures.starts.started (λ s. bytes_of (Gen c.args.len)) refl)) c.requires.step in record {
       step = subst (λ (v : RankView). AreInStep 0 1 c.isend.new.self v) (sym c.in_err-received.ensures.err) a;
     }

@@ -1,5 +1,5 @@
 -- Each command adds the moments of its calls, of which the last one records its answer.
-use Rattle.std.proofs.Common.{◌≡◌, ℕ, ◌+◌, ◌<◌, ◌≤◌, Bool, true, false, Option, Some, None, List, []}
+use Rattle.std.proofs.Common.{◌≡◌, ℕ, ◌+◌, ◌<◌, ◌≤◌, Bool, true, Option, Some, None, List, []}
 use Rattle.std.proofs.Common.{append-nil, ◌∷◌, ◌++◌, length, refl, sym, subst, ap, ◌∙◌, ⊎_elim, arith}
 use Rattle.std.specs.Prelude.{◌⊎◌, nat_le, nat_lt, ◌&&◌}
 use Rattle.std.specs.Option.{option_map_or}
@@ -14,25 +14,20 @@ use Rattle.nm_types.specs.declared.messages.TagPick.{TagPick}
 use Rattle.nm_types.specs.declared.scripts.Body.{Body}
 use Rattle.nm_types.specs.declared.scripts.Command.{Command}
 use Rattle.nm_types.specs.declared.scripts.Command.TheVariants as command
-use Rattle.nm_types.specs.declared.scripts.Line.{Line}
 use Rattle.nm_types.specs.Bodies.{body_len, bytes_of}
 use Rattle.nm_types.specs.Commands.{Numbered, command_at, commands_of}
 use Rattle.nm_types.specs.Limits.{is_in_range}
-use Rattle.nm_types.specs.Sizes.{Sizes}
 use Rattle.nm_history.specs.declared.events.Event.{Event}
 use Rattle.nm_history.specs.declared.events.Happened.{Happened}
 use Rattle.nm_history.specs.declared.events.Happened.TheVariants as event
 use Rattle.nm_history.specs.Answers.{live, seen}
 use Rattle.nm_history.specs.Matching.{first_message, matched_pairs}
-use Rattle.nm_history.specs.RankRun.{how_of}
 use Rattle.nm_history.specs.Sends.{Sent, message_of, receives as of_receives, sent_body, sent_bytes}
 use Rattle.nm_history.specs.Sends.{sends as of_sends}
 use Rattle.nm_history.specs.Clock.{stamped}
-use Rattle.nm_history.specs.Rules.{AreRight}
 use Rattle.nm_request.specs.declared.Kind.{Kind}
 use Rattle.nm_request.specs.declared.Kind.TheVariants as kind
 use Rattle.nm_request.specs.declared.Req.{Req}
-use Rattle.nm_rndv.specs.Offers.{Offering}
 use Rattle.nm_receiving.specs.Receipts.{taken_events}
 use Rattle.nm_rank.specs.declared.answers.Cancelled.{Cancelled}
 use Rattle.nm_rank.specs.declared.answers.Cancelled.TheVariants as cancelled
@@ -40,19 +35,20 @@ use Rattle.nm_rank.specs.Calls.{Starts}
 use Rattle.nm_rank.specs.Ranks.{RankView, request_of}
 use Rattle.nm_global.specs.Emitted.{IsEmitted}
 use Rattle.nm_global.specs.Logged.{IsLogged}
-use Rattle.nm_rank.specs.Requests.{IsResult, cancel_answer, cancel_events}
+use Rattle.nm_rank.specs.Requests.{cancel_events}
+use Rattle.nm_rank.specs.Sends.{event_of, next_send}
+use Rattle.nm_rank.specs.Steps.{StartsMatched, StartsReceive, StartsSend}
 use Rattle.nm_global.specs.Calls.{AnswersLogged, ShowsLogged, given_after}
 use Rattle.nm_global.specs.Moments.{acted}
 use Rattle.nm_process.specs.declared.steps.Step.TheVariants.{Ran as Took}
-use Rattle.nm_process.specs.Places.{IsNextLine}
 use Rattle.nm_process.specs.Processes.{ProcessView}
-use Rattle.nm_process.specs.Starts.{Ends, HasAnswered, HasAwaited, HasCancelled, HasClaimed, HasEnded}
+use Rattle.nm_process.specs.Starts.{HasAnswered, HasCancelled, HasClaimed, HasEnded}
 use Rattle.nm_process.specs.Starts.{HasFoundNone, HasMatched, HasNoResult, HasStarted, HasTried}
 use Rattle.nm_process.specs.Starts.{HasTriedMprobe, HasTriedMrecv, HasTriedReceive, HasTriedSend}
-use Rattle.nm_process.specs.Starts.{HasTriedTest, IsBusy, IsHandleBusy, KeepsHandles, offers_sent}
-use Rattle.nm_process.specs.Starts.{IsHandleNull, IsNull, answer_for, message_probed, sent_now}
+use Rattle.nm_process.specs.Starts.{HasTriedTest, IsBusy, IsHandleBusy, KeepsHandles}
+use Rattle.nm_process.specs.Starts.{IsHandleNull, IsNull, answer_for, message_probed}
 use Rattle.nm_process.proofs.PlaceLemmas.{all_at, next_found}
-use Rattle.nm_global.specs.ProcessInvariant.{GoesOn, IsOf, GhostHistory, Same, with_moment}
+use Rattle.nm_global.specs.ProcessInvariant.{GoesOn, IsOf, GhostHistory, with_moment}
 use Rattle.nm_global.proofs.Still.{history_longer, own_same, then_on}
 use Rattle.nm_global.proofs.standing.laws.runs.a_command_runs.Goals as goal
 
@@ -108,11 +104,13 @@ returns c shape lines i a b past in_lines right standing ran =
           record {
             after = with_moment now (acted v.rank (event.Ran line x ∷ []));
             is = record {
-              me = answered.takes.me ∙ at.me;
+              me = answered.records.takes.me ∙ at.me;
               logged = c.an_answer_is_recorded.ensures shape.eager bodies commands v.rank b.rank now.log
-                  now.given line x at.logged shows answered.noted answered.takes answered.requests;
+                  now.given line x at.logged shows answered.records.noted answered.records.takes
+                  answered.records.requests;
               left = λ to within. c.answers_keep_left.ensures.ran bodies v.rank b.rank to line x
-                  (now.left to) answered.noted answered.takes answered.sending (at.left to within);
+                  (now.left to) answered.records.noted answered.records.takes answered.records.sending
+                  (at.left to within);
             };
             same = own_same now (stamped v.rank.clock (event.Ran line x ∷ []));
             grew = let sum = history_longer now.log (acted v.rank (event.Ran line x ∷ [])) in omega (arith, sum);
@@ -156,23 +154,23 @@ returns c shape lines i a b past in_lines right standing ran =
       is_busy q p = answers a past answer.Busy is tt p.answered
 
       -- a start, and its answer
-      begins : (Fits : (Sent → List ℕ) → Type 0) (offers : Offering) (ws : List Happened) (k : Kind)
-          (q : ℕ) → Fits bodies →
+      begins : (Call : Req → RankView → RankView → Type 0) (ws : List Happened) (k : Kind) (q : ℕ) →
+          ((mid : RankView) (r : Req) → Call r a.rank mid → Starts bodies ws k a.rank mid r) →
           ((mid : RankView) (r : Req) → Starts bodies ws k a.rank mid r →
           IsLogged shape.eager bodies commands mid (past.log ++ acted a.rank ws ∷ []) past.given) →
-          ((mid : RankView) (r : Req) → Starts bodies ws k a.rank mid r → mid.sending.offers ≡ offers →
+          ((mid : RankView) (r : Req) → Call r a.rank mid →
           (to : ℕ) → to < shape.ranks → IsEmitted bodies mid to (past.left to)) →
-          HasStarted Fits offers ws k a b' q line → GoesOn shape lines me b.rank past
-      begins Fits offers ws k q fits logged left s =
+          HasStarted Call k a b' q line → GoesOn shape lines me b.rank past
+      begins Call ws k q opens logged left s =
           let g = s.begun in
           let mid = s.mid in
-          let starts : Starts bodies ws k a.rank mid.rank g.request = g.starts bodies fits in
+          let starts : Starts bodies ws k a.rank mid.rank g.request = opens mid.rank g.request g.starts in
           let now : GhostHistory = with_moment past (acted a.rank ws) in
           let at : IsOf shape lines me mid.rank now =
           record {
             me = starts.takes.me;
             logged = logged mid.rank g.request starts;
-            left = left mid.rank g.request starts g.asked;
+            left = left mid.rank g.request g.starts;
           } in
           then_on shape lines me b.rank past now (own_same past (stamped a.rank.clock ws))
           (answers mid now answer.Started at tt s.answered)
@@ -186,22 +184,15 @@ returns c shape lines i a b past in_lines right standing ran =
             ∙ all_at (λ x. is_in_range a.rank.sizes.ranks x.command) lines ran.place ran.line
             in_lines.in_range ran.is.here
 
-        own : bodies (sent_now a.rank to tag ctx body sync line) ≡ bytes_of body
+        own : bodies (next_send a.rank to tag ctx body sync line) ≡ bytes_of body
         own = ap (λ (o : Option Command). option_map_or sent_bytes o []) (found ∙ ap Some same)
 
-        n : ℕ
-        n = length (of_sends a.rank.events to)
-
-        started : (HasStarted (λ bodies. bodies (sent_now a.rank to tag ctx body sync line) ≡ bytes_of body)
-            (offers_sent a.rank to body sync)
-            (event.Send to n tag ctx (body_len body) (how_of a.rank.sizes.eager sync (body_len body)) line
-            ∷ [])
-            (kind.Send to n) a b' q line) × KeepsHandles a b' → GoesOn shape lines me b.rank past
-        started p = begins (λ bodies. bodies (sent_now a.rank to tag ctx body sync line) ≡ bytes_of body)
-            (offers_sent a.rank to body sync)
-            (event.Send to n tag ctx (body_len body) (how_of a.rank.sizes.eager sync (body_len body)) line
-            ∷ [])
-            (kind.Send to n) q own
+        started : HasStarted (StartsSend (next_send a.rank to tag ctx body sync line) body)
+            (kind.Send to (length (of_sends a.rank.events to))) a b' q line × KeepsHandles a b' →
+            GoesOn shape lines me b.rank past
+        started p = begins (StartsSend (next_send a.rank to tag ctx body sync line) body)
+            (event_of (next_send a.rank to tag ctx body sync line) ∷ [])
+            (kind.Send to (length (of_sends a.rank.events to))) q (λ mid r is. is.started bodies own)
             (λ mid r starts. c.a_send_starts.ensures shape.eager bodies commands a.rank mid past.log
             past.given to tag ctx line body sync r is.logged
             (tag_below (nat_le q MAX_NAME) (nat_lt to a.rank.sizes.ranks) (nat_le tag MAX_TAG)
@@ -209,8 +200,8 @@ returns c shape lines i a b past in_lines right standing ran =
             (body_below (nat_le q MAX_NAME) (nat_lt to a.rank.sizes.ranks) (nat_le tag MAX_TAG)
             (nat_le ctx MAX_CONTEXT) (nat_le (body_len body) MAX_BODY) (body_len body) refl all)
             own starts)
-            (λ mid r starts offers t within. c.sends_keep_left.ensures bodies a.rank mid t to tag ctx line
-            body sync r (past.left t) right own starts offers (is.left t within))
+            (λ mid r call t within. c.sends_keep_left.ensures bodies a.rank mid t to tag ctx line
+            body sync r (past.left t) right own (call.started bodies own) call.offers (is.left t within))
             p.0
 
       receives : (q : ℕ) (from : Peer) (tag : TagPick) (ctx room : ℕ) →
@@ -231,16 +222,15 @@ returns c shape lines i a b past in_lines right standing ran =
         ws : List Happened
         ws = event.Post post line ∷ taken_events (first_message h (matched_pairs h) from tag ctx)
 
-        started : (HasStarted (λ bodies. Unit {0}) a.rank.sending.offers ws
-            (kind.Receive (length (of_receives h))) a b' q line) × KeepsHandles a b' →
-            GoesOn shape lines me b.rank past
-        started p = begins (λ bodies. Unit {0}) a.rank.sending.offers ws
-            (kind.Receive (length (of_receives h))) q tt
+        started : HasStarted (StartsReceive from tag ctx room line) (kind.Receive (length (of_receives h))) a b' q line
+            × KeepsHandles a b' → GoesOn shape lines me b.rank past
+        started p = begins (StartsReceive from tag ctx room line) ws
+            (kind.Receive (length (of_receives h))) q (λ mid r is. is.started bodies)
             (λ mid r starts. c.a_receive_starts.ensures shape.eager bodies commands a.rank mid past.log
             past.given from tag ctx room line r is.logged starts)
-            (λ mid r starts offers t within. c.receives_keep_left.ensures.posted bodies a.rank mid t line
+            (λ mid r call t within. c.receives_keep_left.ensures.posted bodies a.rank mid t line
             post (first_message h (matched_pairs h) from tag ctx) (kind.Receive (length (of_receives h))) r
-            (past.left t) starts offers (is.left t within))
+            (past.left t) (call.started bodies) call.offers (is.left t within))
             p.0
 
       tests : (q : ℕ) → ran.line.command ≡ command.Test q → HasTriedTest a b' q line →
@@ -257,19 +247,20 @@ returns c shape lines i a b past in_lines right standing ran =
         some : HasCancelled a b' q line → GoesOn shape lines me b.rank past
         some p =
             let mid = p.mid in
-            let ws = cancel_events a.rank.events p.kind in
+            let did = p.cancels in
+            let ws = cancel_events a.rank.events did.kind in
             let now : GhostHistory = with_moment past (acted a.rank ws) in
             let at : IsOf shape lines me mid.rank now =
             record {
-              me = p.takes.me;
+              me = did.takes.me;
               logged = c.a_request_is_cancelled.ensures shape.eager bodies commands a.rank mid.rank past.log
-                  past.given p.kind is.logged (p.happened bodies) p.takes p.requests;
-              left = λ t within. c.cancels_keep_left.ensures bodies a.rank mid.rank t p.kind (past.left t)
-                  (p.happened bodies) p.offers p.takes (is.left t within);
+                  past.given did.kind is.logged (did.happened bodies) did.takes did.requests;
+              left = λ t within. c.cancels_keep_left.ensures bodies a.rank mid.rank t did.kind (past.left t)
+                  (did.happened bodies) did.offers did.takes (is.left t within);
             } in
             then_on shape lines me b.rank past now (own_same past (stamped a.rank.clock ws))
-            (answers mid now (answer_for (cancel_answer a.rank.events p.kind)) at
-            (shows_cancel commands now mid.rank.events line (cancel_answer a.rank.events p.kind)) p.answered)
+            (answers mid now (answer_for p.answer) at (shows_cancel commands now mid.rank.events line p.answer)
+            p.answered)
 
       claims : (m : ℕ) (from : Peer) (tag : TagPick) (ctx : ℕ) →
           HasTriedMprobe a b' m from tag ctx line → GoesOn shape lines me b.rank past
@@ -284,15 +275,16 @@ returns c shape lines i a b past in_lines right standing ran =
         some p =
             let mid = p.mid in
             let x = p.message in
+            let did = p.claims in
             let ws : List Happened = event.Claim x.env.from x.n line ∷ [] in
             let now : GhostHistory = with_moment past (acted a.rank ws) in
             let at : IsOf shape lines me mid.rank now =
             record {
-              me = p.takes.me;
+              me = did.takes.me;
               logged = c.a_message_is_claimed.ensures shape.eager bodies commands a.rank mid.rank past.log
-                  past.given x line is.logged p.claimed p.takes p.requests;
+                  past.given x line is.logged did.claimed did.takes did.requests;
               left = λ t within. c.answers_keep_left.ensures.claimed bodies a.rank mid.rank t x.env.from x.n
-                  line (past.left t) p.claimed p.takes p.sending (is.left t within);
+                  line (past.left t) did.claimed did.takes did.sending (is.left t within);
             } in
             then_on shape lines me b.rank past now (own_same past (stamped a.rank.clock ws))
             (answers mid now (seen x) at tt p.answered)
@@ -306,15 +298,15 @@ returns c shape lines i a b past in_lines right standing ran =
         some p =
             let x = p.message in
             let number : ℕ = length (of_receives a.rank.events) in
-            begins (λ bodies. Unit {0}) a.rank.sending.offers
+            begins (StartsMatched x.from x.n room line)
             (event.Match number x.from x.n room line
             ∷ taken_events (message_of a.rank.events x.from x.n))
-            (kind.Receive number) q tt
+            (kind.Receive number) q (λ mid r is. is.started bodies)
             (λ mid r starts. c.a_claimed_receive_starts.ensures shape.eager bodies commands a.rank mid
             past.log past.given x.from x.n room line r is.logged starts)
-            (λ mid r starts offers t within. c.receives_keep_left.ensures.matched bodies a.rank mid t number
+            (λ mid r call t within. c.receives_keep_left.ensures.matched bodies a.rank mid t number
             x.from x.n room line (message_of a.rank.events x.from x.n) (kind.Receive number) r (past.left t)
-            starts offers (is.left t within))
+            (call.started bodies) call.offers (is.left t within))
             p.started
 
       by_command : (x : Command) → ran.line.command ≡ x → HasTried a b' x line Took →
