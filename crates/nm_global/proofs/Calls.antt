@@ -1,8 +1,9 @@
 -- Calls of a rank by which nothing leaves.
 use Rattle.std.proofs.Common.{◌≡◌, ◌≤◌, ℕ, ◌⊎◌, inr, arith, Bool, true, false, cond, Option}
-use Rattle.std.proofs.Common.{None, List, [], ◌∷◌, ◌++◌, refl, sym, ap, subst}
+use Rattle.std.proofs.Common.{None, Some, List, [], ◌∷◌, ◌++◌, refl, sym, ap, subst}
 use Rattle.std.proofs.Common.{IfSome}
 use Rattle.std.specs.List.{AllByRecursion}
+use Rattle.nm_types.specs.declared.messages.Arrival.{Arrival}
 use Rattle.nm_history.specs.declared.events.Happened.{Happened}
 use Rattle.nm_history.specs.declared.events.Happened.TheVariants as event
 use Rattle.nm_history.specs.AtEach.{in_turn_after}
@@ -15,6 +16,7 @@ use Rattle.nm_request.specs.declared.Kind.{Kind}
 use Rattle.nm_request.specs.declared.Kind.TheVariants as kind
 use Rattle.nm_sending.specs.Departures.{SendingView, ends_to}
 use Rattle.nm_sending.specs.Sent.{is_of_sending}
+use Rattle.nm_receiving.specs.Receipts.{is_empty_ask, taken_events}
 use Rattle.nm_rank.specs.Calls.{Happens, eager_sent}
 use Rattle.nm_rank.specs.Calls.{called_by}
 use Rattle.nm_rank.specs.Ranks.{RankView}
@@ -115,6 +117,11 @@ no_own_sent ws each =
 pub whole_other : (b : Bool) (from n : ℕ) → AllByRecursion (λ w. is_of_sending w ≡ false) (whole_if b from n)
 whole_other true from n = (refl, tt)
 whole_other false from n = tt
+
+-- nor is one that a receive takes
+pub taken_other : (taken : Option Arrival) → AllByRecursion (λ w. is_of_sending w ≡ false) (taken_events taken)
+taken_other None = tt
+taken_other (Some a) = whole_other (is_empty_ask a) a.env.from a.n
 
 -- a receive
 pub receives_go : OfBoth → {bodies : Sent → List ℕ} {start : ℕ} {v v' : RankView} {to : ℕ}

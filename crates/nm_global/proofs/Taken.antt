@@ -4,10 +4,11 @@ use Rattle.std.proofs.Common.{◌≤◌, arith}
 use Rattle.std.proofs.Common.{Some, None, List, [], ◌∷◌, ◌++◌, length, refl, sym, ◌∙◌, ap, subst, max}
 use Rattle.std.proofs.Common.{IsSome, append-nil, map}
 use Rattle.std.specs.Prelude.{nat_lt}
-use Rattle.std.specs.List.{range_with_len}
+use Rattle.std.specs.List.{AllByRecursion, range_with_len}
 use Rattle.std.specs.Option.{option_map_or}
 use Rattle.nm_types.specs.declared.limits.TheConstants.{MAX_PIECE}
 use Rattle.nm_types.specs.declared.packets.Packet.{Packet}
+use Rattle.nm_types.specs.declared.packets.Piece.{Piece}
 use Rattle.nm_types.specs.declared.packets.What.{What}
 use Rattle.nm_types.specs.declared.packets.What.TheVariants as what
 use Rattle.nm_history.specs.declared.events.Happened.TheVariants as event
@@ -17,20 +18,21 @@ use Rattle.nm_history.specs.Outgoing.{CalledPiece, message_pieces, part_at, send
 use Rattle.nm_history.specs.Sends.{Sent, is_ask, sends}
 use Rattle.nm_history.specs.Clock.{stamped}
 use Rattle.nm_history.specs.Continues.{WORN_STAMP, continues, continues_answer, has}
-use Rattle.nm_history.specs.Effects.{is_empty_send, packet_events, packet_makes}
+use Rattle.nm_history.specs.Effects.{is_empty_send, packet_events, packet_makes, whole_if}
 use Rattle.nm_history.specs.Known.{Known}
+use Rattle.nm_history.specs.Pieces.{Due, piece_makes}
 use Rattle.nm_history.specs.Rules.{AreRight}
 use Rattle.nm_history.proofs.Right.{right-numbers}
 use Rattle.nm_history.proofs.Sent.{sends_numbered}
 use Rattle.nm_sending.specs.Sent.{is_of_sending}
-use Rattle.nm_rank.specs.Calls.{Happens, TakesPacket, eager_sent, offers_by, taken_of}
+use Rattle.nm_rank.specs.Calls.{Happens, TakesPacket, TakesPiece, eager_sent, next_due, offers_by, taken_of}
 use Rattle.nm_rank.specs.Ranks.{RankView, known_from}
 use Rattle.nm_global.specs.Emitted.{IsEmitted, Emitted, sent_in}
-use Rattle.nm_global.proofs.Packets.{OfBoth}
+use Rattle.nm_global.proofs.Packets.{OfBoth, is_silent}
 use Rattle.nm_global.proofs.Offers.{some_lasts}
 use Rattle.nm_global.proofs.Destinations.{answer_goes, clearance_goes, lasts}
-use Rattle.nm_global.proofs.Pieces.{no_pieces, pieces_at}
-use Rattle.nm_global.proofs.Calls.{happening, happens_go, receives_go, whole_other}
+use Rattle.nm_global.proofs.Pieces.{is_leave, no_pieces, pieces_at}
+use Rattle.nm_global.proofs.Calls.{happening, happens_go, receives_go, same_go, whole_other}
 use Rattle.nm_global.proofs.Numbered.{any_found, found_any}
 use Rattle.nm_types.proofs.ListLemmas.{all_append}
 use Rattle.nm_types.proofs.NumberLemmas.{same_number}
@@ -146,3 +148,28 @@ packets_taken both bodies v v' to p left right takes is = by (taken_of v p).cont
       stray (takes.happened bodies))
       (takes.offers ∙ ap (λ (b : Bool). cond b (offers_by v.sending.offers p.from p.what) v.sending.offers)
       stray)
+
+-- what a piece makes happen puts nothing, and no message leaves by it
+silent : (from : ℕ) (due : Option Due) (q : Piece) →
+    AllByRecursion (λ w. is_silent w ≡ true) (piece_makes from due q)
+silent from None q = tt
+silent from (Some due) q = by _ where
+  by : (b : Bool) → AllByRecursion (λ w. is_silent w ≡ true) (whole_if b from q.n)
+  by true = (refl, tt)
+  by false = tt
+
+quiet : (to from : ℕ) (due : Option Due) (q : Piece) →
+    AllByRecursion (λ w. is_leave to w ≡ false) (piece_makes from due q)
+quiet to from None q = tt
+quiet to from (Some due) q = by _ where
+  by : (b : Bool) → AllByRecursion (λ w. is_leave to w ≡ false) (whole_if b from q.n)
+  by true = (refl, tt)
+  by false = tt
+
+-- by a piece that is taken nothing leaves
+pub pieces_taken : (bodies : Sent → List ℕ) (v v' : RankView) (to : ℕ) (q : Piece) (left : Emitted) →
+    TakesPiece q v v' → IsEmitted bodies v to left → IsEmitted bodies v' to left
+pieces_taken bodies v v' to q left takes is =
+    same_go is takes.me (let clock = takes.happened.clock in omega (arith, clock)) v.clock
+    (piece_makes q.from (next_due v q.from) q) takes.happened.events
+    (silent q.from (next_due v q.from) q) (quiet to q.from (next_due v q.from) q) takes.sending

@@ -4,3 +4,4 @@ pub mod Logged
 pub mod Moments
 pub mod ProcessInvariant
 pub mod Ranks
+pub mod Steps

@@ -14,6 +14,8 @@
 //! that nothing is left to send; `AreAtRest` says all of it of all ranks (`specs/Ranks`).
 //! # What is proved
 //! - `starts`: new ranks stand at their places, and nothing is between them.
+//! - `steps`: whichever call changes a rank, it stands at its place from then on (`specs/Steps`: `IsPlaced`,
+//!   and `after`, which has a case for each call).
 //! - `rest`: where each of some ranks at rest is at its end or waits for what can't come, their
 //!   histories are a run of the script. As many packets were popped as the histories call for, and
 //!   none that was taken was a stray; nor was a piece.

@@ -12,12 +12,11 @@
 //! be gone once the result of its receive was given, so the relation has a list of the receives of
 //! which that is so.
 //! # What is proved
-//! - `moments`: a new rank has the empty log; a packet and a piece that it takes each add one moment,
-//!   which may follow those before it; and a result adds none. A result that shows a message shows
-//!   the bytes of it that came by the log.
-//! - `calls`: each call by which a rank acts by itself adds one, from the clauses of that call.
-//!   An answer that shows a message may be recorded where it shows those bytes, and the result of a
-//!   request is such an answer to a wait or a test of it.
+//! - `moments`: a new rank has the empty log. What each call adds is the law of a step
+//!   (`nm_global::laws::steps`): one moment, which may follow those before it, and by a result none.
+//! - `results`: a result that shows a message shows the bytes of it that came by the log, and may be
+//!   recorded as the answer of a wait or a test of its request. An answer that shows a message may be
+//!   recorded where it shows those bytes.
 //!
 //! A piece makes a moment only where one of its rank is due (`Rank::is_piece_due`). A call that
 //! changes nothing needs no law. To use a law, call it.

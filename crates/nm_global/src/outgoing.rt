@@ -5,18 +5,15 @@
 //! then those in its outbox, are those that its history calls for, with their bytes, and none has a
 //! stamp past its clock; the pieces that left are those that it calls for, and then the first ones of
 //! the message that is leaving. The laws say that the relation stands at a new rank where nothing left,
-//! and that each call of a rank keeps it: a call by which a packet or a piece leaves puts that behind
-//! the others, and no other call changes what left.
+//! and what follows of it at the end. Each call of a rank keeps it (`nm_global::laws::steps`): a call by which
+//! a packet or a piece leaves puts that behind the others, and no other call changes what left.
 //!
 //! MPI 3.1, sections 3.4 (standard and synchronous mode), 3.5 (order) and 3.8.4 (cancel).
 //!
 //! # What a contract sees
-//! Two views of a rank, before and after a call, and the clauses of that call (`nm_rank`). To use a
-//! law, call it.
+//! The view of a rank. To use a law, call it.
 //! # What is proved
-//! - `starts`: a new rank, sends, receives and cancels.
-//! - `takes`: packets and pieces that are taken, probes, and answers that are recorded or given.
-//! - `leaves`: packets and pieces that leave; and that where nothing is left to send, what left is all
-//!   that the history calls for.
+//! - `starts`: from a new rank nothing left.
+//! - `leaves`: where nothing is left to send, what left is all that the history calls for.
 
 pub mod laws;

@@ -210,18 +210,18 @@ stands_so_far : (sent : List Body) (v : RankView) (st : DeskInvariant sent v) �
     AreRight v.sizes.ranks [] (history_of st.past.log) → CameSoFar (bodies_by sent) st.past.log
 stands_so_far sent v st fresh alone right =
     let bodies = bodies_by sent in
-    let logged = st.logged bodies (are_by sent) in
-    let packets = (st.left bodies (are_by sent)).packets in
+    let logged = (st.placed bodies (are_by sent)).logged in
+    let packets = ((st.placed bodies (are_by sent)).left 0 (omega arith)).packets in
     let more : List Packet = packets_for 0 v.sending.outbox.letters in
     let clock = fresh.clock in
-    came_so_far st.past.eager v.sizes.ranks bodies st.past.log more logged.sound right
+    came_so_far st.eager v.sizes.ranks bodies st.past.log more logged.sound right
     (subst (λ (ps : List Packet). AreCalled 0 0 (outgoing bodies (history_of st.past.log) 0) (ps ++ more))
     (sym (st.even fresh))
-    (subst (λ (h : List Event). AreCalled 0 0 (outgoing bodies h 0) (st.past.left.packets ++ more)) logged.events
-    (subst (λ (me : ℕ). AreCalled me 0 (outgoing bodies v.events 0) (st.past.left.packets ++ more)) alone.me
+    (subst (λ (h : List Event). AreCalled 0 0 (outgoing bodies h 0) ((st.past.left 0).packets ++ more)) logged.events
+    (subst (λ (me : ℕ). AreCalled me 0 (outgoing bodies v.events 0) ((st.past.left 0).packets ++ more)) alone.me
     packets.called)))
     (subst (λ (ps : List Packet). AllByRecursion (λ p. p.stamp < WORN_STAMP) (ps ++ more)) (sym (st.even fresh))
-    (all_along (λ p. p.stamp ≤ v.clock) (λ p. p.stamp < WORN_STAMP) (st.past.left.packets ++ more)
+    (all_along (λ p. p.stamp ≤ v.clock) (λ p. p.stamp < WORN_STAMP) ((st.past.left 0).packets ++ more)
     (λ p early. omega (arith, early, clock)) packets.early))
 
 right_each : (ranks : ℕ) (h : List Event) → AreRight ranks [] h →
@@ -237,7 +237,7 @@ got_shown : (sent : List Body) (v : RankView) (r : Req) (k : Kind) (from tag : �
     (λ pair. IsSomeAnd (slice_get sent pair.arrival.n) (λ b. body ≡ bytes_of b))
 got_shown sent v r k from tag body st fresh alone right at is shows =
     let bodies = bodies_by sent in
-    let logged = st.logged bodies (are_by sent) in
+    let logged = (st.placed bodies (are_by sent)).logged in
     let log = st.past.log in
     let right' : AreRight v.sizes.ranks [] (history_of log) =
     subst (λ (h : List Event). AreRight v.sizes.ranks [] h) logged.events right in
@@ -248,10 +248,10 @@ got_shown sent v r k from tag body st fresh alone right at is shows =
     got.found shows in
     let was = pair_sent v.sizes.ranks (history_of log) (request_of k) got.pair alone.one right' came.in_order
     (ap (λ (h : List Event). pair_of_request h (request_of k)) (sym logged.events) ∙ got.found) in
-    let each = sender_right st.past.eager v.sizes.ranks bodies [] log logged.sound
+    let each = sender_right st.eager v.sizes.ranks bodies [] log logged.sound
     (right_each v.sizes.ranks (history_of log) right') in
     let sized = sized_at bodies (sends (history_of log) 0) got.pair.arrival.n was.send
-    (sends_sized st.past.eager bodies 0 (history_of log) each) was.at in
+    (sends_sized st.eager bodies 0 (history_of log) each) was.at in
     let whole = body_is bodies log got.pair body came was sized st.pieces shown got.long in
     let place = slice_get_within (sends (history_of log) 0) got.pair.arrival.n was.send was.at in
     let many = ap (λ (h : List Event). length (sends h 0)) (sym logged.events) ∙ st.many in

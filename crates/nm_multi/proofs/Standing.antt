@@ -28,10 +28,11 @@ use Rattle.nm_rank.specs.Ranks.{IsFresh, RankView, known_from}
 use Rattle.nm_rank.specs.Requests.{cancel_events}
 use Rattle.nm_channels.specs.Moments.{LogEntry, pulled_from, pulled_of, taken_from, taken_of}
 use Rattle.nm_channels.proofs.BytesCame.{pulled_around, taken_around}
-use Rattle.nm_global.specs.Logged.{IsLogged}
 use Rattle.nm_global.specs.Moments.{acted, took}
-use Rattle.nm_global.specs.Emitted.{IsEmitted, Emitted, with_packet}
-use Rattle.nm_multi.specs.Standing.{AreBodies, DeskInvariant}
+use Rattle.nm_global.specs.Emitted.{Emitted, with_packet}
+use Rattle.nm_global.specs.ProcessInvariant.{with_moment}
+use Rattle.nm_global.specs.Steps.{IsPlaced}
+use Rattle.nm_multi.specs.Standing.{AreBodies, DeskInvariant, alone_run}
 use Rattle.nm_types.proofs.NumberLemmas.{eq_true}
 use Rattle.nm_types.proofs.ListLemmas.{all_append}
 use Rattle.nm_history.proofs.AppendLemmas.{sends-append}
@@ -125,19 +126,12 @@ made_none v p = by (taken_here v p).continued where
 pub acted_on : (sent sent' : List Body) (v v' : RankView) (st : DeskInvariant sent v) (ws : List Happened) →
     IsFresh v → length (sends v'.events 0) ≡ length sent' →
     ((bodies : Sent → List ℕ) → AreBodies bodies sent' →
-    IsLogged st.past.eager bodies [] v' (st.past.log ++ acted v ws ∷ []) st.past.given) →
-    ((bodies : Sent → List ℕ) → AreBodies bodies sent' → IsEmitted bodies v' 0 st.past.left) →
-    DeskInvariant sent' v'
-acted_on sent sent' v v' st ws fresh many logged left =
+    IsPlaced (alone_run st.eager bodies) v' (with_moment st.past (acted v ws))) → DeskInvariant sent' v'
+acted_on sent sent' v v' st ws fresh many placed =
     record {
-      past = record {
-        eager = st.past.eager;
-        log = st.past.log ++ acted v ws ∷ [];
-        given = st.past.given;
-        left = st.past.left;
-      };
-      logged = logged;
-      left = left;
+      eager = st.eager;
+      past = with_moment st.past (acted v ws);
+      placed = placed;
       many = many;
       even = λ _. ap (λ (ts : List Taken). map (λ t. t.packet) ts) (taken_still st.past.log v ws)
           ∙ st.even fresh;

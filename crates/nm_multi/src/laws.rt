@@ -25,15 +25,10 @@ ghost use Rattle.nm_multi.specs.Calls.{IsInRange};
 ghost use Rattle.nm_multi.specs.Moves.{IsAlone, MovesFirst};
 ghost use Rattle.nm_multi.specs.Standing.{DeskInvariant};
 
-use nm_global::log::laws::calls::{
-    a_packet_leaves, a_receive_starts, a_request_is_cancelled, a_send_starts,
-};
-use nm_global::log::laws::moments::{a_log_begins, a_packet_is_taken, a_result_is_given};
-use nm_global::outgoing::laws::leaves::packets_leave;
-use nm_global::outgoing::laws::starts::{
-    cancels_keep_left, nothing_left, receives_keep_left, sends_keep_left,
-};
-use nm_global::outgoing::laws::takes::{answers_keep_left, taken_packets_keep_left};
+use nm_global::laws::steps::a_step_keeps_its_place;
+use nm_global::log::laws::moments::a_log_begins;
+use nm_global::log::laws::results::a_result_is_given;
+use nm_global::outgoing::laws::starts::nothing_left;
 
 /// At a new rank nothing was sent (`Rank::new`).
 pub(crate) fn a_desk_begins()
@@ -49,8 +44,7 @@ pub(crate) fn a_send_goes_on()
         IsInRange (Isend tag body) → AreRight v.sizes.ranks [] v.events → IsFresh v →
         StartsSend (sent_by v tag body) body r v v' → DeskInvariant sent v → DeskInvariant (sent ++ body ∷ []) v' }
 {
-    a_send_starts();
-    sends_keep_left();
+    a_step_keeps_its_place();
 }
 
 /// None by a receive (`Rank::irecv`).
@@ -58,8 +52,7 @@ pub(crate) fn a_receive_goes_on()
     ensures { (sent : List Body) (v v' : RankView) (tag cap : ℕ) (r : Req) → IsFresh v →
         StartsReceive (One 0) (TagOne tag) 0 cap 0 r v v' → DeskInvariant sent v → DeskInvariant sent v' }
 {
-    a_receive_starts();
-    receives_keep_left();
+    a_step_keeps_its_place();
 }
 
 /// None by a packet that the rank takes of itself, which then leaves (`Rank::take_packet`,
@@ -68,10 +61,7 @@ pub(crate) fn a_packet_goes_on()
     ensures { (sent : List Body) (v v' : RankView) → IsAlone v → MovesFirst v v' → DeskInvariant sent v →
         DeskInvariant sent v' }
 {
-    a_packet_is_taken();
-    taken_packets_keep_left();
-    a_packet_leaves();
-    packets_leave();
+    a_step_keeps_its_place();
 }
 
 /// None by a result that is taken (`Rank::finish`), and where it shows a message, it shows the body
@@ -83,8 +73,8 @@ pub(crate) fn a_result_goes_on()
         IsAlone v → AreRight v.sizes.ranks [] v.events → Finishes r answer v v' → DeskInvariant sent v →
         ShowsBody sent v (Finish r) (Ended answer) }
 {
+    a_step_keeps_its_place();
     a_result_is_given();
-    answers_keep_left();
 }
 
 /// None by a cancel (`Rank::cancel`).
@@ -92,8 +82,7 @@ pub(crate) fn a_cancel_goes_on()
     ensures { (sent : List Body) (v v' : RankView) (r : Req) (answer : Cancelled) → IsFresh v →
         Cancels r answer v v' → DeskInvariant sent v → DeskInvariant sent v' }
 {
-    a_request_is_cancelled();
-    cancels_keep_left();
+    a_step_keeps_its_place();
 }
 
 /// So it is with each call, with the reply that it has.

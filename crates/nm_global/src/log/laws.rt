@@ -1,4 +1,4 @@
 //! Laws of the log of a rank. Each is the contract of a function that does nothing.
 
-pub mod calls;
 pub mod moments;
+pub mod results;

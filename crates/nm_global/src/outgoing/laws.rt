@@ -2,4 +2,3 @@
 
 pub mod leaves;
 pub mod starts;
-pub mod takes;

@@ -20,12 +20,7 @@ ghost use Rattle.nm_global.specs.Moments.{acted, drew, took};
 ghost use Rattle.nm_global.specs.ProcessInvariant.{IsOf, GhostHistory, with_moment, with_packet_left};
 ghost use Rattle.nm_global.specs.ProcessInvariant.{with_piece_left};
 
-use crate::log::laws::calls::{a_packet_leaves as packet_logged, a_piece_leaves as piece_logged};
-use crate::log::laws::moments::{
-    a_packet_is_taken as packet_taken, a_piece_is_taken as piece_taken,
-};
-use crate::outgoing::laws::leaves::{packets_leave, pieces_leave};
-use crate::outgoing::laws::takes::{taken_packets_keep_left, taken_pieces_keep_left};
+use crate::laws::steps::a_step_keeps_its_place;
 
 /// `Process::pop_front`.
 pub fn a_packet_leaves()
@@ -36,8 +31,7 @@ pub fn a_packet_leaves()
         (with_moment (with_packet_left past (letter.to, letter.packet))
         (acted v (outs (out_with_packet v)))) }
 {
-    packet_logged();
-    packets_leave();
+    a_step_keeps_its_place();
 }
 
 /// `Process::pop_piece`.
@@ -49,8 +43,7 @@ pub fn a_piece_leaves()
         IsOf shape lines i v'
         (with_moment (with_piece_left past piece) (acted v (outs (out_with_piece v)))) }
 {
-    piece_logged();
-    pieces_leave();
+    a_step_keeps_its_place();
 }
 
 /// `Process::take_packet`.
@@ -60,8 +53,7 @@ pub fn a_packet_is_taken()
         TakesPacket p v v' → IsOf shape lines i v past →
         IsOf shape lines i v' (with_moment past (took v p)) }
 {
-    packet_taken();
-    taken_packets_keep_left();
+    a_step_keeps_its_place();
 }
 
 /// `Process::take_piece`, where one of its rank was due (`Rank::is_piece_due`).
@@ -72,6 +64,5 @@ pub fn a_piece_is_taken()
         TakesPiece q v v' → IsOf shape lines i v past →
         IsOf shape lines i v' (with_moment past (drew v q)) }
 {
-    piece_taken();
-    taken_pieces_keep_left();
+    a_step_keeps_its_place();
 }

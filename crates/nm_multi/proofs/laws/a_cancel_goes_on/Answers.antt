@@ -1,6 +1,7 @@
 -- A cancel sends nothing.
 use Rattle.std.proofs.Common.{[], ◌∙◌}
 use Rattle.nm_rank.specs.Requests.{cancel_events}
+use Rattle.nm_rank.specs.Steps.Step.{cancel}
 use Rattle.nm_multi.proofs.Standing.{acted_on, cancel_none, sent_still}
 use Rattle.nm_multi.proofs.laws.a_cancel_goes_on.Goals as goal
 
@@ -9,7 +10,4 @@ returns c = λ sent v v' r answer fresh is st.
     acted_on sent sent v v' st (cancel_events v.events is.kind) fresh
     (sent_still v v' v.clock (cancel_events v.events is.kind) (cancel_none v.events is.kind)
     (is.happened (λ _. [])).events ∙ st.many)
-    (λ bodies are. c.a_request_is_cancelled.ensures st.past.eager bodies [] v v' st.past.log st.past.given
-    is.kind (st.logged bodies are) (is.happened bodies) is.takes is.requests)
-    (λ bodies are. c.cancels_keep_left.ensures bodies v v' 0 is.kind st.past.left (is.happened bodies)
-    is.offers is.takes (st.left bodies are))
+    (λ bodies are. c.a_step_keeps_its_place.ensures _ v v' st.past (cancel r answer is) tt (st.placed bodies are))

@@ -8,11 +8,11 @@ use Rattle.nm_sending.specs.Sent.{outs}
 use Rattle.nm_rank.specs.Calls.{made_of}
 use Rattle.nm_rank.specs.Pops.{PopsPacket, out_with_packet}
 use Rattle.nm_rank.specs.Ranks.{IsFresh, RankView}
-use Rattle.nm_channels.specs.Moments.{LogEntry}
-use Rattle.nm_global.specs.Logged.{IsLogged}
 use Rattle.nm_global.specs.Moments.{acted, took}
-use Rattle.nm_global.specs.Emitted.{IsEmitted, with_packet}
-use Rattle.nm_multi.specs.Standing.{AreBodies, DeskInvariant}
+use Rattle.nm_global.specs.ProcessInvariant.{GhostHistory, with_moment, with_packet_left}
+use Rattle.nm_global.specs.Steps.{IsPlaced}
+use Rattle.nm_rank.specs.Steps.Step.{pop_front, take_packet}
+use Rattle.nm_multi.specs.Standing.{AreBodies, DeskInvariant, alone_run}
 use Rattle.nm_multi.proofs.Alone.{still_first}
 use Rattle.nm_multi.proofs.Standing.{left_more, made_none, outs_none, pulled_more, pulled_still, sent_still}
 use Rattle.nm_multi.proofs.Standing.{taken_more, taken_still}
@@ -23,20 +23,15 @@ returns c sent v v' alone m st = by m.leaves where
   p : Packet
   p = m.letter.packet
 
-  log : List LogEntry
-  log = st.past.log ++ took v m.letter.packet ∷ []
+  taken : GhostHistory
+  taken = with_moment st.past (took v m.letter.packet)
 
-  logged : (bodies : Sent → List ℕ) → AreBodies bodies sent →
-      IsLogged st.past.eager bodies [] m.between (st.past.log ++ took v m.letter.packet ∷ []) st.past.given
-  logged bodies are =
+  placed : (bodies : Sent → List ℕ) → AreBodies bodies sent → IsPlaced (alone_run st.eager bodies) m.between
+      (with_moment st.past (took v m.letter.packet))
+  placed bodies are =
       let one = alone.one in let from = m.own.1 in
-      c.a_packet_is_taken.ensures st.past.eager bodies [] v m.between st.past.log st.past.given m.letter.packet
-      (st.logged bodies are) (omega (arith, one, from)) m.taken
-
-  left : (bodies : Sent → List ℕ) → AreBodies bodies sent → IsEmitted bodies m.between 0 st.past.left
-  left bodies are =
-      c.taken_packets_keep_left.ensures bodies v m.between 0 m.letter.packet st.past.left m.right m.taken
-      (st.left bodies are)
+      c.a_step_keeps_its_place.ensures _ v m.between st.past (take_packet m.letter.packet m.taken)
+      (m.right, omega (arith, one, from)) (st.placed bodies are)
 
   many : length (sends m.between.events 0) ≡ length sent
   many =
@@ -49,23 +44,17 @@ returns c sent v v' alone m st = by m.leaves where
       let still = still_first p m.letter v m.between m.first m.taken in
       let ws = outs (out_with_packet m.between) in
       record {
-        past = record {
-          eager = st.past.eager;
-          log = log ++ acted m.between ws ∷ [];
-          given = st.past.given;
-          left = with_packet 0 (m.letter.to, p) st.past.left;
-        };
-        logged = λ bodies are. c.a_packet_leaves.ensures st.past.eager bodies [] m.between v' log
-            st.past.given (logged bodies are) pops;
-        left = λ bodies are. c.packets_leave.ensures bodies m.between v' 0 m.letter st.past.left still pops
-            (left bodies are);
+        eager = st.eager;
+        past = with_moment (with_packet_left taken (m.letter.to, m.letter.packet)) (acted m.between ws);
+        placed = λ bodies are. c.a_step_keeps_its_place.ensures _ m.between v' taken (pop_front m.letter still pops) tt
+            (placed bodies are);
         many = sent_still m.between v' m.between.clock ws (outs_none (out_with_packet m.between)) pops.left.events
             ∙ many;
-        even = λ _. ap (λ (ts : List Taken). map (λ t. t.packet) ts) (taken_still log m.between ws)
+        even = λ _. ap (λ (ts : List Taken). map (λ t. t.packet) ts) (taken_still taken.log m.between ws)
             ∙ taken_more st.past.log v p m.own.1
             ∙ ap (λ (ps : List Packet). ps ++ p ∷ []) (st.even m.fresh)
-            ∙ sym (left_more m.letter.to p st.past.left m.own.0);
-        pieces = pulled_still log m.between ws ∙ pulled_more st.past.log v p ∙ st.pieces;
+            ∙ sym (left_more m.letter.to p (st.past.left 0) m.own.0);
+        pieces = pulled_still taken.log m.between ws ∙ pulled_more st.past.log v p ∙ st.pieces;
       }
 
   by : (IsFresh m.between × PopsPacket m.between v') ⊎ (¬ (IsFresh m.between) × (v' ≡ m.between)) →
@@ -73,14 +62,9 @@ returns c sent v v' alone m st = by m.leaves where
   by (inl goes) = leaves goes.1
   by (inr stays) =
       subst (λ (u : RankView). DeskInvariant sent u) (sym stays.1) (record {
-        past = record {
-          eager = st.past.eager;
-          log = log;
-          given = st.past.given;
-          left = st.past.left;
-        };
-        logged = logged;
-        left = left;
+        eager = st.eager;
+        past = taken;
+        placed = placed;
         many = many;
         even = λ fresh. absurd (stays.0 fresh);
         pieces = pulled_more st.past.log v p ∙ st.pieces;

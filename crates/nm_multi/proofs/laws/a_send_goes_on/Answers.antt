@@ -11,6 +11,7 @@ use Rattle.nm_receiving.proofs.Lists.{slice_get-last}
 use Rattle.nm_request.specs.declared.Req.{Req}
 use Rattle.nm_rank.specs.Ranks.{RankView}
 use Rattle.nm_rank.specs.Steps.{StartsSend}
+use Rattle.nm_rank.specs.Steps.Step.{isend}
 use Rattle.nm_multi.specs.Acts.{sent_by}
 use Rattle.nm_multi.specs.Standing.{AreBodies}
 use Rattle.nm_multi.proofs.Standing.{acted_on}
@@ -39,8 +40,5 @@ returns c = λ sent v v' tag body r range right fresh is st.
     (get_front sent (body ∷ []) t.n (slice_get_within sent t.n b at) ∙ at)) in
     acted_on sent (sent ++ body ∷ []) v v' st (event.Send 0 s.n tag 0 s.len s.how 0 ∷ []) fresh
     (one_sent sent v v' tag body r is st.many)
-    (λ bodies are. c.a_send_starts.ensures st.past.eager bodies [] v v' st.past.log st.past.given 0 tag 0 0
-    body false r (st.logged bodies (front bodies are)) range.0 range.1 (own bodies are)
-    (is.started bodies (own bodies are)))
-    (λ bodies are. c.sends_keep_left.ensures bodies v v' 0 0 tag 0 0 body false r st.past.left right
-    (own bodies are) (is.started bodies (own bodies are)) is.offers (st.left bodies (front bodies are)))
+    (λ bodies are. c.a_step_keeps_its_place.ensures _ v v' st.past (isend 0 tag 0 0 body false r is)
+    (right, range.0, range.1, own bodies are) (st.placed bodies (front bodies are)))

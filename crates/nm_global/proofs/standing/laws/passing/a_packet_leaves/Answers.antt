@@ -1,17 +1,12 @@
--- By the laws of the log and of what left.
+-- By the law of a step.
 use Rattle.std.proofs.Common.{◌∙◌}
-use Rattle.nm_types.specs.Commands.{commands_of}
-use Rattle.nm_history.specs.Sends.{sent_body}
+use Rattle.nm_rank.specs.Steps.Step.{pop_front}
+use Rattle.nm_global.specs.Steps.{setting_of}
 use Rattle.nm_global.proofs.standing.laws.passing.a_packet_leaves.Goals as goal
 
 pub returns : goal.returns
 returns c shape lines i v v' past letter first pops is =
-    let commands = commands_of i lines in
-    let bodies = sent_body commands in
-    record {
-      me = pops.takes.me ∙ is.me;
-      logged = c.a_packet_leaves.ensures shape.eager bodies commands v v' past.log past.given is.logged
-          pops;
-      left = λ to within. c.packets_leave.ensures bodies v v' to letter (past.left to) first pops
-          (is.left to within);
-    }
+    let placed = c.a_step_keeps_its_place.ensures (setting_of shape lines i) v v' past
+    (pop_front letter first pops) tt
+    (record { logged = is.logged; left = is.left }) in
+    record { me = pops.takes.me ∙ is.me; logged = placed.logged; left = placed.left }

@@ -1,6 +1,6 @@
 -- Each command adds the moments of its calls, of which the last one records its answer.
-use Rattle.std.proofs.Common.{◌≡◌, ℕ, ◌+◌, ◌<◌, ◌≤◌, Bool, true, Option, Some, None, List, []}
-use Rattle.std.proofs.Common.{append-nil, ◌∷◌, ◌++◌, length, refl, sym, subst, ap, ◌∙◌, ⊎_elim, arith}
+use Rattle.std.proofs.Common.{◌≡◌, ℕ, ◌+◌, ◌≤◌, Bool, true, Option, Some, None, List, []}
+use Rattle.std.proofs.Common.{append-nil, ◌∷◌, length, refl, sym, subst, ap, ◌∙◌, ⊎_elim, arith}
 use Rattle.std.specs.Prelude.{◌⊎◌, nat_le, nat_lt, ◌&&◌}
 use Rattle.std.specs.Option.{option_map_or}
 use Rattle.std.proofs.lemmas.Bool.Decides.{nat_tests}
@@ -9,7 +9,6 @@ use Rattle.nm_types.specs.declared.answers.Answer.TheVariants as answer
 use Rattle.nm_types.specs.declared.limits.TheConstants.{MAX_BODY, MAX_CONTEXT, MAX_NAME, MAX_TAG}
 use Rattle.nm_types.specs.declared.messages.Arrival.{Arrival}
 use Rattle.nm_types.specs.declared.messages.Peer.{Peer}
-use Rattle.nm_types.specs.declared.messages.Post.{Post}
 use Rattle.nm_types.specs.declared.messages.TagPick.{TagPick}
 use Rattle.nm_types.specs.declared.scripts.Body.{Body}
 use Rattle.nm_types.specs.declared.scripts.Command.{Command}
@@ -21,23 +20,19 @@ use Rattle.nm_history.specs.declared.events.Event.{Event}
 use Rattle.nm_history.specs.declared.events.Happened.{Happened}
 use Rattle.nm_history.specs.declared.events.Happened.TheVariants as event
 use Rattle.nm_history.specs.Answers.{live, seen}
-use Rattle.nm_history.specs.Matching.{first_message, matched_pairs}
-use Rattle.nm_history.specs.Sends.{Sent, message_of, receives as of_receives, sent_body, sent_bytes}
+use Rattle.nm_history.specs.Sends.{Sent, receives as of_receives, sent_body, sent_bytes}
 use Rattle.nm_history.specs.Sends.{sends as of_sends}
 use Rattle.nm_history.specs.Clock.{stamped}
 use Rattle.nm_request.specs.declared.Kind.{Kind}
 use Rattle.nm_request.specs.declared.Kind.TheVariants as kind
 use Rattle.nm_request.specs.declared.Req.{Req}
-use Rattle.nm_receiving.specs.Receipts.{taken_events}
 use Rattle.nm_rank.specs.declared.answers.Cancelled.{Cancelled}
 use Rattle.nm_rank.specs.declared.answers.Cancelled.TheVariants as cancelled
-use Rattle.nm_rank.specs.Calls.{Starts}
 use Rattle.nm_rank.specs.Ranks.{RankView, request_of}
-use Rattle.nm_global.specs.Emitted.{IsEmitted}
-use Rattle.nm_global.specs.Logged.{IsLogged}
 use Rattle.nm_rank.specs.Requests.{cancel_events}
 use Rattle.nm_rank.specs.Sends.{event_of, next_send}
-use Rattle.nm_rank.specs.Steps.{StartsMatched, StartsReceive, StartsSend}
+use Rattle.nm_rank.specs.Steps.{StartsMatched, StartsReceive, StartsSend, Step, match_events, post_events}
+use Rattle.nm_rank.specs.Steps.Step.{isend, irecv, imrecv, improbe, cancel, finish, ran as ran_step}
 use Rattle.nm_global.specs.Calls.{AnswersLogged, ShowsLogged, given_after}
 use Rattle.nm_global.specs.Moments.{acted}
 use Rattle.nm_process.specs.declared.steps.Step.TheVariants.{Ran as Took}
@@ -49,6 +44,7 @@ use Rattle.nm_process.specs.Starts.{HasTriedTest, IsBusy, IsHandleBusy, KeepsHan
 use Rattle.nm_process.specs.Starts.{IsHandleNull, IsNull, answer_for, message_probed}
 use Rattle.nm_process.proofs.PlaceLemmas.{all_at, next_found}
 use Rattle.nm_global.specs.ProcessInvariant.{GoesOn, IsOf, GhostHistory, with_moment}
+use Rattle.nm_global.specs.Steps.{MayBeMade, after, setting_of}
 use Rattle.nm_global.proofs.Still.{history_longer, own_same, then_on}
 use Rattle.nm_global.proofs.standing.laws.runs.a_command_runs.Goals as goal
 
@@ -97,21 +93,22 @@ returns c shape lines i a b past in_lines right standing ran =
       found : command_at commands line ≡ Some ran.line.command
       found = next_found lines me a.next ran.place ran.line ran.is
 
+      -- a step keeps the place of the rank
+      steps : (v w : RankView) (now : GhostHistory) (step : Step v w) → w.me ≡ v.me →
+          MayBeMade (setting_of shape lines me) now v w step → IsOf shape lines me v now →
+          IsOf shape lines me w (after v w step now)
+      steps v w now step own may at =
+          let placed = c.a_step_keeps_its_place.ensures (setting_of shape lines me) v w now step may
+          (record { logged = at.logged; left = at.left }) in
+          record { me = own ∙ at.me; logged = placed.logged; left = placed.left }
+
       answers : (v : ProcessView) (now : GhostHistory) (x : Answer) → IsOf shape lines me v.rank now →
           AnswersLogged commands now.log v.rank.events line x → HasAnswered v b' line x →
           GoesOn shape lines me b.rank now
       answers v now x at shows answered =
           record {
             after = with_moment now (acted v.rank (event.Ran line x ∷ []));
-            is = record {
-              me = answered.records.takes.me ∙ at.me;
-              logged = c.an_answer_is_recorded.ensures shape.eager bodies commands v.rank b.rank now.log
-                  now.given line x at.logged shows answered.records.noted answered.records.takes
-                  answered.records.requests;
-              left = λ to within. c.answers_keep_left.ensures.ran bodies v.rank b.rank to line x
-                  (now.left to) answered.records.noted answered.records.takes answered.records.sending
-                  (at.left to within);
-            };
+            is = steps v.rank b.rank now (ran_step line x answered.records) answered.records.takes.me shows at;
             same = own_same now (stamped v.rank.clock (event.Ran line x ∷ []));
             grew = let sum = history_longer now.log (acted v.rank (event.Ran line x ∷ [])) in omega (arith, sum);
           }
@@ -125,19 +122,12 @@ returns c shape lines i a b past in_lines right standing ran =
           let mid = p.mid.rank in
           let same = e.finished.same in
           let events : mid.events ≡ a.rank.events = ap (λ (v : RankView). v.events) same in
-          let clock : mid.clock ≡ a.rank.clock = ap (λ (v : RankView). v.clock) same in
-          let own : mid.me ≡ a.rank.me = ap (λ (v : RankView). v.me) same in
           let now : GhostHistory = record past { given = given_after e.kind past.given } in
           let at : IsOf shape lines me mid now =
-          record {
-            me = own;
-            logged = c.a_result_is_given.ensures.kept shape.eager bodies commands a.rank mid past.log
-                past.given e.request e.kind p.answer is.logged e.is e.finished;
-            left = λ to within. c.answers_keep_left.ensures.given bodies a.rank mid to (past.left to)
-                events clock (ap (λ (v : RankView). v.sending) same) own (is.left to within);
-          } in
+          steps a.rank mid past (finish e.request e.kind p.answer e.is e.finished)
+          (ap (λ (v : RankView). v.me) same) tt is in
           let shows : ShowsLogged past.log a.rank.events e.kind p.answer =
-          c.a_result_is_given.ensures.shows shape.eager bodies commands a.rank mid past.log past.given
+          c.a_result_is_given.ensures shape.eager bodies commands a.rank mid past.log past.given
           e.request e.kind p.answer is.logged right e.is e.finished in
           let recorded : AnswersLogged commands past.log a.rank.events line p.answer =
           may e.kind p.answer (sym (standing.work.requests q) ∙ e.live) shows in
@@ -155,25 +145,14 @@ returns c shape lines i a b past in_lines right standing ran =
 
       -- a start, and its answer
       begins : (Call : Req → RankView → RankView → Type 0) (ws : List Happened) (k : Kind) (q : ℕ) →
-          ((mid : RankView) (r : Req) → Call r a.rank mid → Starts bodies ws k a.rank mid r) →
-          ((mid : RankView) (r : Req) → Starts bodies ws k a.rank mid r →
-          IsLogged shape.eager bodies commands mid (past.log ++ acted a.rank ws ∷ []) past.given) →
           ((mid : RankView) (r : Req) → Call r a.rank mid →
-          (to : ℕ) → to < shape.ranks → IsEmitted bodies mid to (past.left to)) →
+          IsOf shape lines me mid (with_moment past (acted a.rank ws))) →
           HasStarted Call k a b' q line → GoesOn shape lines me b.rank past
-      begins Call ws k q opens logged left s =
-          let g = s.begun in
-          let mid = s.mid in
-          let starts : Starts bodies ws k a.rank mid.rank g.request = opens mid.rank g.request g.starts in
-          let now : GhostHistory = with_moment past (acted a.rank ws) in
-          let at : IsOf shape lines me mid.rank now =
-          record {
-            me = starts.takes.me;
-            logged = logged mid.rank g.request starts;
-            left = left mid.rank g.request g.starts;
-          } in
-          then_on shape lines me b.rank past now (own_same past (stamped a.rank.clock ws))
-          (answers mid now answer.Started at tt s.answered)
+      begins Call ws k q starts s =
+          then_on shape lines me b.rank past (with_moment past (acted a.rank ws))
+          (own_same past (stamped a.rank.clock ws))
+          (answers s.mid (with_moment past (acted a.rank ws)) answer.Started
+          (starts s.mid.rank s.begun.request s.begun.starts) tt s.answered)
 
       sends : (q to tag ctx : ℕ) (body : Body) (sync : Bool) →
           ran.line.command ≡ command.Send q to tag ctx body sync →
@@ -192,45 +171,28 @@ returns c shape lines i a b past in_lines right standing ran =
             GoesOn shape lines me b.rank past
         started p = begins (StartsSend (next_send a.rank to tag ctx body sync line) body)
             (event_of (next_send a.rank to tag ctx body sync line) ∷ [])
-            (kind.Send to (length (of_sends a.rank.events to))) q (λ mid r is. is.started bodies own)
-            (λ mid r starts. c.a_send_starts.ensures shape.eager bodies commands a.rank mid past.log
-            past.given to tag ctx line body sync r is.logged
-            (tag_below (nat_le q MAX_NAME) (nat_lt to a.rank.sizes.ranks) (nat_le tag MAX_TAG)
-            (nat_le ctx MAX_CONTEXT) (nat_le (body_len body) MAX_BODY) tag refl all)
-            (body_below (nat_le q MAX_NAME) (nat_lt to a.rank.sizes.ranks) (nat_le tag MAX_TAG)
-            (nat_le ctx MAX_CONTEXT) (nat_le (body_len body) MAX_BODY) (body_len body) refl all)
-            own starts)
-            (λ mid r call t within. c.sends_keep_left.ensures bodies a.rank mid t to tag ctx line
-            body sync r (past.left t) right own (call.started bodies own) call.offers (is.left t within))
+            (kind.Send to (length (of_sends a.rank.events to))) q
+            (λ mid r did. steps a.rank mid past (isend to tag ctx line body sync r did)
+            (did.started bodies own).takes.me (
+              right,
+              tag_below (nat_le q MAX_NAME) (nat_lt to a.rank.sizes.ranks) (nat_le tag MAX_TAG)
+                  (nat_le ctx MAX_CONTEXT) (nat_le (body_len body) MAX_BODY) tag refl all,
+              body_below (nat_le q MAX_NAME) (nat_lt to a.rank.sizes.ranks) (nat_le tag MAX_TAG)
+                  (nat_le ctx MAX_CONTEXT) (nat_le (body_len body) MAX_BODY) (body_len body) refl all,
+              own,
+            ) is)
             p.0
 
       receives : (q : ℕ) (from : Peer) (tag : TagPick) (ctx room : ℕ) →
           HasTriedReceive a b' q from tag ctx room line → GoesOn shape lines me b.rank past
       receives q from tag ctx room tried = ⊎_elim (is_busy q) started tried where
-        h : List Event
-        h = a.rank.events
-
-        post : Post
-        post = record {
-          number = length (of_receives h);
-          from = from;
-          tag = tag;
-          ctx = ctx;
-          cap = room;
-        }
-
-        ws : List Happened
-        ws = event.Post post line ∷ taken_events (first_message h (matched_pairs h) from tag ctx)
-
-        started : HasStarted (StartsReceive from tag ctx room line) (kind.Receive (length (of_receives h))) a b' q line
-            × KeepsHandles a b' → GoesOn shape lines me b.rank past
-        started p = begins (StartsReceive from tag ctx room line) ws
-            (kind.Receive (length (of_receives h))) q (λ mid r is. is.started bodies)
-            (λ mid r starts. c.a_receive_starts.ensures shape.eager bodies commands a.rank mid past.log
-            past.given from tag ctx room line r is.logged starts)
-            (λ mid r call t within. c.receives_keep_left.ensures.posted bodies a.rank mid t line
-            post (first_message h (matched_pairs h) from tag ctx) (kind.Receive (length (of_receives h))) r
-            (past.left t) (call.started bodies) call.offers (is.left t within))
+        started : HasStarted (StartsReceive from tag ctx room line)
+            (kind.Receive (length (of_receives a.rank.events))) a b' q line × KeepsHandles a b' →
+            GoesOn shape lines me b.rank past
+        started p = begins (StartsReceive from tag ctx room line) (post_events a.rank.events from tag ctx room line)
+            (kind.Receive (length (of_receives a.rank.events))) q
+            (λ mid r did. steps a.rank mid past (irecv from tag ctx room line r did)
+            (did.started bodies).takes.me tt is)
             p.0
 
       tests : (q : ℕ) → ran.line.command ≡ command.Test q → HasTriedTest a b' q line →
@@ -251,13 +213,7 @@ returns c shape lines i a b past in_lines right standing ran =
             let ws = cancel_events a.rank.events did.kind in
             let now : GhostHistory = with_moment past (acted a.rank ws) in
             let at : IsOf shape lines me mid.rank now =
-            record {
-              me = did.takes.me;
-              logged = c.a_request_is_cancelled.ensures shape.eager bodies commands a.rank mid.rank past.log
-                  past.given did.kind is.logged (did.happened bodies) did.takes did.requests;
-              left = λ t within. c.cancels_keep_left.ensures bodies a.rank mid.rank t did.kind (past.left t)
-                  (did.happened bodies) did.offers did.takes (is.left t within);
-            } in
+            steps a.rank mid.rank past (cancel p.request p.answer did) did.takes.me tt is in
             then_on shape lines me b.rank past now (own_same past (stamped a.rank.clock ws))
             (answers mid now (answer_for p.answer) at (shows_cancel commands now mid.rank.events line p.answer)
             p.answered)
@@ -279,13 +235,7 @@ returns c shape lines i a b past in_lines right standing ran =
             let ws : List Happened = event.Claim x.env.from x.n line ∷ [] in
             let now : GhostHistory = with_moment past (acted a.rank ws) in
             let at : IsOf shape lines me mid.rank now =
-            record {
-              me = did.takes.me;
-              logged = c.a_message_is_claimed.ensures shape.eager bodies commands a.rank mid.rank past.log
-                  past.given x line is.logged did.claimed did.takes did.requests;
-              left = λ t within. c.answers_keep_left.ensures.claimed bodies a.rank mid.rank t x.env.from x.n
-                  line (past.left t) did.claimed did.takes did.sending (is.left t within);
-            } in
+            steps a.rank mid.rank past (improbe x line did) did.takes.me tt is in
             then_on shape lines me b.rank past now (own_same past (stamped a.rank.clock ws))
             (answers mid now (seen x) at tt p.answered)
 
@@ -297,16 +247,10 @@ returns c shape lines i a b past in_lines right standing ran =
         some : HasMatched a b' q m room line → GoesOn shape lines me b.rank past
         some p =
             let x = p.message in
-            let number : ℕ = length (of_receives a.rank.events) in
-            begins (StartsMatched x.from x.n room line)
-            (event.Match number x.from x.n room line
-            ∷ taken_events (message_of a.rank.events x.from x.n))
-            (kind.Receive number) q (λ mid r is. is.started bodies)
-            (λ mid r starts. c.a_claimed_receive_starts.ensures shape.eager bodies commands a.rank mid
-            past.log past.given x.from x.n room line r is.logged starts)
-            (λ mid r call t within. c.receives_keep_left.ensures.matched bodies a.rank mid t number
-            x.from x.n room line (message_of a.rank.events x.from x.n) (kind.Receive number) r (past.left t)
-            (call.started bodies) call.offers (is.left t within))
+            begins (StartsMatched x.from x.n room line) (match_events a.rank.events x.from x.n room line)
+            (kind.Receive (length (of_receives a.rank.events))) q
+            (λ mid r did. steps a.rank mid past (imrecv x.from x.n room line r did)
+            (did.started bodies).takes.me tt is)
             p.started
 
       by_command : (x : Command) → ran.line.command ≡ x → HasTried a b' x line Took →
