@@ -3,7 +3,7 @@ use Rattle.std.proofs.Common.{◌≡◌, ℕ, ◌+◌, ◌<◌, ◌==◌, Bool, 
 use Rattle.std.proofs.Common.{Option, Some, None}
 use Rattle.std.proofs.Common.{List, [], ◌∷◌, ◌++◌, length, is_some, refl, sym, ◌∙◌, ap, subst}
 use Rattle.std.proofs.Common.{arith, true≢false}
-use Rattle.std.specs.Prelude.{option_and_then}
+use Rattle.std.specs.Prelude.{IfSome, option_and_then, option_map}
 use Rattle.std.proofs.Math.ListN.{set}
 use Rattle.nm_history.specs.declared.events.Event.{Event}
 use Rattle.nm_history.specs.Delivery.{is_asked}
@@ -18,11 +18,11 @@ use Rattle.nm_history.specs.Continues.{has}
 use Rattle.nm_rndv.specs.declared.asked.State.{State}
 use Rattle.nm_rndv.specs.Offers.{state_of, recall_in, destined}
 use Rattle.nm_sending.specs.declared.outbox.letters.Letter.{Letter}
-use Rattle.nm_sending.specs.Outboxes.{OutboxView}
+use Rattle.nm_sending.specs.Outboxes.{OutboxView, popped_to}
 use Rattle.nm_sending.specs.declared.departures.Departure.{Departure}
 use Rattle.nm_sending.specs.Departures.{SendingView, row_of, with_departure, departures_to}
 use Rattle.nm_sending.specs.Departures.{departure_of, passes}
-use Rattle.nm_sending.specs.Departures.{cleared_to, ends_to}
+use Rattle.nm_sending.specs.Departures.{cleared_to, ended_by, ends_to}
 use Rattle.nm_sending.specs.Sent.{AreSent, Preserves}
 use Rattle.nm_sending.specs.Tables.{TablesAgree, IsOffer, IsOfferBy, waits, waiting_from, recall_of}
 use Rattle.nm_sending.proofs.EventLemmas.{left_none, sends-same, pushed_out-same}
@@ -191,3 +191,34 @@ module _ (me ranks : ℕ) (old : SendingView) (tables : TablesAgree me ranks old
                 (λ t q. refl)),
             λ ranks. right-out old h letter.to n ranks d there (waits_in d (ended_waits d there)) was,
           ))
+
+-- the message that leaves with the first letter
+pub ends_with : (o : OutboxView) (letter : Letter) (rest : List Letter) → o.letters ≡ letter ∷ rest
+    → ended_by (slice_get o.letters 0) ≡ option_map (λ n. (letter.to, n)) letter.ends
+ends_with o letter rest first = ap (λ (ls : List Letter). ended_by (slice_get ls 0)) first
+
+-- the first letter was popped
+pub first_popped : (old : OutboxView) (letter : Letter) (new : OutboxView) → old.letters ≡ letter ∷ new.letters
+    → new
+    ≡ record old {
+      letters = new.letters;
+      popped = set old.popped letter.to (popped_to old letter.to + 1);
+      spare = old.spare + 1;
+    }
+    → IfSome (slice_get old.letters 0) (λ l.
+    (old.letters ≡ l ∷ new.letters)
+    × (new
+    ≡ record old {
+      letters = new.letters;
+      popped = set old.popped l.to (popped_to old l.to + 1);
+      spare = old.spare + 1;
+    }))
+first_popped old letter new first counted =
+    subst (λ (x : Option Letter). IfSome x (λ l.
+    (old.letters ≡ l ∷ new.letters)
+    × (new
+    ≡ record old {
+      letters = new.letters;
+      popped = set old.popped l.to (popped_to old l.to + 1);
+      spare = old.spare + 1;
+    }))) (sym (ap (λ (ls : List Letter). slice_get ls 0) first)) (first, counted)

@@ -1,7 +1,7 @@
 -- The packets of a message.
 use Rattle.std.proofs.Common.{◌≡◌, ℕ, ◌+◌, ◌==◌, Bool, true, false, ◌&&◌, not, cond}
 use Rattle.std.proofs.Common.{Option, Some, None, List, [], ◌∷◌, ◌++◌, length, map, take, refl, sym, ◌∙◌, ap}
-use Rattle.std.proofs.Common.{subst, arith}
+use Rattle.std.proofs.Common.{subst, arith, append-nil}
 use Rattle.std.specs.List.{filter_map}
 use Rattle.std.proofs.lemmas.List.{take_all}
 use Rattle.std.proofs.lemmas.List.FromFn.{length-map-range_with_len}
@@ -164,3 +164,16 @@ puts_request to n tag ctx stamp len spare body how old reserved new room many as
     (Send to n tag ctx (body_len body) w line)) (cond (is_ask w) None (Some n)) stamp old new) (sym asks)
     (subst (λ (k : ℕ). Puts (only_to to stamp (what.Ask tag ctx k)) None stamp old new) many
     (puts-reserved (only_to to stamp (what.Ask tag ctx len)) None stamp spare old reserved new room puts))
+
+-- and no message leaves with it
+pub ends_request : (t to n : ℕ) (how : How) (spare : ℕ) (old reserved new : OutboxView)
+    → reserved ≡ record old { spare = spare } → how ≡ Ask → ends_to t new.letters ≡ ends_to t reserved.letters
+    → ends_to t new.letters ≡ ends_to t old.letters ++ cond (to == t && not (is_ask how)) (n ∷ []) []
+ends_request t to n how spare old reserved new room asks same =
+    same ∙ ap (λ (o : OutboxView). ends_to t o.letters) room ∙ sym (append-nil (ends_to t old.letters))
+    ∙ ap (λ (ns : List ℕ). ends_to t old.letters ++ ns)
+    (by_test (to == t) ∙ ap (λ (w : How). cond (to == t && not (is_ask w)) (n ∷ []) []) (sym asks))
+  where
+    by_test : (b : Bool) → [] ≡ cond (b && false) (n ∷ []) []
+    by_test true = refl
+    by_test false = refl

@@ -2,7 +2,7 @@
 use Rattle.std.proofs.Common.{◌≡◌, ℕ, ◌+◌, ◌*◌, ◌<◌, ◌≤◌, ◌==◌, Bool, true, false, not, ◌&&◌, cond}
 use Rattle.std.proofs.Common.{Option, Some, None, List, [], ◌∷◌, ◌++◌, length, get_or, is_some, refl, sym}
 use Rattle.std.proofs.Common.{◌∙◌, ap, subst, arith}
-use Rattle.std.specs.Prelude.{nat_lt, option_and_then, option_map, IsSome}
+use Rattle.std.specs.Prelude.{nat_lt, option_and_then, option_map, IfSome, IsSome}
 use Rattle.std.specs.Option.{option_map_or}
 use Rattle.std.specs.Bool.{then_some}
 use Rattle.std.proofs.Math.ListN.{set}
@@ -404,3 +404,19 @@ next_pushes me ranks old tables p next =
     let few = few_pushed me ranks old tables m.0.0 m.0.1 m.1 (leading me ranks old tables m.0 m.1) within in
     let to : p.to ≡ m.0.0 = piece_to old.offers p m.0.0 m.0.1 next m.1 in
     (omega (arith, to, within), subst (λ (x : ℕ). pushed_to old x + 1 ≤ 1024 * MAX_MESSAGES) (sym to) few)
+
+-- a piece of the first message that leaves was popped
+pub offers_popped : (old : SendingView) (to n : ℕ) → first_leaving old.offers ≡ Some (to, n)
+    → IfSome (first_leaving old.offers) (λ m. with_popped old.offers (to, n) ≡ with_popped old.offers m)
+offers_popped old to n first =
+    subst (λ (o : Option (ℕ × ℕ)). IfSome o (λ m. with_popped old.offers (to, n) ≡ with_popped old.offers m))
+    (sym first) refl
+
+-- and it counts for that message's rank
+pub count_pushed : (old : SendingView) (to n : ℕ) → first_leaving old.offers ≡ Some (to, n)
+    → IfSome (first_leaving old.offers) (λ m.
+    set old.pushed to (pushed_to old to + 1) ≡ set old.pushed m.0 (pushed_to old m.0 + 1))
+count_pushed old to n first =
+    subst (λ (o : Option (ℕ × ℕ)). IfSome o (λ m.
+    set old.pushed to (pushed_to old to + 1) ≡ set old.pushed m.0 (pushed_to old m.0 + 1)))
+    (sym first) refl

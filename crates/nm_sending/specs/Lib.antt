@@ -1,3 +1,4 @@
+pub mod Calls
 pub mod Departures
 pub mod Letters
 pub mod Outboxes

@@ -10,20 +10,21 @@
 //! # What a contract sees
 //! The packets to be sent, the messages that were asked for and the order of their clearances, what
 //! became of each message, the counts of pieces pushed, and the number of messages that have not
-//! left. A relation, `AreSent`, says of which histories these are the messages. Each call says
-//! which events it goes with (`Preserves`), and each answer is the definition's on every history that
-//! stands in the relation.
+//! left. A relation, `AreSent`, says of which histories these are the messages. What a call did is
+//! one relation, named after it (`Calls`), which says with which events it goes (`Preserves`); and
+//! each answer is the definition's on every history that stands in the relation.
 //!
 //! # What is proved
 //! - A message calls for its packets, and they are put in order. An eager one leaves with the last of
-//!   them, and none leaves with any other packet (`send`, `recall`, `answer`: `puts`).
+//!   them, and none leaves with any other packet (`send`: `sent`, `recall`: `recalled`, `answer`:
+//!   `puts`).
 //! - A message leaves once: with its last packet, with its last piece, or with its clearance where it
-//!   is empty (`pop_front`, `pop_piece`, `clear`: `kept`). Where no packet is left, each eager message
-//!   has left (`front`: `left`).
-//! - A recall and its answer are noted, and change no other message that was asked for (`recall`:
-//!   `recalled`, `undo`: `answered`).
+//!   is empty (`PopsFirstPacket`, `PopsNextPiece`, `ClearsMessage`: `kept`). Where no packet is left,
+//!   each eager message has left (`front`: `left`).
+//! - A recall and its answer are noted, and change no other message that was asked for
+//!   (`RecallsMessage`, `AnswersRecall`).
 //! - Pieces are those of the first message that was cleared and has not left, in order
-//!   (`next_piece`: `next`; `pop_piece`: `in_turn`).
+//!   (`next_piece`: `next`; `PopsNextPiece`: `in_turn`).
 //! - Want of memory changes nothing but room (`send`, `recall`: `err`).
 //! # What is only tested
 //! That calls that take memory succeed with ample memory.

@@ -1,16 +1,15 @@
 //! How a message's packets are put into the outbox.
 
-ghost use Rattle.std.specs.Prelude.{◌≡◌, ℕ, ◌+◌, ◌-◌, ◌<◌, ◌≤◌, ◌==◌, ◌&&◌, not, [], ◌∷◌, ◌++◌};
-ghost use Rattle.std.specs.Prelude.{if◌then◌else◌, length, None, Some, OnOk, OnErr, List, true};
+ghost use Rattle.std.specs.Prelude.{◌≡◌, ℕ, ◌+◌, ◌-◌, ◌<◌, ◌≤◌};
+ghost use Rattle.std.specs.Prelude.{if◌then◌else◌, length, None, Some, OnOk, OnErr};
 ghost use Rattle.nm_types.specs.declared.limits.TheConstants.{MAX_BODY, MAX_EAGER, MAX_PACKETS};
 ghost use Rattle.nm_types.specs.declared.limits.TheConstants.{MAX_STAMP};
-ghost use Rattle.nm_types.specs.Bodies.{body_len, bytes_of};
-ghost use Rattle.nm_history.specs.declared.events.Event.{Event};
-ghost use Rattle.nm_history.specs.declared.events.Happened.TheVariants as event;
-ghost use Rattle.nm_history.specs.Outgoing.{further_packets, packets_by};
+ghost use Rattle.nm_types.specs.Bodies.{body_len};
+ghost use Rattle.nm_history.specs.Outgoing.{further_packets};
 ghost use Rattle.nm_history.specs.Sends.{is_ask};
 ghost use Rattle.nm_eager.specs.Cutting.{packet_count};
-ghost use Rattle.nm_rndv.specs.Offers.{destined, state_of, with_asked, with_destined};
+ghost use Rattle.nm_rndv.specs.Offers.{state_of};
+ghost use Rattle.nm_sending.specs.Calls.{PutsMessage, sent_as};
 ghost use Rattle.nm_sending.specs.Outboxes.{put_to};
 ghost use Rattle.nm_sending.specs.Departures.{ends_to};
 ghost use Rattle.nm_sending.specs.Sent.{Puts, PutsFirst, only_to};
@@ -97,18 +96,8 @@ pub(crate) fn put_message(
     requires few { put_to outbox.old heading.to + 17 ≤ MAX_PACKETS }
     requires short { body_len body ≤ (if is_ask heading.how then MAX_BODY else MAX_EAGER) }
     requires in_time { stamp ≤ MAX_STAMP }
-    ensures puts { OnOk result ((h : List Event) (line : ℕ) → Puts
-        (λ other. packets_by (λ s. bytes_of body) other h stamp
-        (event.Send heading.to heading.n heading.tag heading.ctx (body_len body) heading.how line))
-        (if is_ask heading.how then None else Some heading.n) stamp outbox.old outbox.new) }
-    ensures ends { OnOk result ((other : ℕ) → ends_to other outbox.new.letters
-        ≡ ends_to other outbox.old.letters
-        ++ (if heading.to == other && not (is_ask heading.how) then heading.n ∷ [] else [])) }
-    ensures asked { OnOk result (offers.new
-        ≡ (if is_ask heading.how
-        then with_destined offers.old heading.to
-        (with_asked (destined offers.old heading.to) heading.n body)
-        else offers.old)) }
+    ensures put { OnOk result ((line : ℕ) → PutsMessage (sent_as heading.to heading.tag heading.ctx
+        body heading.how stamp heading.n line) body outbox.old outbox.new offers.old offers.new) }
     ensures err { OnErr result
         (outbox.new ≡ record outbox.old { spare = outbox.new.spare }) }
     ensures unasked { OnErr result (offers.new ≡ offers.old) }

@@ -1,33 +1,27 @@
 //! The sending side of a rank.
 
-ghost use Rattle.std.specs.Prelude.{◌≡◌, ◌+◌, ◌-◌, ◌<◌, ◌≤◌, ◌↔◌, ℕ, true, false, Some};
-ghost use Rattle.std.specs.Prelude.{None, List, [], ◌∷◌, if◌then◌else◌, length, filter, not};
-ghost use Rattle.std.specs.Prelude.{replicate, slice_get, slice_set, IfOk, IfSome, IsSome};
-ghost use Rattle.std.specs.Prelude.{IsNone, OnOk, OnErr};
-ghost use Rattle.std.specs.Prelude.{option_copied, option_map, option_and_then};
+ghost use Rattle.std.specs.Prelude.{◌≡◌, ◌+◌, ◌-◌, ◌<◌, ◌≤◌, ◌↔◌, ℕ, false, None, List, []};
+ghost use Rattle.std.specs.Prelude.{if◌then◌else◌, length, replicate, slice_get, IfOk, IfSome};
+ghost use Rattle.std.specs.Prelude.{IsSome, IsNone, OnOk, OnErr, option_copied, option_map};
 ghost use Rattle.nm_types.specs.declared.limits.TheConstants.{MAX_BODY, MAX_EAGER, MAX_PACKETS};
 ghost use Rattle.nm_types.specs.declared.limits.TheConstants.{MAX_STAMP};
-ghost use Rattle.nm_types.specs.declared.packets.What.TheVariants as what;
-ghost use Rattle.nm_types.specs.Bodies.{body_len, bytes_of};
+ghost use Rattle.nm_types.specs.Bodies.{body_len};
 ghost use Rattle.nm_history.specs.declared.events.Event.{Event};
-ghost use Rattle.nm_history.specs.declared.events.Happened.TheVariants as event;
 ghost use Rattle.nm_history.specs.Completion.{is_complete as is_complete_lem, result_of};
 ghost use Rattle.nm_history.specs.Completion.Request.{Sending as SendingRequest};
 ghost use Rattle.nm_history.specs.Delivery.{is_asked as is_asked_lem};
 ghost use Rattle.nm_history.specs.Happens.{happened, is_recall};
-ghost use Rattle.nm_history.specs.Outgoing.{packets_by};
 ghost use Rattle.nm_history.specs.Sends.{sends, is_ask};
-ghost use Rattle.nm_history.specs.Clearance.{pushed_out};
-ghost use Rattle.nm_history.specs.Effects.{is_empty_send};
 ghost use Rattle.nm_history.specs.Rest.{EagerHaveLeft};
-ghost use Rattle.nm_rndv.specs.Offers.{AllOut, destined, first_leaving, next_offered, no_offers};
-ghost use Rattle.nm_rndv.specs.Offers.{offered, out_by_piece, with_answer, with_asked, with_clearance};
-ghost use Rattle.nm_rndv.specs.Offers.{with_destined, with_popped, with_recall};
+ghost use Rattle.nm_rndv.specs.Offers.{AllOut, next_offered, no_offers, offered};
 ghost use Rattle.nm_sending.specs.Outboxes.{popped_to, put_to};
 ghost use Rattle.nm_sending.specs.declared.TheConstants.{MAX_MESSAGES};
-ghost use Rattle.nm_sending.specs.Departures.{departures_to, pushed_to, cleared_to, ended_by};
-ghost use Rattle.nm_sending.specs.Sent.{AreSent, Preserves, Puts, only_to, outs};
-ghost use Rattle.nm_sending.specs.Sent.{MayBeAnswered, MayBeCleared, MayBeRecalled};
+ghost use Rattle.nm_sending.specs.Calls.{AnswersRecall, ClearsMessage, HasRoomFor, PopsFirstPacket};
+ghost use Rattle.nm_sending.specs.Calls.{PopsNextPiece, RecallsMessage, SameButRoom, SendsMessage};
+ghost use Rattle.nm_sending.specs.Calls.{sent_as};
+ghost use Rattle.nm_sending.specs.Departures.{departures_to, pushed_to};
+ghost use Rattle.nm_sending.specs.Sent.{AreSent, MayBeAnswered, MayBeCleared, MayBeRecalled};
+ghost use Rattle.nm_sending.specs.Sent.{Puts, only_to};
 
 use crate::MAX_MESSAGES;
 use crate::departures::Departure;
@@ -191,29 +185,12 @@ impl Sending {
         stamp: u64,
     ) -> Result<u64, Memory>
         requires to { to < length self.old.outbox.popped }
-        requires few { length (departures_to self.old to) < MAX_MESSAGES }
-        requires room { put_to self.old.outbox to + 17 ≤ MAX_PACKETS }
-        requires counted { self.old.staying < MAX_STAMP }
+        requires room { HasRoomFor self.old to }
         requires short { body_len body ≤ (if is_ask how then MAX_BODY else MAX_EAGER) }
         requires in_time { stamp ≤ MAX_STAMP }
-        ensures number { IfOk result (λ n. n ≡ length (departures_to self.old to)) }
-        ensures puts { IfOk result (λ n. (h : List Event) (line : ℕ) → Puts
-            (λ other. packets_by (λ s. bytes_of body) other h stamp
-            (event.Send to n tag ctx (body_len body) how line))
-            (if is_ask how then None else Some n) stamp self.old.outbox self.new.outbox) }
-        ensures kept { IfOk result (λ n. (line : ℕ) → Preserves self.old self.new
-            (event.Send to n tag ctx (body_len body) how line ∷ [])) }
-        ensures counted { OnOk result (self.new.staying ≡ self.old.staying + 1) }
-        ensures asked { IfOk result (λ n. self.new.offers
-            ≡ (if is_ask how
-            then with_destined self.old.offers to
-            (with_asked (destined self.old.offers to) n body)
-            else self.old.offers)) }
-        ensures same { OnOk result (self.new.pushed ≡ self.old.pushed) }
-        ensures err { OnErr result (self.new
-            ≡ record self.old {
-              outbox = record self.old.outbox { spare = self.new.outbox.spare };
-            }) }
+        ensures sent { IfOk result (λ n. (line : ℕ) → SendsMessage
+            (sent_as to tag ctx body how stamp n line) body self.old self.new) }
+        ensures err { OnErr result (SameButRoom self.old self.new) }
     {
         let n = self.departures.count(to);
         let len = body.len();
@@ -234,10 +211,7 @@ impl Sending {
 
     /// Makes room for so many packets more.
     pub fn reserve(&mut self, letters: usize) -> Result<(), Memory>
-        ensures same { self.new
-            ≡ record self.old {
-              outbox = record self.old.outbox { spare = self.new.outbox.spare };
-            } }
+        ensures same { SameButRoom self.old self.new }
         ensures kept { self.old.outbox.spare ≤ self.new.outbox.spare }
         ensures ok { OnOk result (letters ≤ self.new.outbox.spare) }
     {
@@ -306,18 +280,8 @@ impl Sending {
         requires may { MayBeRecalled self.old to n }
         requires few { put_to self.old.outbox to < MAX_PACKETS }
         requires in_time { stamp ≤ MAX_STAMP }
-        ensures puts { OnOk result ((called : ℕ) → called ≤ stamp →
-            Puts (only_to to called (what.Withdraw n)) None stamp self.old.outbox
-            self.new.outbox) }
-        ensures kept { OnOk result (Preserves self.old self.new (event.Recall to n ∷ [])) }
-        ensures counted { OnOk result (self.new.staying ≡ self.old.staying) }
-        ensures recalled { OnOk result (self.new.offers
-            ≡ with_destined self.old.offers to (with_recall (destined self.old.offers to) n)) }
-        ensures same { OnOk result (self.new.pushed ≡ self.old.pushed) }
-        ensures err { OnErr result (self.new
-            ≡ record self.old {
-              outbox = record self.old.outbox { spare = self.new.outbox.spare };
-            }) }
+        ensures recalled { OnOk result (RecallsMessage to n stamp self.old self.new) }
+        ensures err { OnErr result (SameButRoom self.old self.new) }
     {
         self.outbox.reserve(1)?;
         self.offers.withdraw(to, n)?;
@@ -332,12 +296,7 @@ impl Sending {
     pub fn clear(&mut self, to: u8, n: u64) -> bool
         requires to { to < length self.old.outbox.popped }
         requires may { MayBeCleared self.old to n }
-        ensures value { (h : List Event) → AreSent self.old h → result ≡ is_empty_send h to n }
-        ensures kept { Preserves self.old self.new (if result then event.Out to n ∷ [] else []) }
-        ensures cleared { self.new.offers ≡ with_clearance self.old.offers to n }
-        ensures counted { self.old.staying ≡ self.new.staying + (if result then 1 else 0) }
-        ensures outbox { self.new.outbox ≡ self.old.outbox }
-        ensures same { self.new.pushed ≡ self.old.pushed }
+        ensures { ClearsMessage to n result self.old self.new }
     {
         let is_out = self.offers.cleared(to, n);
         if is_out {
@@ -352,12 +311,7 @@ impl Sending {
     pub fn undo(&mut self, to: u8, n: u64, done: bool)
         requires to { to < length self.old.outbox.popped }
         requires may { MayBeAnswered self.old to n done }
-        ensures kept { Preserves self.old self.new (event.Undone to n done ∷ []) }
-        ensures counted { self.new.staying ≡ self.old.staying }
-        ensures answered { self.new.offers
-            ≡ with_destined self.old.offers to (with_answer (destined self.old.offers to) n done) }
-        ensures outbox { self.new.outbox ≡ self.old.outbox }
-        ensures same { self.new.pushed ≡ self.old.pushed }
+        ensures { AnswersRecall to n done self.old self.new }
     {
         self.offers.withdrawn(to, n, done);
         let departure = self.departures.get(to, n).unwrap();
@@ -381,22 +335,7 @@ impl Sending {
     /// left.
     pub fn pop_front(&mut self) -> Option<(u8, u64)>
         requires { 0 < length self.old.outbox.letters }
-        ensures last { result ≡ ended_by (slice_get self.old.outbox.letters 0) }
-        ensures eager { IfSome result (λ m. (h : List Event) → AreSent self.old h →
-            is_asked_lem (sends h m.0) m.1 ≡ false) }
-        ensures popped { IfSome (slice_get self.old.outbox.letters 0) (λ letter.
-            (self.old.outbox.letters ≡ letter ∷ self.new.outbox.letters)
-            × (self.new.outbox
-            ≡ record self.old.outbox {
-              letters = self.new.outbox.letters;
-              popped = slice_set self.old.outbox.popped letter.to
-                  (popped_to self.old.outbox letter.to + 1);
-              spare = self.old.outbox.spare + 1;
-            })) }
-        ensures kept { Preserves self.old self.new (outs result) }
-        ensures counted { self.old.staying ≡ self.new.staying + length (outs result) }
-        ensures offers { self.new.offers ≡ self.old.offers }
-        ensures same { self.new.pushed ≡ self.old.pushed }
+        ensures { PopsFirstPacket result self.old self.new }
     {
         let letter = self.outbox.pop_front();
         let n = letter.ends?;
@@ -434,19 +373,7 @@ impl Sending {
     /// Counts the next piece as pushed. Where it was its message's last one, that one has left.
     pub fn pop_piece(&mut self) -> Option<(u8, u64)>
         requires { IsSome (next_offered self.old.offers) }
-        ensures popped { IfSome (first_leaving self.old.offers)
-            (λ m. self.new.offers ≡ with_popped self.old.offers m) }
-        ensures pushed { IfSome (first_leaving self.old.offers) (λ m. self.new.pushed
-            ≡ slice_set self.old.pushed m.0 (pushed_to self.old m.0 + 1)) }
-        ensures last { result
-            ≡ option_and_then (out_by_piece self.old.offers) (first_leaving self.old.offers) }
-        ensures to { IfSome result (λ m. m.0 < length self.old.outbox.popped) }
-        ensures kept { Preserves self.old self.new (outs result) }
-        ensures in_turn { IfSome result (λ m. (h : List Event) → AreSent self.old h →
-            slice_get (filter (λ n. not (is_empty_send h m.0 n)) (cleared_to self.old m.0))
-            (length (pushed_out h m.0)) ≡ Some m.1) }
-        ensures counted { self.old.staying ≡ self.new.staying + length (outs result) }
-        ensures outbox { self.new.outbox ≡ self.old.outbox }
+        ensures { PopsNextPiece result self.old self.new }
     {
         let (to, _) = self.offers.front().unwrap();
         self.pushed[to as usize] += 1;

@@ -1,15 +1,15 @@
 -- A message that was sent by asking is cleared.
-use Rattle.std.proofs.Common.{◌≡◌, ◌-◌, ◌<◌, ◌∷◌, [], length, refl, sym, ◌∙◌, ap}
+use Rattle.std.proofs.Common.{◌-◌, ◌<◌, length, refl, sym, ◌∙◌, ap}
 use Rattle.std.proofs.Common.{subst, arith}
-use Rattle.std.proofs.Common.{false, Option}
+use Rattle.std.proofs.Common.{true, false, Option}
 use Rattle.std.specs.Option.{option_map_or}
 use Rattle.std.proofs.lemmas.Option.{slice_get_within}
-use Rattle.nm_history.specs.declared.events.Happened.TheVariants.{Out}
 use Rattle.nm_rndv.specs.declared.asked.State.{State}
 use Rattle.nm_rndv.specs.Offers.{is_waiting}
 use Rattle.nm_sending.specs.contracts.sendings.Sending.{the_view}
+use Rattle.nm_sending.specs.Calls.{ClearsMessage}
 use Rattle.nm_sending.specs.Departures.{SendingView}
-use Rattle.nm_sending.specs.Sent.{AreSent, Preserves, MayBeCleared}
+use Rattle.nm_sending.specs.Sent.{MayBeCleared}
 use Rattle.nm_sending.specs.Tables.{TablesAgree}
 use Rattle.nm_sending.proofs.ClearLemmas.{asks, after-clear, at_once, clear_empty, cleared_view}
 use Rattle.nm_sending.proofs.ClearLemmas.{full-tables, full-kept, empty-tables, empty-kept, empty-counted}
@@ -112,25 +112,12 @@ invariant_of-self-else-is_out c =
     (full-tables a.me a.ranks (the_view a) c.self.invariant c.args.to c.args.n
     (omega (arith, to, c.self.invariant.letters)) ask a.departures.rows a.staying full refl refl)
 
-pub returns-then-is_out-clause-value : goal.returns-then-is_out-clause-value
-returns-then-is_out-clause-value c =
+pub returns-then-is_out : goal.returns-then-is_out
+returns-then-is_out c =
     let a = c.self.inside in
     let to = subst (λ (v : SendingView). c.args.to < length v.outbox.popped)
     (sym c.self.view_is) c.requires.to in
-    let may = subst (λ (v : SendingView). MayBeCleared v c.args.to c.args.n)
-    (sym c.self.view_is) c.requires.may in
-    let ask = asks a.me a.ranks (the_view a) c.self.invariant c.args.to c.args.n may in
-    λ h was. sym (at_once (the_view a) c.args.to c.args.n ask c.cleared-is_out.result
-    c.cleared-is_out.ensures.empty)
-    ∙ clear_empty a.me a.ranks (the_view a) c.self.invariant c.args.to c.args.n
-    (omega (arith, to, c.self.invariant.letters)) ask a.departures.rows a.staying h
-    (subst (λ (v : SendingView). AreSent v h) (sym c.self.view_is) was)
-
-pub returns-then-is_out-clause-kept : goal.returns-then-is_out-clause-kept
-returns-then-is_out-clause-kept c =
-    let a = c.self.inside in
-    let to = subst (λ (v : SendingView). c.args.to < length v.outbox.popped)
-    (sym c.self.view_is) c.requires.to in
+    let within : c.args.to < a.ranks = omega (arith, to, c.self.invariant.letters) in
     let may = subst (λ (v : SendingView). MayBeCleared v c.args.to c.args.n)
     (sym c.self.view_is) c.requires.may in
     let ask = asks a.me a.ranks (the_view a) c.self.invariant c.args.to c.args.n may in
@@ -140,66 +127,53 @@ returns-then-is_out-clause-kept c =
     let rows = rows_now c.set.new.self.rows a.departures.rows c.args.to c.args.n c.unwrap-departure.result
     c.left.result ask.departure c.set.ensures c.left.ensures
     (same_departure (sym c.get.ensures ∙ c.unwrap-departure.ensures) ask.there) in
-    let new = after-clear a.me a.ranks (the_view a) c.self.invariant c.args.to c.args.n
-    (omega (arith, to, c.self.invariant.letters)) ask c.set.new.self.rows (a.staying - 1) in
+    let more = empty-counted a.me a.ranks (the_view a) c.self.invariant c.args.to c.args.n within ask
+    c.set.new.self.rows (a.staying - 1) empty rows in
+    let new = after-clear a.me a.ranks (the_view a) c.self.invariant c.args.to c.args.n within ask
+    c.set.new.self.rows (a.staying - 1) in
     rw c.if-is_out.true
-    (cleared_view (λ (v : SendingView). Preserves c.args.self.now v (Out c.args.to c.args.n ∷ [])) (the_view a)
+    (cleared_view (λ (v : SendingView). ClearsMessage c.args.to c.args.n true c.args.self.now v) (the_view a)
     c.args.to c.args.n c.set.new.self.rows (a.staying - 1) c.cleared-is_out.new.self
     c.cleared-is_out.ensures.cleared
-    (subst (λ (v : SendingView). Preserves v new (Out c.args.to c.args.n ∷ [])) c.self.view_is
-    (empty-kept a.me a.ranks (the_view a) c.self.invariant c.args.to c.args.n
-    (omega (arith, to, c.self.invariant.letters)) ask c.set.new.self.rows (a.staying - 1) empty rows)))
+    (subst (λ (v : SendingView). ClearsMessage c.args.to c.args.n true v new) c.self.view_is
+    (record {
+      value = λ h was. sym empty
+          ∙ clear_empty a.me a.ranks (the_view a) c.self.invariant c.args.to c.args.n within ask
+          a.departures.rows a.staying h was;
+      kept = empty-kept a.me a.ranks (the_view a) c.self.invariant c.args.to c.args.n within ask
+          c.set.new.self.rows (a.staying - 1) empty rows;
+      cleared = refl;
+      counted = omega (arith, more);
+      outbox = refl;
+      same = refl;
+    })))
 
-pub returns-then-is_out-clause-counted : goal.returns-then-is_out-clause-counted
-returns-then-is_out-clause-counted c =
+pub returns-else-is_out : goal.returns-else-is_out
+returns-else-is_out c =
     let a = c.self.inside in
     let to = subst (λ (v : SendingView). c.args.to < length v.outbox.popped)
     (sym c.self.view_is) c.requires.to in
-    let may = subst (λ (v : SendingView). MayBeCleared v c.args.to c.args.n)
-    (sym c.self.view_is) c.requires.may in
-    let ask = asks a.me a.ranks (the_view a) c.self.invariant c.args.to c.args.n may in
-    let empty = at_once (the_view a) c.args.to c.args.n ask c.cleared-is_out.result
-    c.cleared-is_out.ensures.empty
-    ∙ c.if-is_out.true in
-    let rows = rows_now c.set.new.self.rows a.departures.rows c.args.to c.args.n c.unwrap-departure.result
-    c.left.result ask.departure c.set.ensures c.left.ensures
-    (same_departure (sym c.get.ensures ∙ c.unwrap-departure.ensures) ask.there) in
-    let more = empty-counted a.me a.ranks (the_view a) c.self.invariant c.args.to c.args.n
-    (omega (arith, to, c.self.invariant.letters)) ask c.set.new.self.rows (a.staying - 1) empty rows in
-    let view : c.args.self.now.staying
-    ≡ a.staying = ap (λ (v : SendingView). v.staying) (sym c.self.view_is) in
-    rw c.if-is_out.true (omega (arith, view, more))
-
-pub returns-else-is_out-clause-value : goal.returns-else-is_out-clause-value
-returns-else-is_out-clause-value c =
-    let a = c.self.inside in
-    let to = subst (λ (v : SendingView). c.args.to < length v.outbox.popped)
-    (sym c.self.view_is) c.requires.to in
-    let may = subst (λ (v : SendingView). MayBeCleared v c.args.to c.args.n)
-    (sym c.self.view_is) c.requires.may in
-    let ask = asks a.me a.ranks (the_view a) c.self.invariant c.args.to c.args.n may in
-    λ h was. sym (at_once (the_view a) c.args.to c.args.n ask c.cleared-is_out.result
-    c.cleared-is_out.ensures.empty)
-    ∙ clear_empty a.me a.ranks (the_view a) c.self.invariant c.args.to c.args.n
-    (omega (arith, to, c.self.invariant.letters)) ask a.departures.rows a.staying h
-    (subst (λ (v : SendingView). AreSent v h) (sym c.self.view_is) was)
-
-pub returns-else-is_out-clause-kept : goal.returns-else-is_out-clause-kept
-returns-else-is_out-clause-kept c =
-    let a = c.self.inside in
-    let to = subst (λ (v : SendingView). c.args.to < length v.outbox.popped)
-    (sym c.self.view_is) c.requires.to in
+    let within : c.args.to < a.ranks = omega (arith, to, c.self.invariant.letters) in
     let may = subst (λ (v : SendingView). MayBeCleared v c.args.to c.args.n)
     (sym c.self.view_is) c.requires.may in
     let ask = asks a.me a.ranks (the_view a) c.self.invariant c.args.to c.args.n may in
     let full = at_once (the_view a) c.args.to c.args.n ask c.cleared-is_out.result
     c.cleared-is_out.ensures.empty
     ∙ c.if-is_out.false in
-    let new = after-clear a.me a.ranks (the_view a) c.self.invariant c.args.to c.args.n
-    (omega (arith, to, c.self.invariant.letters)) ask a.departures.rows a.staying in
+    let new = after-clear a.me a.ranks (the_view a) c.self.invariant c.args.to c.args.n within ask
+    a.departures.rows a.staying in
     rw c.if-is_out.false
-    (cleared_view (λ (v : SendingView). Preserves c.args.self.now v []) (the_view a)
+    (cleared_view (λ (v : SendingView). ClearsMessage c.args.to c.args.n false c.args.self.now v) (the_view a)
     c.args.to c.args.n a.departures.rows a.staying c.cleared-is_out.new.self c.cleared-is_out.ensures.cleared
-    (subst (λ (v : SendingView). Preserves v new []) c.self.view_is
-    (full-kept a.me a.ranks (the_view a) c.self.invariant c.args.to c.args.n
-    (omega (arith, to, c.self.invariant.letters)) ask a.departures.rows a.staying full refl)))
+    (subst (λ (v : SendingView). ClearsMessage c.args.to c.args.n false v new) c.self.view_is
+    (record {
+      value = λ h was. sym full
+          ∙ clear_empty a.me a.ranks (the_view a) c.self.invariant c.args.to c.args.n within ask
+          a.departures.rows a.staying h was;
+      kept = full-kept a.me a.ranks (the_view a) c.self.invariant c.args.to c.args.n within ask
+          a.departures.rows a.staying full refl;
+      cleared = refl;
+      counted = omega arith;
+      outbox = refl;
+      same = refl;
+    })))

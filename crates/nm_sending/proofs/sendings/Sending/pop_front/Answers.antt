@@ -1,29 +1,18 @@
 -- The first packet goes, and an eager message leaves with its last one.
-use Rattle.std.proofs.Common.{◌≡◌, ◌-◌, false, List, ◌∷◌, [], length, refl, sym, ◌∙◌, ap}
-use Rattle.std.proofs.Common.{subst, arith}
+use Rattle.std.specs.Option.{option_map}
+use Rattle.std.proofs.Common.{◌-◌, ℕ, Option, Some, None, length, refl, sym, ◌∙◌, ap, subst, arith}
 use Rattle.std.proofs.lemmas.List.{length-set}
 use Rattle.std.proofs.lemmas.Option.{slice_get_within}
-use Rattle.nm_history.specs.declared.events.Event.{Event}
-use Rattle.nm_history.specs.declared.events.Happened.TheVariants.{Out}
-use Rattle.nm_history.specs.Delivery.{is_asked}
-use Rattle.nm_history.specs.Sends.{sends}
 use Rattle.nm_sending.specs.Outboxes.{OutboxView}
 use Rattle.nm_sending.specs.contracts.sendings.Sending.{the_view}
 use Rattle.nm_sending.specs.declared.departures.Departure.{Departure}
+use Rattle.nm_sending.specs.Calls.{PopsFirstPacket}
 use Rattle.nm_sending.specs.Departures.{SendingView, with_departure}
-use Rattle.nm_sending.specs.Sent.{AreSent, Preserves}
 use Rattle.nm_sending.proofs.FrontLemmas.{first, front-eager, ended_there, front-tables, front-kept, front-counted}
+use Rattle.nm_sending.proofs.FrontLemmas.{ends_with, first_popped}
 use Rattle.nm_sending.proofs.SentLemmas.{keeps-none, sent-outbox}
 use Rattle.nm_sending.proofs.TableLemmas.{row_there}
 use Rattle.nm_sending.proofs.sendings.Sending.pop_front.Goals as goal
-
-pub returns-in_err-n-clause-kept : goal.returns-in_err-n-clause-kept
-returns-in_err-n-clause-kept c =
-    let old = the_view c.self.inside in
-    let new : SendingView = record old { outbox = c.pop_front-letter.new.self } in
-    rw c.from_residual.ensures
-    (subst (λ (v : SendingView). Preserves v new []) c.self.view_is
-    (keeps-none old new (λ h was. sent-outbox old c.pop_front-letter.new.self h was)))
 
 pub get-requires : goal.get-requires
 get-requires c =
@@ -77,40 +66,52 @@ invariant_of-self-2 c =
     (ap (λ (o : OutboxView). length o.popped) c.pop_front-letter.ensures.counted ∙ length-set _ _ _)
     refl (omega (arith, more))
 
-pub returns-clause-kept : goal.returns-clause-kept
-returns-clause-kept c =
+pub returns-in_err-n : goal.returns-in_err-n
+returns-in_err-n c =
+    let old = the_view c.self.inside in
+    let letter = c.pop_front-letter.result in
+    let new : SendingView = record old { outbox = c.pop_front-letter.new.self } in
+    rw c.from_residual.ensures
+    (subst (λ (v : SendingView). PopsFirstPacket None v new) c.self.view_is
+    (record {
+      last = sym (ends_with old.outbox letter c.pop_front-letter.new.self.letters c.pop_front-letter.ensures.first
+          ∙ ap (λ (o : Option ℕ). option_map (λ n. (letter.to, n)) o) c.in_err-n.was);
+      eager = tt;
+      popped = first_popped old.outbox letter c.pop_front-letter.new.self c.pop_front-letter.ensures.first
+          c.pop_front-letter.ensures.counted;
+      kept = keeps-none old new (λ h was. sent-outbox old c.pop_front-letter.new.self h was);
+      counted = omega arith;
+      offers = refl;
+      same = refl;
+    }))
+
+pub returns : goal.returns
+returns c =
     let a = c.self.inside in
+    let old = the_view a in
+    let letter = c.pop_front-letter.result in
+    let rest = c.pop_front-letter.new.self.letters in
+    let list = c.pop_front-letter.ensures.first in
     let rows = c.set.ensures ∙ ap (λ (d : Departure).
-    with_departure a.departures.rows c.pop_front-letter.result.to c.in_ok-n.n d) c.left.ensures in
-    let new : SendingView = record (the_view a) {
+    with_departure a.departures.rows letter.to c.in_ok-n.n d) c.left.ensures in
+    let there = sym c.get.ensures ∙ c.unwrap-departure.ensures in
+    let more = front-counted a.me a.ranks old c.self.invariant letter rest list c.in_ok-n.n c.in_ok-n.was
+    c.pop_front-letter.new.self c.set.new.self.rows (a.staying - 1) c.unwrap-departure.result there rows in
+    let new : SendingView = record old {
       outbox = c.pop_front-letter.new.self;
       departures = c.set.new.self.rows;
       staying = a.staying - 1;
     } in
-    subst (λ (v : SendingView). Preserves v new (Out c.pop_front-letter.result.to c.in_ok-n.n ∷ []))
-    c.self.view_is
-    (front-kept a.me a.ranks (the_view a) c.self.invariant c.pop_front-letter.result
-    c.pop_front-letter.new.self.letters c.pop_front-letter.ensures.first c.in_ok-n.n c.in_ok-n.was
-    c.pop_front-letter.new.self c.set.new.self.rows (a.staying - 1) c.unwrap-departure.result
-    (sym c.get.ensures ∙ c.unwrap-departure.ensures) rows)
-
-pub returns-clause-counted : goal.returns-clause-counted
-returns-clause-counted c =
-    let a = c.self.inside in
-    let rows = c.set.ensures ∙ ap (λ (d : Departure).
-    with_departure a.departures.rows c.pop_front-letter.result.to c.in_ok-n.n d) c.left.ensures in
-    let there = sym c.get.ensures ∙ c.unwrap-departure.ensures in
-    let more = front-counted a.me a.ranks (the_view a) c.self.invariant c.pop_front-letter.result
-    c.pop_front-letter.new.self.letters c.pop_front-letter.ensures.first c.in_ok-n.n c.in_ok-n.was
-    c.pop_front-letter.new.self c.set.new.self.rows (a.staying - 1) c.unwrap-departure.result there rows in
-    let view : c.args.self.now.staying
-    ≡ a.staying = ap (λ (v : SendingView). v.staying) (sym c.self.view_is) in
-    omega (arith, view, more)
-
-pub returns-clause-eager : goal.returns-clause-eager
-returns-clause-eager c =
-    let a = c.self.inside in
-    subst (λ (v : SendingView). (h : List Event) → AreSent v h →
-    is_asked (sends h c.pop_front-letter.result.to) c.in_ok-n.n ≡ false) c.self.view_is
-    (front-eager a.me a.ranks (the_view a) c.self.invariant c.pop_front-letter.result
-    c.pop_front-letter.new.self.letters c.pop_front-letter.ensures.first c.in_ok-n.n c.in_ok-n.was)
+    subst (λ (v : SendingView). PopsFirstPacket (Some (letter.to, c.in_ok-n.n)) v new) c.self.view_is
+    (record {
+      last = sym (ends_with old.outbox letter rest list
+          ∙ ap (λ (o : Option ℕ). option_map (λ n. (letter.to, n)) o) c.in_ok-n.was);
+      eager = front-eager a.me a.ranks old c.self.invariant letter rest list c.in_ok-n.n c.in_ok-n.was;
+      popped = first_popped old.outbox letter c.pop_front-letter.new.self list
+          c.pop_front-letter.ensures.counted;
+      kept = front-kept a.me a.ranks old c.self.invariant letter rest list c.in_ok-n.n c.in_ok-n.was
+          c.pop_front-letter.new.self c.set.new.self.rows (a.staying - 1) c.unwrap-departure.result there rows;
+      counted = omega (arith, more);
+      offers = refl;
+      same = refl;
+    })

@@ -1,19 +1,17 @@
 -- The next piece goes, and a message that was sent by asking leaves with its last one.
 use Rattle.std.specs.Prelude.{IsSome}
-use Rattle.std.proofs.Common.{◌≡◌, ℕ, ◌-◌, ◌<◌, ◌∷◌, [], length, Some, refl, sym, ◌∙◌, ap}
-use Rattle.std.proofs.Common.{subst, arith}
+use Rattle.std.proofs.Common.{◌≡◌, ℕ, ◌-◌, ◌<◌, Option, Some, None, refl, sym, ◌∙◌, subst, arith}
 use Rattle.std.proofs.lemmas.Option.{slice_get_within}
-use Rattle.nm_history.specs.declared.events.Happened.TheVariants.{Out}
-use Rattle.nm_rndv.specs.Offers.{first_leaving, next_offered, with_popped}
+use Rattle.nm_rndv.specs.Offers.{next_offered, with_popped}
 use Rattle.nm_rndv.proofs.Results.{is_there}
 use Rattle.nm_sending.specs.contracts.sendings.Sending.{the_view}
+use Rattle.nm_sending.specs.Calls.{PopsNextPiece}
 use Rattle.nm_sending.specs.Departures.{SendingView}
-use Rattle.nm_sending.specs.Sent.{Preserves}
 use Rattle.nm_sending.specs.Tables.{TablesAgree}
 use Rattle.nm_sending.proofs.LeavingLemmas.{turn_next}
 use Rattle.nm_sending.proofs.PopLemmas.{goes_on, last_of, message_to, count_raised, popped_view}
 use Rattle.nm_sending.proofs.PopLemmas.{more-tables, more-kept, last-tables, last-kept, last-counted}
-use Rattle.nm_sending.proofs.PopLemmas.{after}
+use Rattle.nm_sending.proofs.PopLemmas.{after, offers_popped, count_pushed}
 use Rattle.nm_sending.proofs.PieceLemmas.{is_leading}
 use Rattle.nm_sending.proofs.TableLemmas.{rows_now, same_departure}
 use Rattle.nm_sending.proofs.sendings.Sending.pop_piece.Goals as goal
@@ -39,28 +37,6 @@ invariant_of-self c =
     (omega (arith, to, goes.within, c.self.invariant.counts)) c.index_mut.ensures.value)
     (more-tables a.me a.ranks (the_view a) c.self.invariant goes.to goes.n goes.first goes.lead goes.within
     a.departures.rows a.staying goes.rest goes.more refl refl)
-
-pub returns-in_err-to-clause-kept : goal.returns-in_err-to-clause-kept
-returns-in_err-to-clause-kept c =
-    let a = c.self.inside in
-    let there = subst (λ (v : SendingView). IsSome (next_offered v.offers)) (sym c.self.view_is) c.requires in
-    let goes = goes_on a.me a.ranks
-    (the_view a) c.self.invariant there c.pop_piece.result c.pop_piece.ensures.last
-    c.in_err-to.was in
-    let to = message_to a.offers c.front.result c.unwrap-to.result goes.to goes.n c.unwrap-to.ensures
-    c.front.ensures.first goes.first in
-    let new = after a.me a.ranks (the_view a) c.self.invariant goes.to goes.n goes.first goes.lead goes.within
-    a.departures.rows a.staying in
-    rw c.from_residual.ensures
-    (popped_view (λ (v : SendingView). Preserves c.args.self.now v [])
-    (the_view a) goes.to goes.n a.departures.rows
-    a.staying c.pop_piece.new.self _ (is_there (λ m. c.pop_piece.new.self ≡ with_popped a.offers m) goes.first
-    c.pop_piece.ensures.popped)
-    (count_raised a.pushed.items c.unwrap-to.result.0 c.index_mut.result.now goes.to to
-    (omega (arith, to, goes.within, c.self.invariant.counts)) c.index_mut.ensures.value)
-    (subst (λ (v : SendingView). Preserves v new []) c.self.view_is
-    (more-kept a.me a.ranks (the_view a) c.self.invariant goes.to goes.n goes.first goes.lead goes.within
-    a.departures.rows a.staying goes.rest goes.more refl)))
 
 pub get-requires : goal.get-requires
 get-requires c =
@@ -124,54 +100,39 @@ invariant_of-self-2 c =
     (last-tables a.me a.ranks (the_view a) c.self.invariant c.in_ok-to.to c.in_ok-to.n last.first last.lead
     last.within c.set.new.self.rows (a.staying - 1) last.none rows (omega (arith, more)))
 
-pub returns-clause-kept : goal.returns-clause-kept
-returns-clause-kept c =
+pub returns-in_err-to : goal.returns-in_err-to
+returns-in_err-to c =
     let a = c.self.inside in
     let there = subst (λ (v : SendingView). IsSome (next_offered v.offers)) (sym c.self.view_is) c.requires in
-    let last = last_of a.me a.ranks
+    let goes = goes_on a.me a.ranks
     (the_view a) c.self.invariant there c.pop_piece.result c.pop_piece.ensures.last
-    c.in_ok-to.to c.in_ok-to.n c.in_ok-to.was in
-    let rows = rows_now c.set.new.self.rows a.departures.rows c.in_ok-to.to c.in_ok-to.n
-    c.unwrap-departure.result
-    c.left.result last.lead.departure c.set.ensures c.left.ensures
-    (same_departure (sym c.get.ensures ∙ c.unwrap-departure.ensures) last.lead.there) in
-    let to = message_to a.offers c.front.result c.unwrap-to.result c.in_ok-to.to c.in_ok-to.n
-    c.unwrap-to.ensures c.front.ensures.first last.first in
-    let new = after a.me a.ranks (the_view a) c.self.invariant c.in_ok-to.to c.in_ok-to.n last.first last.lead
-    last.within c.set.new.self.rows (a.staying - 1) in
-    popped_view (λ (v : SendingView). Preserves c.args.self.now v (Out c.in_ok-to.to c.in_ok-to.n ∷ []))
-    (the_view a)
-    c.in_ok-to.to c.in_ok-to.n c.set.new.self.rows (a.staying - 1) c.pop_piece.new.self _
-    (is_there (λ m. c.pop_piece.new.self ≡ with_popped a.offers m) last.first c.pop_piece.ensures.popped)
-    (count_raised a.pushed.items c.unwrap-to.result.0 c.index_mut.result.now c.in_ok-to.to to
-    (omega (arith, to, last.within, c.self.invariant.counts)) c.index_mut.ensures.value)
-    (subst (λ (v : SendingView). Preserves v new (Out c.in_ok-to.to c.in_ok-to.n ∷ [])) c.self.view_is
-    (last-kept a.me a.ranks (the_view a) c.self.invariant c.in_ok-to.to c.in_ok-to.n last.first last.lead
-    last.within c.set.new.self.rows (a.staying - 1) last.none rows))
+    c.in_err-to.was in
+    let to = message_to a.offers c.front.result c.unwrap-to.result goes.to goes.n c.unwrap-to.ensures
+    c.front.ensures.first goes.first in
+    let new = after a.me a.ranks (the_view a) c.self.invariant goes.to goes.n goes.first goes.lead goes.within
+    a.departures.rows a.staying in
+    rw c.from_residual.ensures
+    (popped_view (λ (v : SendingView). PopsNextPiece None c.args.self.now v)
+    (the_view a) goes.to goes.n a.departures.rows
+    a.staying c.pop_piece.new.self _ (is_there (λ m. c.pop_piece.new.self ≡ with_popped a.offers m) goes.first
+    c.pop_piece.ensures.popped)
+    (count_raised a.pushed.items c.unwrap-to.result.0 c.index_mut.result.now goes.to to
+    (omega (arith, to, goes.within, c.self.invariant.counts)) c.index_mut.ensures.value)
+    (subst (λ (v : SendingView). PopsNextPiece None v new) c.self.view_is
+    (record {
+      popped = offers_popped (the_view a) goes.to goes.n goes.first;
+      pushed = count_pushed (the_view a) goes.to goes.n goes.first;
+      last = sym c.in_err-to.was ∙ c.pop_piece.ensures.last;
+      to = tt;
+      kept = more-kept a.me a.ranks (the_view a) c.self.invariant goes.to goes.n goes.first goes.lead goes.within
+          a.departures.rows a.staying goes.rest goes.more refl;
+      in_turn = tt;
+      counted = omega arith;
+      outbox = refl;
+    })))
 
-pub returns-clause-to : goal.returns-clause-to
-returns-clause-to c =
-    let a = c.self.inside in
-    let there = subst (λ (v : SendingView). IsSome (next_offered v.offers)) (sym c.self.view_is) c.requires in
-    let last = last_of a.me a.ranks
-    (the_view a) c.self.invariant there c.pop_piece.result c.pop_piece.ensures.last
-    c.in_ok-to.to c.in_ok-to.n c.in_ok-to.was in
-    subst (λ (v : SendingView). c.in_ok-to.to < length v.outbox.popped) c.self.view_is
-    (subst (λ (k : ℕ). c.in_ok-to.to < k) (sym c.self.invariant.letters) last.within)
-
-pub returns-clause-in_turn : goal.returns-clause-in_turn
-returns-clause-in_turn c =
-    let a = c.self.inside in
-    let there = subst (λ (v : SendingView). IsSome (next_offered v.offers)) (sym c.self.view_is) c.requires in
-    let last = last_of a.me a.ranks
-    (the_view a) c.self.invariant there c.pop_piece.result c.pop_piece.ensures.last
-    c.in_ok-to.to c.in_ok-to.n c.in_ok-to.was in
-    λ h was. turn_next c.args.self.now c.args.self.now h h (λ t. refl) was.in_turn c.in_ok-to.to c.in_ok-to.n
-    (subst (λ (v : SendingView). first_leaving v.offers ≡ Some (c.in_ok-to.to, c.in_ok-to.n)) c.self.view_is
-    last.first)
-
-pub returns-clause-counted : goal.returns-clause-counted
-returns-clause-counted c =
+pub returns : goal.returns
+returns c =
     let a = c.self.inside in
     let there = subst (λ (v : SendingView). IsSome (next_offered v.offers)) (sym c.self.view_is) c.requires in
     let last = last_of a.me a.ranks
@@ -183,6 +144,26 @@ returns-clause-counted c =
     (same_departure (sym c.get.ensures ∙ c.unwrap-departure.ensures) last.lead.there) in
     let more = last-counted a.me a.ranks (the_view a) c.self.invariant c.in_ok-to.to c.in_ok-to.n last.first
     last.lead last.within c.set.new.self.rows (a.staying - 1) last.none rows in
-    let view : c.args.self.now.staying
-    ≡ a.staying = ap (λ (v : SendingView). v.staying) (sym c.self.view_is) in
-    omega (arith, view, more)
+    let to = message_to a.offers c.front.result c.unwrap-to.result c.in_ok-to.to c.in_ok-to.n
+    c.unwrap-to.ensures c.front.ensures.first last.first in
+    let new = after a.me a.ranks (the_view a) c.self.invariant c.in_ok-to.to c.in_ok-to.n last.first last.lead
+    last.within c.set.new.self.rows (a.staying - 1) in
+    let out : Option (ℕ × ℕ) = Some (c.in_ok-to.to, c.in_ok-to.n) in
+    popped_view (λ (v : SendingView). PopsNextPiece out c.args.self.now v) (the_view a)
+    c.in_ok-to.to c.in_ok-to.n c.set.new.self.rows (a.staying - 1) c.pop_piece.new.self _
+    (is_there (λ m. c.pop_piece.new.self ≡ with_popped a.offers m) last.first c.pop_piece.ensures.popped)
+    (count_raised a.pushed.items c.unwrap-to.result.0 c.index_mut.result.now c.in_ok-to.to to
+    (omega (arith, to, last.within, c.self.invariant.counts)) c.index_mut.ensures.value)
+    (subst (λ (v : SendingView). PopsNextPiece out v new) c.self.view_is
+    (record {
+      popped = offers_popped (the_view a) c.in_ok-to.to c.in_ok-to.n last.first;
+      pushed = count_pushed (the_view a) c.in_ok-to.to c.in_ok-to.n last.first;
+      last = sym c.in_ok-to.was ∙ c.pop_piece.ensures.last;
+      to = subst (λ (k : ℕ). c.in_ok-to.to < k) (sym c.self.invariant.letters) last.within;
+      kept = last-kept a.me a.ranks (the_view a) c.self.invariant c.in_ok-to.to c.in_ok-to.n last.first last.lead
+          last.within c.set.new.self.rows (a.staying - 1) last.none rows;
+      in_turn = λ h was. turn_next (the_view a) (the_view a) h h (λ t. refl) was.in_turn c.in_ok-to.to
+          c.in_ok-to.n last.first;
+      counted = omega (arith, more);
+      outbox = refl;
+    }))

@@ -1,19 +1,19 @@
 -- The receiver of a message is asked to withdraw it.
-use Rattle.std.proofs.Common.{◌<◌, ◌∷◌, [], length, refl, sym, ◌∙◌, ap}
+use Rattle.std.proofs.Common.{◌<◌, length, refl, sym, ◌∙◌, ap}
 use Rattle.std.proofs.Common.{subst, arith}
 use Rattle.std.proofs.Common.{true, ℕ, List, None}
 use Rattle.std.proofs.lemmas.Option.{slice_get_within}
 use Rattle.nm_types.specs.declared.limits.TheConstants.{MAX_PACKETS}
-use Rattle.nm_history.specs.declared.events.Happened.TheVariants.{Recall}
 use Rattle.nm_rndv.specs.Offers.{Offering, destined, with_destined, with_recall}
 use Rattle.nm_sending.specs.Outboxes.{OutboxView, put_to}
 use Rattle.nm_sending.specs.contracts.sendings.Sending.{the_view}
+use Rattle.nm_sending.specs.Calls.{RecallsMessage}
 use Rattle.nm_sending.specs.Departures.{SendingView, ends_to}
-use Rattle.nm_sending.specs.Sent.{Preserves, Puts, MayBeRecalled, only_to}
+use Rattle.nm_sending.specs.Sent.{MayBeRecalled, only_to}
 use Rattle.nm_types.specs.declared.packets.What.TheVariants as what
 use Rattle.nm_sending.specs.Tables.{TablesAgree}
 use Rattle.nm_sending.proofs.PutLemmas.{puts-reserved}
-use Rattle.nm_sending.proofs.RecallLemmas.{unrecalled, no_recall, after-recall}
+use Rattle.nm_sending.proofs.RecallLemmas.{unrecalled, no_recall}
 use Rattle.nm_sending.proofs.RecallLemmas.{recall-tables, recall-kept}
 use Rattle.nm_sending.proofs.TableLemmas.{rows_with, same_departure}
 use Rattle.nm_sending.proofs.sendings.Sending.recall.Goals as goal
@@ -83,17 +83,8 @@ invariant_of-self-2 c =
     (ap (λ (xs : List ℕ). length xs) puts.popped ∙ ap (λ (o : OutboxView). length o.popped) same)
     (λ t. c.put_bare.ensures.ends t ∙ ap (λ (o : OutboxView). ends_to t o.letters) same))
 
-pub returns-clause-puts : goal.returns-clause-puts
-returns-clause-puts c =
-    let a = c.self.inside in
-    λ called before. subst (λ (v : SendingView). Puts (only_to c.args.to called (what.Withdraw c.args.n)) None
-    c.args.stamp v.outbox c.put_bare.new.outbox) c.self.view_is
-    (puts-reserved (only_to c.args.to called (what.Withdraw c.args.n)) None c.args.stamp _ a.outbox
-    c.reserve.new.self c.put_bare.new.outbox c.reserve.ensures.same
-    (c.put_bare.ensures.puts called before))
-
-pub returns-clause-kept : goal.returns-clause-kept
-returns-clause-kept c =
+pub returns-clause-recalled : goal.returns-clause-recalled
+returns-clause-recalled c =
     let a = c.self.inside in
     let to = subst (λ (v : SendingView). c.args.to < length v.outbox.popped)
     (sym c.self.view_is) c.requires.to in
@@ -103,21 +94,24 @@ returns-clause-kept c =
     let rows = rows_with (λ x. record x { recalled = true }) c.set.new.self.rows a.departures.rows c.args.to
     c.args.n c.unwrap-departure.result c.recalled.result un.departure c.set.ensures c.recalled.ensures
     (same_departure (sym c.get.ensures ∙ c.unwrap-departure.ensures) un.there) in
-    let new = after-recall a.me a.ranks (the_view a) c.self.invariant c.args.to c.args.n
-    (omega (arith, to, c.self.invariant.letters)) un c.put_bare.new.outbox c.set.new.self.rows rows in
-    subst (λ (o : Offering). Preserves c.args.self.now
-    (record (the_view a) {
+    let within : c.args.to < a.ranks = omega (arith, to, c.self.invariant.letters) in
+    let after : Offering → SendingView = λ o. record (the_view a) {
       outbox = c.put_bare.new.outbox;
       offers = o;
       departures = c.set.new.self.rows;
-    }) (Recall c.args.to c.args.n ∷ []))
+    } in
+    subst (λ (o : Offering). RecallsMessage c.args.to c.args.n c.args.stamp c.args.self.now (after o))
     (sym c.in_ok-withdraw.ensures.ok)
-    (subst (λ (v : SendingView). Preserves v new (Recall c.args.to c.args.n ∷ [])) c.self.view_is
-    (recall-kept a.me a.ranks (the_view a) c.self.invariant c.args.to c.args.n
-    (omega (arith, to, c.self.invariant.letters)) un c.put_bare.new.outbox c.set.new.self.rows rows))
-
-pub returns-clause-recalled : goal.returns-clause-recalled
-returns-clause-recalled c =
-    c.in_ok-withdraw.ensures.ok
-    ∙ ap (λ (v : SendingView). with_destined v.offers c.args.to
-    (with_recall (destined v.offers c.args.to) c.args.n)) c.self.view_is
+    (subst (λ (v : SendingView). RecallsMessage c.args.to c.args.n c.args.stamp v
+    (after (with_destined a.offers c.args.to (with_recall (destined a.offers c.args.to) c.args.n))))
+    c.self.view_is
+    (record {
+      puts = λ called before. puts-reserved (only_to c.args.to called (what.Withdraw c.args.n)) None
+          c.args.stamp _ a.outbox c.reserve.new.self c.put_bare.new.outbox c.reserve.ensures.same
+          (c.put_bare.ensures.puts called before);
+      kept = recall-kept a.me a.ranks (the_view a) c.self.invariant c.args.to c.args.n within un
+          c.put_bare.new.outbox c.set.new.self.rows rows;
+      counted = refl;
+      recalled = refl;
+      same = refl;
+    }))

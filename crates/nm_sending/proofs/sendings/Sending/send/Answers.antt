@@ -1,21 +1,19 @@
 -- The next message to a rank.
 use Rattle.std.proofs.Common.{◌≡◌, ◌+◌, ◌<◌, ◌≤◌, ◌∷◌, ◌++◌, [], List, ℕ, true, Bool, cond, length}
-use Rattle.std.proofs.Common.{Some, None, refl, sym, ◌∙◌, ap}
+use Rattle.std.proofs.Common.{refl, sym, ◌∙◌, ap}
 use Rattle.std.proofs.Common.{subst, arith, set}
-use Rattle.nm_types.specs.Bodies.{body_len, bytes_of}
+use Rattle.nm_types.specs.Bodies.{body_len}
 use Rattle.nm_types.specs.declared.limits.TheConstants.{MAX_BODY, MAX_EAGER}
 use Rattle.nm_types.specs.declared.messages.How.{How}
-use Rattle.nm_history.specs.declared.events.Happened.TheVariants.{Send}
-use Rattle.nm_history.specs.Outgoing.{packets_by}
-use Rattle.nm_history.specs.Sends.{is_ask}
+use Rattle.nm_history.specs.Sends.{Sent, is_ask}
 use Rattle.nm_rndv.specs.Offers.{Offering}
 use Rattle.nm_sending.specs.contracts.sendings.Sending.{the_view}
-use Rattle.nm_sending.specs.declared.TheConstants.{MAX_MESSAGES}
 use Rattle.nm_sending.specs.declared.departures.Departure.{Departure}
-use Rattle.nm_sending.specs.Departures.{SendingView, departures_to, fresh, row_of}
-use Rattle.nm_sending.specs.Sent.{Preserves, Puts}
+use Rattle.nm_sending.specs.Calls.{HasRoomFor, SendsMessage, event_of, sent_as}
+use Rattle.nm_sending.specs.Departures.{SendingView, fresh, row_of}
+use Rattle.nm_sending.specs.Sent.{Preserves}
 use Rattle.nm_sending.specs.Tables.{TablesAgree}
-use Rattle.nm_sending.proofs.SendLemmas.{after-send, send-tables, send-kept}
+use Rattle.nm_sending.proofs.SendLemmas.{send-tables, send-kept}
 use Rattle.nm_sending.proofs.sendings.Sending.send.Goals as goal
 
 -- the table with the new message
@@ -34,14 +32,12 @@ invariant_of-self-2 c =
     let a = c.self.inside in
     let to = subst (λ (v : SendingView). c.args.to < length v.outbox.popped)
     (sym c.self.view_is) c.requires.to in
-    let few = subst (λ (v : SendingView). length (departures_to v c.args.to) < MAX_MESSAGES)
-    (sym c.self.view_is)
-    c.requires.few in
+    let has = subst (λ (v : SendingView). HasRoomFor v c.args.to) (sym c.self.view_is) c.requires.room in
     let rows = rows_pushed a.departures.rows c.reserve.new.self.rows c.push.new.self.rows c.args.to
     c.len-len.result
     c.args.how (body_len c.args.body) c.new.result c.reserve.ensures.rows c.push.ensures c.new.ensures
     c.len-len.ensures in
-    let puts = c.in_ok-put_message.ensures.puts [] 0 in
+    let put = c.in_ok-put_message.ensures.put 0 in
     subst (λ (o : Offering). TablesAgree a.me a.ranks
     (record {
       outbox = c.put_message.new.outbox;
@@ -50,52 +46,43 @@ invariant_of-self-2 c =
       pushed = a.pushed.items;
       staying = a.staying + 1;
     }))
-    (sym c.in_ok-put_message.ensures.asked)
+    (sym put.asked)
     (send-tables a.me a.ranks (the_view a) c.self.invariant c.args.to c.count-n.result
-    (omega (arith, to, c.self.invariant.letters)) c.count-n.ensures few c.args.how c.args.body
+    (omega (arith, to, c.self.invariant.letters)) c.count-n.ensures has.few c.args.how c.args.body
     (fits (is_ask c.args.how) (body_len c.args.body) c.requires.short) c.put_message.new.outbox
-    c.push.new.self.rows (a.staying + 1) rows puts.me (ap (λ (xs : List ℕ). length xs) puts.popped)
-    c.in_ok-put_message.ensures.ends refl)
+    c.push.new.self.rows (a.staying + 1) rows (put.puts []).me (ap (λ (xs : List ℕ). length xs) (put.puts []).popped)
+    put.ends refl)
 
-pub returns-clause-puts : goal.returns-clause-puts
-returns-clause-puts c =
-    λ h line. subst (λ (v : SendingView). Puts
-    (λ other. packets_by (λ s. bytes_of c.args.body) other h c.args.stamp
-    (Send c.args.to c.count-n.result c.args.tag c.args.ctx (body_len c.args.body) c.args.how line))
-    (cond (is_ask c.args.how) None (Some c.count-n.result)) c.args.stamp
-    v.outbox c.put_message.new.outbox) c.self.view_is (c.in_ok-put_message.ensures.puts h line)
-
-pub returns-clause-kept : goal.returns-clause-kept
-returns-clause-kept c =
+pub returns-clause-sent : goal.returns-clause-sent
+returns-clause-sent c =
     let a = c.self.inside in
     let to = subst (λ (v : SendingView). c.args.to < length v.outbox.popped)
     (sym c.self.view_is) c.requires.to in
-    let few = subst (λ (v : SendingView). length (departures_to v c.args.to) < MAX_MESSAGES)
-    (sym c.self.view_is)
-    c.requires.few in
+    let has = subst (λ (v : SendingView). HasRoomFor v c.args.to) (sym c.self.view_is) c.requires.room in
     let rows = rows_pushed a.departures.rows c.reserve.new.self.rows c.push.new.self.rows c.args.to
     c.len-len.result
     c.args.how (body_len c.args.body) c.new.result c.reserve.ensures.rows c.push.ensures c.new.ensures
     c.len-len.ensures in
-    let within : c.args.to < a.ranks = omega (arith, to, c.self.invariant.letters) in
-    let new = after-send a.me a.ranks (the_view a) c.self.invariant c.args.to c.count-n.result within
-    c.count-n.ensures few c.args.how c.args.body
-    (fits (is_ask c.args.how) (body_len c.args.body) c.requires.short)
-    c.put_message.new.outbox c.push.new.self.rows (a.staying + 1) rows in
-    λ line.
-    let ws = Send c.args.to c.count-n.result c.args.tag c.args.ctx
-    (body_len c.args.body) c.args.how line ∷ [] in
-    subst (λ (o : Offering). Preserves c.args.self.now
-    (record {
+    let after : Offering → SendingView = λ o. record {
       outbox = c.put_message.new.outbox;
       offers = o;
       departures = c.push.new.self.rows;
       pushed = a.pushed.items;
       staying = a.staying + 1;
-    }) ws)
-    (sym c.in_ok-put_message.ensures.asked)
-    (subst (λ (v : SendingView). Preserves v new ws) c.self.view_is
-    (send-kept a.me a.ranks (the_view a) c.self.invariant c.args.to c.count-n.result
-    within c.count-n.ensures few
-    c.args.how c.args.body (fits (is_ask c.args.how) (body_len c.args.body) c.requires.short)
-    c.put_message.new.outbox c.push.new.self.rows (a.staying + 1) rows c.args.tag c.args.ctx line))
+    } in
+    λ line.
+    let s : Sent = sent_as c.args.to c.args.tag c.args.ctx c.args.body c.args.how c.args.stamp c.count-n.result
+    line in
+    let put = c.in_ok-put_message.ensures.put line in
+    subst (λ (v : SendingView). SendsMessage s c.args.body v (after c.put_message.new.offers)) c.self.view_is
+    (record {
+      number = c.count-n.ensures;
+      put = put;
+      kept = subst (λ (o : Offering). Preserves (the_view a) (after o) (event_of s ∷ [])) (sym put.asked)
+          (send-kept a.me a.ranks (the_view a) c.self.invariant c.args.to c.count-n.result
+          (omega (arith, to, c.self.invariant.letters)) c.count-n.ensures has.few c.args.how c.args.body
+          (fits (is_ask c.args.how) (body_len c.args.body) c.requires.short) c.put_message.new.outbox
+          c.push.new.self.rows (a.staying + 1) rows c.args.tag c.args.ctx line);
+      counted = refl;
+      same = refl;
+    })

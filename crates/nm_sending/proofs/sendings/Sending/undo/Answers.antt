@@ -1,11 +1,11 @@
 -- The answer to a recall comes back.
-use Rattle.std.proofs.Common.{◌<◌, ◌∷◌, [], Some, length, refl, sym, ◌∙◌, subst, arith}
+use Rattle.std.proofs.Common.{◌<◌, Some, length, refl, sym, ◌∙◌, subst, arith}
 use Rattle.std.proofs.lemmas.Option.{slice_get_within}
-use Rattle.nm_history.specs.declared.events.Happened.TheVariants.{Undone}
 use Rattle.nm_rndv.specs.Offers.{Offering}
 use Rattle.nm_sending.specs.contracts.sendings.Sending.{the_view}
+use Rattle.nm_sending.specs.Calls.{AnswersRecall}
 use Rattle.nm_sending.specs.Departures.{SendingView}
-use Rattle.nm_sending.specs.Sent.{Preserves, MayBeAnswered}
+use Rattle.nm_sending.specs.Sent.{MayBeAnswered}
 use Rattle.nm_sending.specs.Tables.{TablesAgree}
 use Rattle.nm_sending.proofs.TableLemmas.{rows_with, same_departure}
 use Rattle.nm_sending.proofs.UndoLemmas.{is_recall_open, is_open, not_cleared, after-undo}
@@ -73,8 +73,8 @@ invariant_of-self c =
     (undo-tables a.me a.ranks (the_view a) c.self.invariant c.args.to c.args.n
     (omega (arith, to, c.self.invariant.letters)) c.args.done open' c.set.new.self.rows rows)
 
-pub returns-clause-kept : goal.returns-clause-kept
-returns-clause-kept c =
+pub returns : goal.returns
+returns c =
     let a = c.self.inside in
     let to = subst (λ (v : SendingView). c.args.to < length v.outbox.popped)
     (sym c.self.view_is) c.requires.to in
@@ -84,11 +84,17 @@ returns-clause-kept c =
     let rows = rows_with (λ x. record x { undone = Some c.args.done }) c.set.new.self.rows a.departures.rows
     c.args.to c.args.n c.unwrap-departure.result c.answered.result open'.departure c.set.ensures
     c.answered.ensures (same_departure (sym c.get.ensures ∙ c.unwrap-departure.ensures) open'.there) in
-    let new = after-undo a.me a.ranks (the_view a) c.self.invariant c.args.to c.args.n
-    (omega (arith, to, c.self.invariant.letters)) c.args.done open' c.set.new.self.rows rows in
-    let ws = Undone c.args.to c.args.n c.args.done ∷ [] in
-    subst (λ (o : Offering). Preserves c.args.self.now
-    (record (the_view a) { offers = o; departures = c.set.new.self.rows }) ws) (sym c.withdrawn.ensures)
-    (subst (λ (v : SendingView). Preserves v new ws) c.self.view_is
-    (undo-kept a.me a.ranks (the_view a) c.self.invariant c.args.to c.args.n
-    (omega (arith, to, c.self.invariant.letters)) c.args.done open' c.set.new.self.rows rows))
+    let within : c.args.to < a.ranks = omega (arith, to, c.self.invariant.letters) in
+    let new = after-undo a.me a.ranks (the_view a) c.self.invariant c.args.to c.args.n within c.args.done open'
+    c.set.new.self.rows rows in
+    subst (λ (o : Offering). AnswersRecall c.args.to c.args.n c.args.done c.args.self.now
+    (record (the_view a) { offers = o; departures = c.set.new.self.rows })) (sym c.withdrawn.ensures)
+    (subst (λ (v : SendingView). AnswersRecall c.args.to c.args.n c.args.done v new) c.self.view_is
+    (record {
+      kept = undo-kept a.me a.ranks (the_view a) c.self.invariant c.args.to c.args.n within c.args.done open'
+          c.set.new.self.rows rows;
+      counted = refl;
+      answered = refl;
+      outbox = refl;
+      same = refl;
+    }))
