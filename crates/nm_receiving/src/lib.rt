@@ -10,15 +10,15 @@
 //! # What a contract sees
 //! A `ReceivingView`, and the relation `AreReceived` between it and a history: the matcher's deeds, the
 //! messages and the receives are those of the history, and what is due of a sender is what the history
-//! says. A call that changes something says with which events that goes: `Preserves old new happenings` says
-//! that, whatever the history, the new view stands in the relation with the longer one, and that the
-//! events may come there.
+//! says. What a call did is one relation, named after it (`Calls`). It says with which events that goes:
+//! `Preserves old new happenings` says that, whatever the history, the new view stands in the relation with
+//! the longer one, and that the events may come there.
 //! # What is proved
 //! - Each answer is the definition's on every history that stands in the relation.
-//! - Each call keeps the relation, with the events that its clause `kept` names.
-//! - Each call says what it adds to the bytes of which message (clause `bytes`): a packet adds its payload
-//!   to the eager message that it begins or continues, a piece that continues adds its bytes to its message,
-//!   and `finish` changes at most those of the message of its receive.
+//! - Each call keeps the relation, with the events that its `kept` names.
+//! - Each call says what it adds to the bytes of which message (`bytes`): a packet adds its payload to the
+//!   eager message that it begins or continues (`TakesMessagePacket`), a piece that continues adds its bytes
+//!   to its message (`DrawsPiece`), and `finish` changes at most those of the message of its receive.
 //! - A piece of a sender is due exactly where a message of it was sent by asking, a receive took it, and
 //!   it is not whole (`is_due`).
 //! - `finish` gives the result of the receive, with the bytes that came of its message.

@@ -1,34 +1,30 @@
 //! The receiving side of a rank.
 
-ghost use Rattle.std.specs.Prelude.{◌≡◌, ◌↔◌, ℕ, ◌+◌, ◌<◌, true, false, not, if◌then◌else◌};
-ghost use Rattle.std.specs.Prelude.{IfOk, IfSome, IsSome, IsNone, IsTrue, MatchOption, OnErr, OnOk};
-ghost use Rattle.std.specs.Prelude.{nat_lt, option_map, option_to_list, List, [], ◌∷◌, ◌++◌, length};
-ghost use Rattle.std.specs.Prelude.{map, slice_set};
+ghost use Rattle.std.specs.Prelude.{◌≡◌, ◌↔◌, ℕ, ◌<◌, true, false, not, [], ◌∷◌, ◌++◌, List};
+ghost use Rattle.std.specs.Prelude.{IfOk, IfSome, IsSome, IsTrue, MatchOption, OnErr, OnOk};
+ghost use Rattle.std.specs.Prelude.{length, map, nat_lt};
 ghost use Rattle.std.specs.List.{list_any, slice_get};
 ghost use Rattle.std.specs.Option.{option_map_or};
 ghost use Rattle.nm_types.specs.declared.limits.TheConstants.{MAX_PACKETS};
 ghost use Rattle.nm_types.specs.declared.packets.What.TheVariants as what;
 ghost use Rattle.nm_history.specs.declared.events.Event.{Event};
 ghost use Rattle.nm_history.specs.declared.events.Happened.TheVariants as event;
-ghost use Rattle.nm_history.specs.Answers.{without_bytes};
-ghost use Rattle.nm_history.specs.Completion.{is_complete as is_complete_lem, result_of};
+ghost use Rattle.nm_history.specs.Completion.{is_complete as is_complete_lem};
 ghost use Rattle.nm_history.specs.Completion.Request.{Receiving as ReceivingRequest};
 ghost use Rattle.nm_history.specs.Happens.{happened, is_arrival};
 ghost use Rattle.nm_history.specs.Matching.{first_message, is_claimed as is_claimed_lem};
 ghost use Rattle.nm_history.specs.Matching.{is_free_message, is_of_receive, matched_pairs};
 ghost use Rattle.nm_history.specs.Sends.{message_of};
-ghost use Rattle.nm_history.specs.Bytes.{bytes_in, pulled_bytes};
 ghost use Rattle.nm_history.specs.Effects.{happenings};
 ghost use Rattle.nm_history.specs.Known.{Known, learned};
-ghost use Rattle.nm_history.specs.Pieces.{due_pieces, is_due as is_due_lem, piece_makes};
-ghost use Rattle.nm_eager.specs.Streams.{after, continues, is_kept, missing, nothing_came};
+ghost use Rattle.nm_history.specs.Pieces.{due_pieces};
+ghost use Rattle.nm_eager.specs.Streams.{missing, nothing_came};
+ghost use Rattle.nm_receiving.specs.Calls.{DrawsPiece, FinishesReceive, MayBeTakenIn, StartsOne};
+ghost use Rattle.nm_receiving.specs.Calls.{TakesMessagePacket};
 ghost use Rattle.nm_receiving.specs.StreamViews.{is_done_at_once};
-ghost use Rattle.nm_receiving.specs.Receipts.{AddsBytes, SameBytes, SameOtherBytes, ShowsBytes, came_of};
-ghost use Rattle.nm_receiving.specs.Receipts.{drawn_from, of_asked, of_eager, pair_at, receipt_of};
-ghost use Rattle.nm_receiving.specs.Receipts.{receipts_from, stream_of, taken_events};
+ghost use Rattle.nm_receiving.specs.Receipts.{came_of, drawn_from, receipt_of, receipts_from};
+ghost use Rattle.nm_receiving.specs.Receipts.{stream_of};
 ghost use Rattle.nm_receiving.specs.Received.{AreReceived, PreservesSender, IsOwed, Preserves, MayBeTaken};
-ghost use Rattle.nm_receiving.specs.Received.{TakesPacket};
-ghost use Rattle.nm_receiving.specs.Steps.{with_ended};
 
 use crate::bytes::{grant_taken, shown, take_bytes};
 use crate::receipts::{Receipt, Receipts, Receive, give};
@@ -129,21 +125,11 @@ impl Receiving {
     /// Posts a receive, and answers its number and the message that it takes: the oldest free one that
     /// it selects (MPI 3.1, sections 3.2.4 and 3.5).
     pub fn post(&mut self, from: Peer, tag: TagPick, ctx: u8, cap: u32) -> Result<Started, Memory>
-        ensures number { IfOk result (λ s. s.number ≡ length self.old.receives) }
         ensures taken { IfOk result (λ s. (h : List Event) → AreReceived self.old h →
             s.taken ≡ first_message h (matched_pairs h) from tag ctx) }
-        ensures sender { IfOk result (λ s.
-            IfSome s.taken (λ a. a.env.from < self.old.sizes.ranks)) }
-        ensures kept { IfOk result (λ s. (line : ℕ) → Preserves self.old self.new
-            (event.Post
-            (record { number = s.number; from = from; tag = tag; ctx = ctx; cap = cap }) line
-            ∷ taken_events s.taken)) }
-        ensures sizes { OnOk result (self.new.sizes ≡ self.old.sizes) }
-        ensures streams { OnOk result (self.new.streams ≡ self.old.streams) }
-        ensures bytes { OnOk result (SameBytes self.old self.new) }
-        ensures drawn { OnOk result (self.new.drawn ≡ self.old.drawn) }
-        ensures receives { IfOk result (λ s. self.new.receives ≡ self.old.receives
-            ++ record { cap = cap; taken = s.taken; cancelled = false; ended = false } ∷ []) }
+        ensures started { IfOk result (λ s. StartsOne cap (event.Post
+            (record { number = s.number; from = from; tag = tag; ctx = ctx; cap = cap }))
+            s self.old self.new) }
         ensures err { OnErr result (self.new ≡ self.old) }
     {
         self.receives.reserve(1)?;
@@ -164,20 +150,11 @@ impl Receiving {
     /// The receive of a claimed message (MPI 3.1, section 3.8.3).
     pub fn take_claimed(&mut self, from: u8, n: u64, cap: u32) -> Result<Started, Memory>
         requires { MayBeTaken self.old from n }
-        ensures number { IfOk result (λ s. s.number ≡ length self.old.receives) }
         ensures taken { IfOk result (λ s. (h : List Event) → AreReceived self.old h →
             s.taken ≡ message_of h from n) }
         ensures some { IfOk result (λ s. IsSome s.taken) }
-        ensures sender { IfOk result (λ s.
-            IfSome s.taken (λ a. a.env.from < self.old.sizes.ranks)) }
-        ensures kept { IfOk result (λ s. (line : ℕ) → Preserves self.old self.new
-            (event.Match s.number from n cap line ∷ taken_events s.taken)) }
-        ensures sizes { OnOk result (self.new.sizes ≡ self.old.sizes) }
-        ensures streams { OnOk result (self.new.streams ≡ self.old.streams) }
-        ensures bytes { OnOk result (SameBytes self.old self.new) }
-        ensures drawn { OnOk result (self.new.drawn ≡ self.old.drawn) }
-        ensures receives { IfOk result (λ s. self.new.receives ≡ self.old.receives
-            ++ record { cap = cap; taken = s.taken; cancelled = false; ended = false } ∷ []) }
+        ensures started { IfOk result (λ s.
+            StartsOne cap (event.Match s.number from n cap) s self.old self.new) }
         ensures err { OnErr result (self.new ≡ self.old) }
     {
         prove!(self.matcher.is_claimed(from, n));
@@ -257,29 +234,15 @@ impl Receiving {
     /// Takes a packet of a message, which continues its stream: a message begins, goes on, or is
     /// announced. The answer is whether a receive takes an announced message at once.
     pub fn take(&mut self, p: &Packet) -> Result<bool, Memory>
-        requires sender { p.now.from < self.old.sizes.ranks }
-        requires kind { is_kept p.now.what ≡ true }
-        requires continues { continues self.old.sizes.eager (stream_of self.old p.now.from).count
-            (missing (stream_of self.old p.now.from)) p.now.what (length p.now.payload) ≡ true }
-        requires few { (stream_of self.old p.now.from).count < MAX_PACKETS }
+        requires continues { MayBeTakenIn self.old p.now }
         ensures at_once { IfOk result (λ done. (h : List Event) → AreReceived self.old h →
             done ≡ is_done_at_once h p.now.from p.now.what) }
-        ensures kept { OnOk result (TakesPacket self.old self.new p.now) }
-        ensures streams { OnOk result (self.new.streams ≡ slice_set self.old.streams p.now.from
-            (after (stream_of self.old p.now.from) p.now.what p.now.payload)) }
+        ensures took { OnOk result (TakesMessagePacket p.now self.old self.new) }
         ensures known { OnOk result ((known : Known) →
             known.count ≡ (stream_of self.old p.now.from).count →
             known.missing ≡ missing (stream_of self.old p.now.from) →
             PreservesSender self.new p.now.from
             (learned known p.now.what (length p.now.payload))) }
-        ensures bytes { OnOk result ((known : Known) →
-            known.count ≡ (stream_of self.old p.now.from).count → AddsBytes
-            (of_eager p.now.from (λ n. bytes_in n known p.now.what p.now.payload)) self.old
-            self.new) }
-        ensures sizes { OnOk result (self.new.sizes ≡ self.old.sizes) }
-        ensures drawn { OnOk result (self.new.drawn ≡ self.old.drawn) }
-        ensures ended { OnOk result (map (λ r. r.ended) self.new.receives
-            ≡ map (λ r. r.ended) self.old.receives) }
         ensures err { OnErr result (self.new ≡ self.old) }
     {
         packets_tell(&self.joiner, p);
@@ -322,21 +285,8 @@ impl Receiving {
     /// An eager message begins.
     fn begin(&mut self, p: &Packet, tag: u16, ctx: u8, len: u32) -> Result<(), Memory>
         requires head { p.now.what ≡ what.Head tag ctx len }
-        requires sender { p.now.from < self.old.sizes.ranks }
-        requires continues { continues self.old.sizes.eager (stream_of self.old p.now.from).count
-            (missing (stream_of self.old p.now.from)) p.now.what (length p.now.payload) ≡ true }
-        requires few { (stream_of self.old p.now.from).count < MAX_PACKETS }
-        ensures kept { OnOk result (TakesPacket self.old self.new p.now) }
-        ensures streams { OnOk result (self.new.streams ≡ slice_set self.old.streams p.now.from
-            (after (stream_of self.old p.now.from) p.now.what p.now.payload)) }
-        ensures bytes { OnOk result ((known : Known) →
-            known.count ≡ (stream_of self.old p.now.from).count → AddsBytes
-            (of_eager p.now.from (λ n. bytes_in n known p.now.what p.now.payload)) self.old
-            self.new) }
-        ensures sizes { OnOk result (self.new.sizes ≡ self.old.sizes) }
-        ensures drawn { OnOk result (self.new.drawn ≡ self.old.drawn) }
-        ensures ended { OnOk result (map (λ r. r.ended) self.new.receives
-            ≡ map (λ r. r.ended) self.old.receives) }
+        requires continues { MayBeTakenIn self.old p.now }
+        ensures took { OnOk result (TakesMessagePacket p.now self.old self.new) }
         ensures err { OnErr result (self.new ≡ self.old) }
     {
         prove!(self.joiner.missing(p.from) == 0);
@@ -354,21 +304,8 @@ impl Receiving {
     /// The eager message `n` goes on.
     fn go_on(&mut self, p: &Packet, n: u64) -> Result<(), Memory>
         requires more { p.now.what ≡ what.More n }
-        requires sender { p.now.from < self.old.sizes.ranks }
-        requires continues { continues self.old.sizes.eager (stream_of self.old p.now.from).count
-            (missing (stream_of self.old p.now.from)) p.now.what (length p.now.payload) ≡ true }
-        requires few { (stream_of self.old p.now.from).count < MAX_PACKETS }
-        ensures kept { OnOk result (TakesPacket self.old self.new p.now) }
-        ensures streams { OnOk result (self.new.streams ≡ slice_set self.old.streams p.now.from
-            (after (stream_of self.old p.now.from) p.now.what p.now.payload)) }
-        ensures bytes { OnOk result ((known : Known) →
-            known.count ≡ (stream_of self.old p.now.from).count → AddsBytes
-            (of_eager p.now.from (λ n. bytes_in n known p.now.what p.now.payload)) self.old
-            self.new) }
-        ensures sizes { OnOk result (self.new.sizes ≡ self.old.sizes) }
-        ensures drawn { OnOk result (self.new.drawn ≡ self.old.drawn) }
-        ensures ended { OnOk result (map (λ r. r.ended) self.new.receives
-            ≡ map (λ r. r.ended) self.old.receives) }
+        requires continues { MayBeTakenIn self.old p.now }
+        ensures took { OnOk result (TakesMessagePacket p.now self.old self.new) }
         ensures err { OnErr result (self.new ≡ self.old) }
     {
         let last = self.joiner.missing(p.from) as usize == p.payload.as_slice().len();
@@ -380,23 +317,10 @@ impl Receiving {
     /// A message is announced. The answer is whether a receive takes it at once.
     fn announce(&mut self, p: &Packet, tag: u16, ctx: u8, len: u32) -> Result<bool, Memory>
         requires ask { p.now.what ≡ what.Ask tag ctx len }
-        requires sender { p.now.from < self.old.sizes.ranks }
-        requires continues { continues self.old.sizes.eager (stream_of self.old p.now.from).count
-            (missing (stream_of self.old p.now.from)) p.now.what (length p.now.payload) ≡ true }
-        requires few { (stream_of self.old p.now.from).count < MAX_PACKETS }
+        requires continues { MayBeTakenIn self.old p.now }
         ensures at_once { IfOk result (λ done. (h : List Event) → AreReceived self.old h →
             done ≡ is_done_at_once h p.now.from p.now.what) }
-        ensures kept { OnOk result (TakesPacket self.old self.new p.now) }
-        ensures streams { OnOk result (self.new.streams ≡ slice_set self.old.streams p.now.from
-            (after (stream_of self.old p.now.from) p.now.what p.now.payload)) }
-        ensures bytes { OnOk result ((known : Known) →
-            known.count ≡ (stream_of self.old p.now.from).count → AddsBytes
-            (of_eager p.now.from (λ n. bytes_in n known p.now.what p.now.payload)) self.old
-            self.new) }
-        ensures sizes { OnOk result (self.new.sizes ≡ self.old.sizes) }
-        ensures drawn { OnOk result (self.new.drawn ≡ self.old.drawn) }
-        ensures ended { OnOk result (map (λ r. r.ended) self.new.receives
-            ≡ map (λ r. r.ended) self.old.receives) }
+        ensures took { OnOk result (TakesMessagePacket p.now self.old self.new) }
         ensures err { OnErr result (self.new ≡ self.old) }
     {
         let arrival = self.next_arrival(p.from, tag, ctx, len, How::Ask);
@@ -433,29 +357,7 @@ impl Receiving {
     pub fn draw(&mut self, p: &Piece) -> Result<Drawn, Memory>
         requires sender { p.now.from < self.old.sizes.ranks }
         requires few { drawn_from self.old p.now.from < MAX_PACKETS }
-        ensures continued { IfOk result (λ d. (h : List Event) → AreReceived self.old h →
-            d.continued
-            ≡ option_map_or (is_due_lem p.now)
-            (slice_get (due_pieces h p.now.from) (drawn_from self.old p.now.from)) false) }
-        ensures event { IfOk result (λ d. (h : List Event) → AreReceived self.old h →
-            option_to_list d.event
-            ≡ piece_makes p.now.from
-            (slice_get (due_pieces h p.now.from) (drawn_from self.old p.now.from)) p.now) }
-        ensures kept { IfOk result (λ d.
-            Preserves self.old self.new (option_to_list d.event)) }
-        ensures stray { IfOk result (λ d. d.continued ≡ false → self.new ≡ self.old) }
-        ensures counted { IfOk result (λ d. self.new.drawn ≡ slice_set self.old.drawn p.now.from
-            (drawn_from self.old p.now.from + (if d.continued then 1 else 0))) }
-        ensures same { OnOk result (self.new
-            ≡ record self.old {
-              grants = self.new.grants;
-              receipts = self.new.receipts;
-              drawn = self.new.drawn;
-            }) }
-        ensures bytes { IfOk result (λ d. AddsBytes
-            (of_asked p.now.from
-            (λ n. pulled_bytes n (record { piece = p.now; continued = d.continued }))) self.old
-            self.new) }
+        ensures drew { IfOk result (λ d. DrawsPiece p.now d self.old self.new) }
         ensures err { OnErr result (self.new ≡ self.old) }
     {
         if !self.grants.fits(p) {
@@ -505,22 +407,7 @@ impl Receiving {
         requires known { number < length self.old.receives }
         requires live { option_map_or (λ r. r.ended) (slice_get self.old.receives number) false
             ≡ false }
-        ensures value { (h : List Event) → AreReceived self.old h →
-            option_map without_bytes result ≡ result_of h (ReceivingRequest number) }
-        ensures body { IfSome result (ShowsBytes self.old number) }
-        ensures kept { (h : List Event) → AreReceived self.old h → AreReceived self.new h }
-        ensures none { IsNone result → self.new ≡ self.old }
-        ensures ended { IsSome result → self.new.receives ≡ with_ended self.old.receives number }
-        ensures streams { (from : ℕ) →
-            ((stream_of self.new from).count ≡ (stream_of self.old from).count)
-            × (missing (stream_of self.new from) ≡ missing (stream_of self.old from)) }
-        ensures bytes { SameOtherBytes (pair_at self.old number) self.old self.new }
-        ensures same { self.new
-            ≡ record self.old {
-              streams = self.new.streams;
-              grants = self.new.grants;
-              receives = self.new.receives;
-            } }
+        ensures { FinishesReceive number result self.old self.new }
     {
         let receive = self.receives[number as usize];
         if receive.cancelled {

@@ -17,8 +17,9 @@ use Rattle.nm_eager.specs.Senders.{Received}
 use Rattle.nm_eager.specs.Streams.{Stream, after, continues, missing, skipped}
 use Rattle.nm_receiving.specs.declared.receipts.Receipt.{Receipt}
 use Rattle.nm_receiving.specs.declared.receipts.Receive.{Receive}
+use Rattle.nm_receiving.specs.Calls.{MayBeTakenIn, TakesMessagePacket}
 use Rattle.nm_receiving.specs.Kept.{ReceivingInvariant}
-use Rattle.nm_receiving.specs.Receipts.{AddsBytes, ReceivingView, of_eager, receipts_from, stream_of}
+use Rattle.nm_receiving.specs.Receipts.{ReceivingView, receipts_from, stream_of}
 use Rattle.nm_receiving.specs.Received.{AreReceived, TakesPacket}
 use Rattle.nm_receiving.specs.Seen.{seen}
 use Rattle.nm_receiving.specs.Steps.{grants_with, rows_from, rows_with, streams_of}
@@ -30,8 +31,6 @@ use Rattle.nm_receiving.proofs.Packets.{takes-ask}
 use Rattle.nm_receiving.proofs.Packets.{taken_ended, taker_inside, then_taken}
 use Rattle.std.proofs.Common.{get_or}
 use Rattle.std.proofs.lemmas.Bool.{true≢false}
-use Rattle.nm_history.specs.Bytes.{bytes_in}
-use Rattle.nm_history.specs.Known.{Known}
 use Rattle.nm_eager.specs.Streams.{is_eager}
 use Rattle.nm_receiving.proofs.CameLemmas.{asked_came, granted-came, packet-came}
 use Rattle.nm_receiving.proofs.receivings.Receiving.announce.Goals as goal
@@ -58,19 +57,18 @@ pub skip-requires-clause-closed : goal.skip-requires-clause-closed
 skip-requires-clause-closed c =
     let v = seen c.self.inside in
     let p : Packet = c.args.p.now in
-    let sender = subst (λ (w : ReceivingView). p.from < w.sizes.ranks) (sym c.self.view_is) c.requires.sender in
-    let goes = subst (λ (w : ReceivingView). continues w.sizes.eager (stream_of w p.from).count
-    (missing (stream_of w p.from)) p.what (length p.payload) ≡ true)
-    (sym c.self.view_is) c.requires.continues in
+    let may = subst (λ (w : ReceivingView). MayBeTakenIn w p) (sym c.self.view_is) c.requires.continues in
+    let sender = may.sender in
+    let goes = may.continued in
     ap (λ (s : Stream). missing s) (sym (stream_at c.self.inside.joiner p.from sender))
     ∙ ask_finished v c.self.invariant p c.args.tag c.args.ctx c.args.len c.requires.ask sender goes None
 
 pub skip-requires-clause-limit : goal.skip-requires-clause-limit
 skip-requires-clause-limit c =
     let p : Packet = c.args.p.now in
-    let sender = subst (λ (w : ReceivingView). p.from < w.sizes.ranks) (sym c.self.view_is) c.requires.sender in
-    let few = subst (λ (w : ReceivingView). (stream_of w p.from).count < MAX_PACKETS)
-    (sym c.self.view_is) c.requires.few in
+    let may = subst (λ (w : ReceivingView). MayBeTakenIn w p) (sym c.self.view_is) c.requires.continues in
+    let sender = may.sender in
+    let few = may.few in
     subst (λ (s : Stream). s.count < MAX_PACKETS) (stream_at c.self.inside.joiner p.from sender) few
 
 pub give-requires : goal.give-requires
@@ -82,7 +80,8 @@ pub grant_taken-requires-clause-new : goal.grant_taken-requires-clause-new
 grant_taken-requires-clause-new c =
     let v : ReceivingView = seen c.self.inside in
     let p : Packet = c.args.p.now in
-    let sender = subst (λ (w : ReceivingView). p.from < w.sizes.ranks) (sym c.self.view_is) c.requires.sender in
+    let may = subst (λ (w : ReceivingView). MayBeTakenIn w p) (sym c.self.view_is) c.requires.continues in
+    let sender = may.sender in
     let arr = c.next_arrival-arrival.ensures
     ∙ ap (λ (w : ReceivingView). let a : Arrival =
     record {
@@ -102,7 +101,8 @@ pub grant_taken-requires-clause-came : goal.grant_taken-requires-clause-came
 grant_taken-requires-clause-came c =
     let v : ReceivingView = seen c.self.inside in
     let p : Packet = c.args.p.now in
-    let sender = subst (λ (w : ReceivingView). p.from < w.sizes.ranks) (sym c.self.view_is) c.requires.sender in
+    let may = subst (λ (w : ReceivingView). MayBeTakenIn w p) (sym c.self.view_is) c.requires.continues in
+    let sender = may.sender in
     let arr = c.next_arrival-arrival.ensures
     ∙ ap (λ (w : ReceivingView). let a : Arrival =
     record {
@@ -141,14 +141,8 @@ taker_post c =
     first_receive (history_of c.self.inside.matcher) (matched_pairs (history_of c.self.inside.matcher))
     (record { from = p.from; tag = c.args.tag; ctx = c.args.ctx; len = c.args.len; how = Ask })
 
-sender_of : (c : goal.After-is_some-2) → c.args.p.now.from < c.self.inside.joiner.sizes.ranks
-sender_of c = subst (λ (w : ReceivingView). c.args.p.now.from < w.sizes.ranks) (sym c.self.view_is) c.requires.sender
-
-goes_of : (c : goal.After-is_some-2) → let p : Packet = c.args.p.now in let v : ReceivingView = seen c.self.inside in
-    continues v.sizes.eager (stream_of v p.from).count (missing (stream_of v p.from)) p.what (length p.payload) ≡ true
-goes_of c = subst (λ (w : ReceivingView). continues w.sizes.eager (stream_of w c.args.p.now.from).count
-    (missing (stream_of w c.args.p.now.from))
-    c.args.p.now.what (length c.args.p.now.payload) ≡ true) (sym c.self.view_is) c.requires.continues
+may_of : (c : goal.After-is_some-2) → MayBeTakenIn (seen c.self.inside) c.args.p.now
+may_of c = subst (λ (w : ReceivingView). MayBeTakenIn w c.args.p.now) (sym c.self.view_is) c.requires.continues
 
 streams_after : (c : goal.After-is_some-2) → let p : Packet = c.args.p.now in
     streams_of c.skip.new.self ≡ set (streams_of c.self.inside.joiner) p.from
@@ -156,7 +150,7 @@ streams_after : (c : goal.After-is_some-2) → let p : Packet = c.args.p.now in
 streams_after c =
     let step = c.skip.ensures.step in
     stream_stepped c.self.inside.joiner c.skip.new.self c.args.p.now.from (λ s. skipped s) step.sizes
-    (sender_of c) step.changed
+    (may_of c).sender step.changed
     (λ other differ. ap (λ (r : Received). r.stream) (step.others other differ))
 
 arrival_of : (c : goal.After-is_some-2) → let p : Packet = c.args.p.now in
@@ -185,7 +179,7 @@ taker_is c =
     (arrival_of c)
 
 view_is : (c : goal.After-is_some-2) → let v : ReceivingView = seen c.self.inside in let p : Packet = c.args.p.now in
-    ask_view v c.self.invariant p c.args.tag c.args.ctx c.args.len c.requires.ask (sender_of c) (goes_of c)
+    ask_view v c.self.invariant p c.args.tag c.args.ctx c.args.len c.requires.ask (may_of c).sender (may_of c).continued
     (taker_post c) ≡ after_view c
 view_is c =
     let v : ReceivingView = seen c.self.inside in
@@ -193,7 +187,8 @@ view_is c =
     let arrival = c.next_arrival-arrival.result in
     let r : Receipt = record { arrival = arrival; whole = false } in
     let taken = c.then_some-taken.result in
-    ask_is v c.self.invariant p c.args.tag c.args.ctx c.args.len c.requires.ask (sender_of c) (goes_of c) (taker_post c)
+    ask_is v c.self.invariant p c.args.tag c.args.ctx c.args.len c.requires.ask (may_of c).sender
+    (may_of c).continued (taker_post c)
     arrival c.in_ok-taker.taker taken c.skip.new.self.sizes c.arrive.new.self (streams_of c.skip.new.self)
     c.grant_taken.new.grants.grants
     c.grant_taken.new.receipts.rows c.give.new.receives.items (arrival_of c) (taker_is c)
@@ -220,39 +215,29 @@ pub invariant_of-self-2 : goal.invariant_of-self-2
 invariant_of-self-2 c =
     subst (λ (w : ReceivingView). ReceivingInvariant w) (view_is c)
     (kept-ask (seen c.self.inside) c.self.invariant c.args.p.now c.args.tag c.args.ctx c.args.len c.requires.ask
-    (sender_of c) (goes_of c) (taker_post c) refl)
+    (may_of c).sender (may_of c).continued (taker_post c) refl)
 
-pub returns-clause-kept : goal.returns-clause-kept
-returns-clause-kept c =
-    subst (λ (u : ReceivingView). TakesPacket u (after_view c) c.args.p.now) c.self.view_is
-    (subst (λ (w : ReceivingView). TakesPacket (seen c.self.inside) w c.args.p.now) (view_is c)
-    (takes-ask (seen c.self.inside) c.self.invariant c.args.p.now c.args.tag c.args.ctx c.args.len c.requires.ask
-    (sender_of c) (goes_of c) (taker_post c) refl))
-
-pub returns-clause-streams : goal.returns-clause-streams
-returns-clause-streams c =
-    let p : Packet = c.args.p.now in
-    streams_after c ∙ ap (λ (w : ReceivingView). set w.streams p.from (skipped (stream_of w p.from))) c.self.view_is
-    ∙ ap (λ (w : What). set c.args.self.now.streams p.from (after (stream_of c.args.self.now p.from) w p.payload))
-    (sym c.requires.ask)
-
-pub returns-clause-ended : goal.returns-clause-ended
-returns-clause-ended c =
-    ap (λ (rs : List Receive). map (λ r. r.ended) rs) c.give.ensures
-    ∙ taken_ended c.self.inside.receives.items c.in_ok-taker.taker c.next_arrival-arrival.result
-    ∙ ap (λ (w : ReceivingView). map (λ r. r.ended) w.receives) c.self.view_is
-
-pub returns-clause-bytes : goal.returns-clause-bytes
-returns-clause-bytes c =
+pub returns-clause-took : goal.returns-clause-took
+returns-clause-took c =
     let v : ReceivingView = seen c.self.inside in
     let p : Packet = c.args.p.now in
     let taken = c.then_some-taken.result in
-    subst (λ (u : ReceivingView). (known : Known) → known.count ≡ (stream_of u p.from).count
-    → AddsBytes (of_eager p.from (λ n. bytes_in n known p.what p.payload)) u (after_view c)) c.self.view_is
-    (packet-came v (after_view c) c.self.invariant p (sender_of c)
-    (streams_after c
-    ∙ ap (λ (w : What). set v.streams p.from (after (stream_of v p.from) w p.payload)) (sym c.requires.ask))
-    (λ from n. ap (λ gs. asked_came (get_or gs from []) n)
-    (c.grant_taken.ensures.grants ∙ ap (λ gs. grants_with gs taken) c.reserve-2.ensures.same)
-    ∙ granted-came v.grants taken from n)
-    (λ eager. absurd (true≢false (sym eager ∙ ap (λ (w : What). is_eager w) c.requires.ask))) (goes_of c))
+    let streams = streams_after c
+    ∙ ap (λ (w : What). set v.streams p.from (after (stream_of v p.from) w p.payload)) (sym c.requires.ask) in
+    subst (λ (u : ReceivingView). TakesMessagePacket p u (after_view c)) c.self.view_is
+    (record {
+      kept = subst (λ (w : ReceivingView). TakesPacket v w p) (view_is c)
+          (takes-ask v c.self.invariant p c.args.tag c.args.ctx c.args.len c.requires.ask (may_of c).sender
+          (may_of c).continued (taker_post c) refl);
+      streams = streams;
+      bytes = packet-came v (after_view c) c.self.invariant p (may_of c).sender streams
+          (λ from n. ap (λ gs. asked_came (get_or gs from []) n)
+          (c.grant_taken.ensures.grants ∙ ap (λ gs. grants_with gs taken) c.reserve-2.ensures.same)
+          ∙ granted-came v.grants taken from n)
+          (λ eager. absurd (true≢false (sym eager ∙ ap (λ (w : What). is_eager w) c.requires.ask)))
+          (may_of c).continued;
+      sizes = c.skip.ensures.step.sizes;
+      drawn = refl;
+      ended = ap (λ (rs : List Receive). map (λ r. r.ended) rs) c.give.ensures
+          ∙ taken_ended c.self.inside.receives.items c.in_ok-taker.taker c.next_arrival-arrival.result;
+    })

@@ -14,8 +14,9 @@ use Rattle.nm_eager.specs.Senders.{Received}
 use Rattle.nm_eager.specs.Streams.{IsStream, Stream, after, continues, missing}
 use Rattle.nm_receiving.specs.declared.receipts.Receipt.{Receipt}
 use Rattle.nm_receiving.specs.declared.receipts.Receive.{Receive}
+use Rattle.nm_receiving.specs.Calls.{MayBeTakenIn, TakesMessagePacket}
 use Rattle.nm_receiving.specs.Kept.{ReceivingInvariant}
-use Rattle.nm_receiving.specs.Receipts.{AddsBytes, ReceivingView, of_eager, receipts_from, stream_of}
+use Rattle.nm_receiving.specs.Receipts.{ReceivingView, receipts_from, stream_of}
 use Rattle.nm_receiving.specs.Received.{TakesPacket}
 use Rattle.nm_receiving.specs.Seen.{seen}
 use Rattle.nm_receiving.specs.Steps.{rows_from, streams_of}
@@ -24,8 +25,6 @@ use Rattle.nm_receiving.proofs.Goings.{next_message}
 use Rattle.nm_receiving.proofs.Joinings.{room_same, stream_stepped}
 use Rattle.nm_receiving.proofs.Packets.{finished, head_is, head_view, kept-head, takes-head, taken_ended, taker_inside}
 use Rattle.nm_receiving.proofs.Results.{ok_gives}
-use Rattle.nm_history.specs.Bytes.{bytes_in}
-use Rattle.nm_history.specs.Known.{Known}
 use Rattle.nm_receiving.proofs.CameLemmas.{packet-came}
 use Rattle.nm_receiving.proofs.receivings.Receiving.begin.Goals as goal
 
@@ -33,10 +32,9 @@ pub prove-unreachable-requires : goal.prove-unreachable-requires
 prove-unreachable-requires c =
     let v = seen c.self.inside in
     let p : Packet = c.args.p.now in
-    let sender = subst (λ (w : ReceivingView). p.from < w.sizes.ranks) (sym c.self.view_is) c.requires.sender in
-    let goes = subst (λ (w : ReceivingView). continues w.sizes.eager (stream_of w p.from).count
-    (missing (stream_of w p.from)) p.what (length p.payload) ≡ true)
-    (sym c.self.view_is) c.requires.continues in
+    let may = subst (λ (w : ReceivingView). MayBeTakenIn w p) (sym c.self.view_is) c.requires.continues in
+    let sender = may.sender in
+    let goes = may.continued in
     c.if-prove.true
     (c.missing.ensures.value ∙ ap (λ (s : Stream). missing s) (sym (stream_at c.self.inside.joiner p.from sender))
     ∙ finished v c.self.invariant p c.args.tag c.args.ctx c.args.len c.requires.head sender goes
@@ -63,9 +61,9 @@ arrive-requires c =
 pub add-requires-clause-limit : goal.add-requires-clause-limit
 add-requires-clause-limit c =
     let p : Packet = c.args.p.now in
-    let sender = subst (λ (w : ReceivingView). p.from < w.sizes.ranks) (sym c.self.view_is) c.requires.sender in
-    let few = subst (λ (w : ReceivingView). (stream_of w p.from).count < MAX_PACKETS)
-    (sym c.self.view_is) c.requires.few in
+    let may = subst (λ (w : ReceivingView). MayBeTakenIn w p) (sym c.self.view_is) c.requires.continues in
+    let sender = may.sender in
+    let few = may.few in
     subst (λ (s : Stream). s.count < MAX_PACKETS)
     (stream_at c.self.inside.joiner p.from sender
     ∙ sym (room_same c.self.inside.joiner c.reserve-2.new.self p.from c.reserve-2.ensures.same p.from)) few
@@ -94,18 +92,12 @@ taker_post c =
     first_receive (history_of c.self.inside.matcher) (matched_pairs (history_of c.self.inside.matcher))
     (record { from = p.from; tag = c.args.tag; ctx = c.args.ctx; len = c.args.len; how = Eager })
 
-sender_of : (c : goal.After-give) → c.args.p.now.from < c.self.inside.joiner.sizes.ranks
-sender_of c = subst (λ (w : ReceivingView). c.args.p.now.from < w.sizes.ranks) (sym c.self.view_is) c.requires.sender
-
-goes_of : (c : goal.After-give) → let p : Packet = c.args.p.now in let v : ReceivingView = seen c.self.inside in
-    continues v.sizes.eager (stream_of v p.from).count (missing (stream_of v p.from)) p.what (length p.payload) ≡ true
-goes_of c = subst (λ (w : ReceivingView). continues w.sizes.eager (stream_of w c.args.p.now.from).count
-    (missing (stream_of w c.args.p.now.from))
-    c.args.p.now.what (length c.args.p.now.payload) ≡ true) (sym c.self.view_is) c.requires.continues
+may_of : (c : goal.After-give) → MayBeTakenIn (seen c.self.inside) c.args.p.now
+may_of c = subst (λ (w : ReceivingView). MayBeTakenIn w c.args.p.now) (sym c.self.view_is) c.requires.continues
 
 right_of : (c : goal.After-give) → IsStream (stream_of (seen c.self.inside) c.args.p.now.from)
-right_of c = subst (λ (s : Stream). IsStream s) (sym (stream_at c.self.inside.joiner c.args.p.now.from (sender_of c)))
-    c.missing.ensures.stream
+right_of c = subst (λ (s : Stream). IsStream s)
+    (sym (stream_at c.self.inside.joiner c.args.p.now.from (may_of c).sender)) c.missing.ensures.stream
 
 streams_after : (c : goal.After-give) → let p : Packet = c.args.p.now in
     streams_of c.add.new.self ≡ set (streams_of c.self.inside.joiner) p.from
@@ -115,7 +107,7 @@ streams_after c =
     let old = c.self.inside.joiner in
     let room = c.reserve-2.ensures.same in
     let step = ok_gives c.add.result c.unwrap.result c.unwrap.ensures c.add.ensures.step in
-    stream_stepped old c.add.new.self p.from (λ s. after s p.what p.payload) (step.sizes ∙ room.sizes) (sender_of c)
+    stream_stepped old c.add.new.self p.from (λ s. after s p.what p.payload) (step.sizes ∙ room.sizes) (may_of c).sender
     (step.changed ∙ ap (λ (s : Stream). after s p.what p.payload)
     (room_same old c.reserve-2.new.self p.from room p.from))
     (λ other differ. ap (λ (r : Received). r.stream) (step.others other differ)
@@ -140,14 +132,15 @@ arrival_of c =
     (sym c.self.view_is)
 
 view_is : (c : goal.After-give) → let v : ReceivingView = seen c.self.inside in let p : Packet = c.args.p.now in
-    head_view v c.self.invariant p c.args.tag c.args.ctx c.args.len c.requires.head (sender_of c) (goes_of c)
+    head_view v c.self.invariant p c.args.tag c.args.ctx c.args.len c.requires.head (may_of c).sender
+    (may_of c).continued
     (right_of c) (taker_post c) ≡ after_view c
 view_is c =
     let v : ReceivingView = seen c.self.inside in
     let p : Packet = c.args.p.now in
     let arrival = c.next_arrival-arrival.result in
     let step = ok_gives c.add.result c.unwrap.result c.unwrap.ensures c.add.ensures.step in
-    head_is v c.self.invariant p c.args.tag c.args.ctx c.args.len c.requires.head (sender_of c) (goes_of c)
+    head_is v c.self.invariant p c.args.tag c.args.ctx c.args.len c.requires.head (may_of c).sender (may_of c).continued
     (right_of c) (taker_post c)
     arrival c.in_ok-taker.taker (c.args.len == length c.as_slice.result.now) c.add.new.self.sizes c.arrive.new.self
     (streams_of c.add.new.self)
@@ -170,36 +163,24 @@ pub invariant_of-self-2 : goal.invariant_of-self-2
 invariant_of-self-2 c =
     subst (λ (w : ReceivingView). ReceivingInvariant w) (view_is c)
     (kept-head (seen c.self.inside) c.self.invariant c.args.p.now c.args.tag c.args.ctx c.args.len c.requires.head
-    (sender_of c) (goes_of c) (right_of c)
+    (may_of c).sender (may_of c).continued (right_of c)
     (taker_post c) refl)
 
-pub returns-clause-kept : goal.returns-clause-kept
-returns-clause-kept c =
-    subst (λ (u : ReceivingView). TakesPacket u (after_view c) c.args.p.now) c.self.view_is
-    (subst (λ (w : ReceivingView). TakesPacket (seen c.self.inside) w c.args.p.now) (view_is c)
-    (takes-head (seen c.self.inside) c.self.invariant c.args.p.now c.args.tag c.args.ctx c.args.len c.requires.head
-    (sender_of c) (goes_of c) (right_of c)
-    (taker_post c) refl))
-
-pub returns-clause-streams : goal.returns-clause-streams
-returns-clause-streams c =
-    let p : Packet = c.args.p.now in
-    streams_after c ∙ ap (λ (w : ReceivingView). set w.streams p.from (after (stream_of w p.from) p.what p.payload))
-    c.self.view_is
-
-pub returns-clause-ended : goal.returns-clause-ended
-returns-clause-ended c =
-    ap (λ (rs : List Receive). map (λ r. r.ended) rs) c.give.ensures
-    ∙ taken_ended c.self.inside.receives.items c.in_ok-taker.taker c.next_arrival-arrival.result
-    ∙ ap (λ (w : ReceivingView). map (λ r. r.ended) w.receives) c.self.view_is
-
-pub returns-clause-bytes : goal.returns-clause-bytes
-returns-clause-bytes c =
+pub returns-clause-took : goal.returns-clause-took
+returns-clause-took c =
     let v : ReceivingView = seen c.self.inside in
     let p : Packet = c.args.p.now in
-    subst (λ (u : ReceivingView). (known : Known) → known.count ≡ (stream_of u p.from).count
-    → AddsBytes (of_eager p.from (λ n. bytes_in n known p.what p.payload)) u (after_view c)) c.self.view_is
-    (packet-came v (after_view c) c.self.invariant p (sender_of c)
-    (streams_after c)
-    (λ _ _. refl)
-    (λ _. right_of c) (goes_of c))
+    let step = ok_gives c.add.result c.unwrap.result c.unwrap.ensures c.add.ensures.step in
+    subst (λ (u : ReceivingView). TakesMessagePacket p u (after_view c)) c.self.view_is
+    (record {
+      kept = subst (λ (w : ReceivingView). TakesPacket v w p) (view_is c)
+          (takes-head v c.self.invariant p c.args.tag c.args.ctx c.args.len c.requires.head (may_of c).sender
+          (may_of c).continued (right_of c) (taker_post c) refl);
+      streams = streams_after c;
+      bytes = packet-came v (after_view c) c.self.invariant p (may_of c).sender (streams_after c) (λ _ _. refl)
+          (λ _. right_of c) (may_of c).continued;
+      sizes = step.sizes ∙ c.reserve-2.ensures.same.sizes;
+      drawn = refl;
+      ended = ap (λ (rs : List Receive). map (λ r. r.ended) rs) c.give.ensures
+          ∙ taken_ended c.self.inside.receives.items c.in_ok-taker.taker c.next_arrival-arrival.result;
+    })

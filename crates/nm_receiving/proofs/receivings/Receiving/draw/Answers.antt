@@ -2,12 +2,16 @@ use Rattle.std.proofs.Common.{◌≡◌, ◌+◌, ◌<◌, ℕ, true, false, Opt
 use Rattle.std.proofs.Common.{ap, subst, add-zero, arith}
 use Rattle.std.specs.Option.{option_map_or, option_to_list}
 use Rattle.std.proofs.Math.ListN.{set}
+use Rattle.std.proofs.lemmas.Bool.{true≢false}
 use Rattle.std.proofs.lemmas.List.{get_or_read, set-get_or}
 use Rattle.nm_types.specs.declared.messages.Arrival.{Arrival}
 use Rattle.nm_types.specs.declared.packets.Piece.{Piece}
+use Rattle.nm_history.specs.declared.events.Event.{Event}
 use Rattle.nm_history.specs.Bytes.{pulled_bytes}
 use Rattle.nm_history.specs.Pieces.{Due, due_pieces, is_due, piece_makes}
 use Rattle.std.specs.List.{slice_get}
+use Rattle.nm_receiving.specs.declared.receivings.Drawn.{Drawn}
+use Rattle.nm_receiving.specs.Calls.{DrawsPiece}
 use Rattle.nm_receiving.specs.Kept.{ReceivingInvariant}
 use Rattle.nm_receiving.specs.Receipts.{AddsBytes, ReceivingView, drawn_from, of_asked}
 use Rattle.nm_receiving.specs.Received.{AreReceived, Preserves}
@@ -17,34 +21,6 @@ use Rattle.nm_receiving.proofs.Drawing.{bytes-draw, continued_at, drawn_is, draw
 use Rattle.nm_receiving.proofs.Drawing.{keeps-draw, keeps-stray, kept-draw, piece_came}
 use Rattle.nm_receiving.proofs.Drawing.{stray_makes}
 use Rattle.nm_receiving.proofs.receivings.Receiving.draw.Goals as goal
-
-pub returns-then-not-fits-clause-continued : goal.returns-then-not-fits-clause-continued
-returns-then-not-fits-clause-continued c = λ h received.
-    let here = subst (λ (v : ReceivingView). AreReceived v h) (sym c.self.view_is) received in
-    let p : Piece = c.args.p.now in
-    sym c.if-not-fits.true ∙ continued_at (seen c.self.inside) c.self.inside.grants p c.fits.result refl
-    c.fits.ensures h here
-    ∙ ap (λ (v : ReceivingView). option_map_or (is_due p) (slice_get (due_pieces h p.from) (drawn_from v p.from))
-    false) c.self.view_is
-
-pub returns-then-not-fits-clause-event : goal.returns-then-not-fits-clause-event
-returns-then-not-fits-clause-event c = λ h received.
-    let here = subst (λ (v : ReceivingView). AreReceived v h) (sym c.self.view_is) received in
-    let p : Piece = c.args.p.now in
-    stray_makes p.from (slice_get (due_pieces h p.from) (drawn_from c.args.self.now p.from)) p
-    (sym c.if-not-fits.true ∙ continued_at (seen c.self.inside) c.self.inside.grants p c.fits.result refl
-    c.fits.ensures h here
-    ∙ ap (λ (v : ReceivingView). option_map_or (is_due p) (slice_get (due_pieces h p.from) (drawn_from v p.from))
-    false) c.self.view_is)
-
-pub returns-then-not-fits-clause-kept : goal.returns-then-not-fits-clause-kept
-returns-then-not-fits-clause-kept c = keeps-stray c.args.self.now
-
-pub returns-then-not-fits-clause-counted : goal.returns-then-not-fits-clause-counted
-returns-then-not-fits-clause-counted c =
-    let from = c.args.p.now.from in
-    let v : ReceivingView = c.args.self.now in
-    sym (ap (λ (k : ℕ). set v.drawn from k) (add-zero (get_or v.drawn from 0)) ∙ set-get_or v.drawn from 0)
 
 pub make_whole_if-requires : goal.make_whole_if-requires
 make_whole_if-requires c =
@@ -101,45 +77,54 @@ invariant_of-self-2 c =
     c.in_ok-joined.joined c.event-event.result c.in_ok-joined.ensures.joined
     (c.event-event.ensures c.self.inside.grants (c.fits.ensures.0 c.if-not-fits.false) c.in_ok-joined.ensures.joined))
 
-pub returns-clause-continued : goal.returns-clause-continued
-returns-clause-continued c = λ h received.
-    let here = subst (λ (v : ReceivingView). AreReceived v h) (sym c.self.view_is) received in
+pub returns-then-not-fits-clause-drew : goal.returns-then-not-fits-clause-drew
+returns-then-not-fits-clause-drew c =
     let p : Piece = c.args.p.now in
-    sym c.if-not-fits.false ∙ continued_at (seen c.self.inside) c.self.inside.grants p c.fits.result refl
-    c.fits.ensures h here
-    ∙ ap (λ (v : ReceivingView). option_map_or (is_due p) (slice_get (due_pieces h p.from) (drawn_from v p.from))
-    false) c.self.view_is
+    let v : ReceivingView = c.args.self.now in
+    let stray : (h : List Event) → AreReceived v h → false
+    ≡ option_map_or (is_due p) (slice_get (due_pieces h p.from) (drawn_from v p.from)) false =
+    λ h received.
+    sym c.if-not-fits.true ∙ continued_at (seen c.self.inside) c.self.inside.grants p c.fits.result refl
+    c.fits.ensures h (subst (λ (w : ReceivingView). AreReceived w h) (sym c.self.view_is) received)
+    ∙ ap (λ (w : ReceivingView). option_map_or (is_due p) (slice_get (due_pieces h p.from) (drawn_from w p.from))
+    false) c.self.view_is in
+    record {
+      continued = stray;
+      event = λ h received. stray_makes p.from (slice_get (due_pieces h p.from) (drawn_from v p.from)) p
+          (stray h received);
+      kept = keeps-stray v;
+      stray = λ _. refl;
+      counted = sym (ap (λ (k : ℕ). set v.drawn p.from k) (add-zero (get_or v.drawn p.from 0))
+          ∙ set-get_or v.drawn p.from 0);
+      same = refl;
+      bytes = stray-came v p;
+    }
 
-pub returns-clause-event : goal.returns-clause-event
-returns-clause-event c = λ h received.
-    let here = subst (λ (v : ReceivingView). AreReceived v h) (sym c.self.view_is) received in
-    let p : Piece = c.args.p.now in
-    c.event-event.ensures c.self.inside.grants (c.fits.ensures.0 c.if-not-fits.false) c.in_ok-joined.ensures.joined
-    ∙ ap (λ (o : Option Due). piece_makes p.from o p) (due_at (seen c.self.inside) h here p.from)
-    ∙ ap (λ (v : ReceivingView). piece_makes p.from (slice_get (due_pieces h p.from) (drawn_from v p.from)) p)
-    c.self.view_is
-
-pub returns-clause-kept : goal.returns-clause-kept
-returns-clause-kept c =
-    subst (λ (u : ReceivingView). Preserves u (after_view c) (option_to_list c.event-event.result)) c.self.view_is
-    (subst (λ (w : ReceivingView). Preserves (seen c.self.inside) w (option_to_list c.event-event.result)) (view_is c)
-    (keeps-draw (seen c.self.inside) c.self.invariant c.self.inside.grants c.args.p.now refl
-    (c.fits.ensures.0 c.if-not-fits.false) (sender_of c)
-    c.in_ok-joined.joined c.event-event.result c.in_ok-joined.ensures.joined
-    (c.event-event.ensures c.self.inside.grants (c.fits.ensures.0 c.if-not-fits.false) c.in_ok-joined.ensures.joined)))
-
-pub returns-then-not-fits-clause-bytes : goal.returns-then-not-fits-clause-bytes
-returns-then-not-fits-clause-bytes c = stray-came c.args.self.now c.args.p.now
-
-pub returns-clause-bytes : goal.returns-clause-bytes
-returns-clause-bytes c =
+pub returns-clause-drew : goal.returns-clause-drew
+returns-clause-drew c =
+    let v : ReceivingView = seen c.self.inside in
     let p : Piece = c.args.p.now in
     let gs = c.self.inside.grants in
     let fits = c.fits.ensures.0 c.if-not-fits.false in
+    let sender = sender_of c in
+    let rows = c.self.invariant.tables.drawn in
+    let inside : p.from < length c.self.inside.drawn.items = omega (arith, sender, rows) in
+    let made = c.event-event.ensures gs fits c.in_ok-joined.ensures.joined in
+    let d : Drawn = record { continued = true; event = c.event-event.result } in
     let more : Arrival → List ℕ =
     of_asked p.from (λ n. pulled_bytes n (record { piece = p; continued = true })) in
-    subst (λ (u : ReceivingView). AddsBytes more u (after_view c)) c.self.view_is
-    (subst (λ (w : ReceivingView). AddsBytes more (seen c.self.inside) w) (view_is c)
-    (bytes-draw (seen c.self.inside) c.self.invariant gs p refl fits (sender_of c)
-    c.in_ok-joined.joined c.event-event.result c.in_ok-joined.ensures.joined
-    (c.event-event.ensures gs fits c.in_ok-joined.ensures.joined)))
+    subst (λ (u : ReceivingView). DrawsPiece p d u (after_view c)) c.self.view_is
+    (record {
+      continued = λ h here. sym c.if-not-fits.false ∙ continued_at v gs p c.fits.result refl c.fits.ensures h here;
+      event = λ h here. made ∙ ap (λ (o : Option Due). piece_makes p.from o p) (due_at v h here p.from);
+      kept = subst (λ (w : ReceivingView). Preserves v w (option_to_list d.event)) (view_is c)
+          (keeps-draw v c.self.invariant gs p refl fits sender c.in_ok-joined.joined c.event-event.result
+          c.in_ok-joined.ensures.joined made);
+      stray = λ lie. absurd (true≢false lie);
+      counted = ap (λ (k : ℕ). set c.self.inside.drawn.items p.from (k + 1))
+          (get_or_read c.self.inside.drawn.items p.from c.index_mut.result.now inside c.index_mut.ensures.value 0);
+      same = refl;
+      bytes = subst (λ (w : ReceivingView). AddsBytes more v w) (view_is c)
+          (bytes-draw v c.self.invariant gs p refl fits sender c.in_ok-joined.joined c.event-event.result
+          c.in_ok-joined.ensures.joined made);
+    })

@@ -2,11 +2,13 @@ use Rattle.std.specs.Prelude.{is_some}
 use Rattle.std.proofs.Common.{◌≡◌, ◌<◌, ℕ, Bool, true, false, if◌then◌else◌, Option, Some, None, List, length, cond}
 use Rattle.std.proofs.Common.{get_or, refl, sym, ◌∙◌, ap, subst}
 use Rattle.std.specs.List.{slice_get}
-use Rattle.std.specs.Option.{option_map, option_map_or}
+use Rattle.std.specs.Option.{option_map_or}
 use Rattle.std.proofs.Math.ListN.{set}
-use Rattle.std.proofs.lemmas.Bool.{not-false, not-true}
+use Rattle.std.proofs.lemmas.Bool.{not-false, not-true, true≢false}
 use Rattle.std.proofs.lemmas.Option.{same_Some, slice_get_read}
+use Rattle.nm_types.specs.Sizes.{Sizes}
 use Rattle.nm_types.specs.declared.answers.Answer.{Answer}
+use Rattle.nm_types.specs.declared.answers.Answer.TheVariants.{Cancelled}
 use Rattle.nm_types.specs.declared.messages.Arrival.{Arrival}
 use Rattle.nm_history.specs.declared.events.Event.{Event}
 use Rattle.nm_history.specs.Answers.{without_bytes as answer_without_bytes}
@@ -18,6 +20,7 @@ use Rattle.nm_eager.specs.Senders.{Received}
 use Rattle.nm_eager.specs.Streams.{Stream, missing, without}
 use Rattle.nm_receiving.specs.declared.receipts.Receipt.{Receipt}
 use Rattle.nm_receiving.specs.declared.receipts.Receive.{Receive}
+use Rattle.nm_receiving.specs.Calls.{FinishesReceive}
 use Rattle.nm_receiving.specs.Kept.{ReceivingInvariant}
 use Rattle.nm_receiving.specs.Receipts.{ReceivingView, SameOtherBytes, ShowsBytes, granted_to, pair_at}
 use Rattle.nm_receiving.specs.Receipts.{stream_of}
@@ -45,41 +48,6 @@ invariant_of-self c =
     kept-ended (seen c.self.inside) c.self.invariant c.args.number c.index_mut.result.now
     (read_at c.self.inside.receives.items c.args.number c.index_mut.result.now below c.index_mut.ensures.value)
 
-pub returns-then-receive-clause-value : goal.returns-then-receive-clause-value
-returns-then-receive-clause-value c = λ h received.
-    let here = subst (λ (v : ReceivingView). AreReceived v h) (sym c.self.view_is) received in
-    let below = subst (λ (v : ReceivingView). c.args.number < length v.receives) (sym c.self.view_is) c.requires.known
-    in
-    sym (result_cancelled (seen c.self.inside) h here c.args.number c.index-receive.result.now
-    (read_at c.self.inside.receives.items c.args.number c.index-receive.result.now below c.index-receive.ensures)
-    c.if-receive.true)
-
-pub returns-then-receive-clause-kept : goal.returns-then-receive-clause-kept
-returns-then-receive-clause-kept c = λ h received.
-    let here = subst (λ (v : ReceivingView). AreReceived v h) (sym c.self.view_is) received in
-    let below = subst (λ (v : ReceivingView). c.args.number < length v.receives) (sym c.self.view_is) c.requires.known
-    in
-    keeps-ended (seen c.self.inside) c.args.number c.index_mut.result.now
-    (read_at c.self.inside.receives.items c.args.number c.index_mut.result.now below c.index_mut.ensures.value) h here
-
-pub returns-then-receive-clause-ended : goal.returns-then-receive-clause-ended
-returns-then-receive-clause-ended c = λ _.
-    let below = subst (λ (v : ReceivingView). c.args.number < length v.receives) (sym c.self.view_is) c.requires.known
-    in
-    ended_is c.self.inside.receives.items c.args.number c.index_mut.result.now
-    (read_at c.self.inside.receives.items c.args.number c.index_mut.result.now below c.index_mut.ensures.value)
-    ∙ ap (λ (v : ReceivingView). with_ended v.receives c.args.number) c.self.view_is
-
-pub returns-in_err-a-clause-value : goal.returns-in_err-a-clause-value
-returns-in_err-a-clause-value c = λ h received.
-    let here = subst (λ (v : ReceivingView). AreReceived v h) (sym c.self.view_is) received in
-    let below = subst (λ (v : ReceivingView). c.args.number < length v.receives) (sym c.self.view_is) c.requires.known
-    in
-    ap (λ (o : Option Answer). option_map answer_without_bytes o) c.from_residual.ensures
-    ∙ sym (result_untaken (seen c.self.inside) h here c.args.number c.index-receive.result.now
-    (read_at c.self.inside.receives.items c.args.number c.index-receive.result.now below c.index-receive.ensures)
-    c.if-receive.false c.in_err-a.was)
-
 pub get-requires : goal.get-requires
 get-requires c =
     let below = subst (λ (v : ReceivingView). c.args.number < length v.receives) (sym c.self.view_is) c.requires.known
@@ -88,19 +56,6 @@ get-requires c =
     (read_at c.self.inside.receives.items c.args.number c.index-receive.result.now below c.index-receive.ensures)
     c.in_ok-a.was in
     ap (λ (o : Option Receipt). is_some o) had.1.0
-
-pub returns-then-not-get-clause-value : goal.returns-then-not-get-clause-value
-returns-then-not-get-clause-value c = λ h received.
-    let here = subst (λ (v : ReceivingView). AreReceived v h) (sym c.self.view_is) received in
-    let below = subst (λ (v : ReceivingView). c.args.number < length v.receives) (sym c.self.view_is) c.requires.known
-    in
-    let r = c.index-receive.result.now in
-    sym (result_taken (seen c.self.inside) h here c.args.number r
-    (read_at c.self.inside.receives.items c.args.number r below c.index-receive.ensures) c.if-receive.false
-    c.in_ok-a.a c.in_ok-a.was
-    c.get.result c.get.ensures
-    ∙ ap (λ (b : Bool). cond b (Some (shown (pair c.args.number r.cap c.in_ok-a.a))) None)
-    (not-true c.get.result.whole c.if-not-get.true))
 
 pub take_bytes-bytes-requires-clause-here : goal.take_bytes-bytes-requires-clause-here
 take_bytes-bytes-requires-clause-here c =
@@ -233,31 +188,77 @@ module _ (c : goal.After-shown) where
 pub invariant_of-self-2 : goal.invariant_of-self-2
 invariant_of-self-2 c = kept_after c
 
-pub returns-clause-value : goal.returns-clause-value
-returns-clause-value c = λ h received. value_after c h
-    (subst (λ (v : ReceivingView). AreReceived v h) (sym c.self.view_is) received)
+pub returns-then-receive : goal.returns-then-receive
+returns-then-receive c =
+    let v : ReceivingView = seen c.self.inside in
+    let number = c.args.number in
+    let below = subst (λ (w : ReceivingView). number < length w.receives) (sym c.self.view_is) c.requires.known in
+    let there = read_at c.self.inside.receives.items number c.index_mut.result.now below c.index_mut.ensures.value in
+    let new : ReceivingView = record v { receives = set v.receives number (has_ended c.index_mut.result.now) } in
+    subst (λ (w : ReceivingView). FinishesReceive number (Some Cancelled) w new) c.self.view_is
+    (record {
+      value = λ h here. sym (result_cancelled v h here number c.index-receive.result.now
+          (read_at c.self.inside.receives.items number c.index-receive.result.now below c.index-receive.ensures)
+          c.if-receive.true);
+      body = tt;
+      kept = keeps-ended v number c.index_mut.result.now there;
+      none = λ lie. absurd (true≢false lie);
+      ended = λ _. ended_is v.receives number c.index_mut.result.now there;
+      streams = λ _. (refl, refl);
+      bytes = λ _ _. refl;
+      same = refl;
+    })
 
-pub returns-clause-body : goal.returns-clause-body
-returns-clause-body c = subst (λ (v : ReceivingView). ShowsBytes v c.args.number c.shown.result) c.self.view_is
-    (body_after c)
+-- nothing is given while it is not complete
+gives_none : (v : ReceivingView) (number : ℕ)
+    → ((h : List Event) → AreReceived v h → None ≡ result_of h (Receiving number))
+    → FinishesReceive number None v v
+gives_none v number none = record {
+  value = none;
+  body = tt;
+  kept = λ _ received. received;
+  none = λ _. refl;
+  ended = λ lie. absurd (true≢false (sym lie));
+  streams = λ _. (refl, refl);
+  bytes = λ _ _. refl;
+  same = refl;
+}
 
-pub returns-clause-kept : goal.returns-clause-kept
-returns-clause-kept c = λ h received. received_after c h
-    (subst (λ (v : ReceivingView). AreReceived v h) (sym c.self.view_is) received)
+pub returns-in_err-a : goal.returns-in_err-a
+returns-in_err-a c =
+    let v : ReceivingView = seen c.self.inside in
+    let number = c.args.number in
+    let below = subst (λ (w : ReceivingView). number < length w.receives) (sym c.self.view_is) c.requires.known in
+    rw c.from_residual.ensures
+    (subst (λ (w : ReceivingView). FinishesReceive number None w w) c.self.view_is
+    (gives_none v number (λ h here. sym (result_untaken v h here number c.index-receive.result.now
+    (read_at c.self.inside.receives.items number c.index-receive.result.now below c.index-receive.ensures)
+    c.if-receive.false c.in_err-a.was))))
 
-pub returns-clause-ended : goal.returns-clause-ended
-returns-clause-ended c = λ _. ended_after c ∙ ap (λ (v : ReceivingView). with_ended v.receives c.args.number)
-    c.self.view_is
+pub returns-then-not-get : goal.returns-then-not-get
+returns-then-not-get c =
+    let v : ReceivingView = seen c.self.inside in
+    let number = c.args.number in
+    let below = subst (λ (w : ReceivingView). number < length w.receives) (sym c.self.view_is) c.requires.known in
+    let r = c.index-receive.result.now in
+    subst (λ (w : ReceivingView). FinishesReceive number None w w) c.self.view_is
+    (gives_none v number (λ h here. sym (result_taken v h here number r
+    (read_at c.self.inside.receives.items number r below c.index-receive.ensures) c.if-receive.false
+    c.in_ok-a.a c.in_ok-a.was c.get.result c.get.ensures
+    ∙ ap (λ (b : Bool). cond b (Some (shown (pair number r.cap c.in_ok-a.a))) None)
+    (not-true c.get.result.whole c.if-not-get.true))))
 
-pub returns-clause-streams : goal.returns-clause-streams
-returns-clause-streams c = λ i.
+pub returns : goal.returns
+returns c =
     let now : ReceivingView = done c c.index_mut-2.result.now in
-    subst (λ (v : ReceivingView). ((stream_of now i).count ≡ (stream_of v i).count)
-    × (missing (stream_of now i) ≡ missing (stream_of v i)))
-    c.self.view_is (streams_after c i)
-
-pub returns-clause-bytes : goal.returns-clause-bytes
-returns-clause-bytes c =
-    let now : ReceivingView = done c c.index_mut-2.result.now in
-    subst (λ (v : ReceivingView). SameOtherBytes (pair_at v c.args.number) v now) c.self.view_is
-    (bytes_after c)
+    subst (λ (v : ReceivingView). FinishesReceive c.args.number (Some c.shown.result) v now) c.self.view_is
+    (record {
+      value = value_after c;
+      body = body_after c;
+      kept = received_after c;
+      none = λ lie. absurd (true≢false lie);
+      ended = λ _. ended_after c;
+      streams = streams_after c;
+      bytes = bytes_after c;
+      same = ap (λ (sizes : Sizes). record now { sizes = sizes }) c.take_bytes-bytes.ensures.joined.sizes;
+    })

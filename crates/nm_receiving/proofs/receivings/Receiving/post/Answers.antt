@@ -1,12 +1,13 @@
-use Rattle.std.specs.Prelude.{IfSome}
-use Rattle.std.proofs.Common.{◌≡◌, ◌<◌, List, [], ◌∷◌, ◌++◌, length, refl, sym, ◌∙◌, ap, subst, arith}
+use Rattle.std.proofs.Common.{◌≡◌, List, [], ◌∷◌, ◌++◌, length, refl, sym, ◌∙◌, ap, subst, arith}
 use Rattle.nm_types.specs.declared.messages.Post as post
 use Rattle.nm_history.specs.declared.events.Happened.TheVariants as event
 use Rattle.nm_match.specs.declared.deeds.Deed.TheVariants as deed
 use Rattle.nm_match.proofs.StandsLemmas.{first_message-stands}
 use Rattle.nm_receiving.specs.declared.receipts.Receive.{Receive}
+use Rattle.nm_receiving.specs.declared.receivings.Started.{Started}
+use Rattle.nm_receiving.specs.Calls.{StartsOne}
 use Rattle.nm_receiving.specs.Kept.{ReceivingInvariant}
-use Rattle.nm_receiving.specs.Receipts.{ReceivingView, SameBytes, taken_events}
+use Rattle.nm_receiving.specs.Receipts.{ReceivingView, taken_events}
 use Rattle.nm_receiving.specs.Received.{AreReceived, Preserves}
 use Rattle.nm_receiving.specs.Seen.{seen}
 use Rattle.nm_receiving.specs.Steps.{grants_with}
@@ -107,66 +108,46 @@ returns-clause-taken c = λ h received.
     c.in_ok-taken.ensures.oldest
     ∙ sym (first_message-stands c.self.inside.matcher h here.stands c.args.from c.args.tag c.args.ctx)
 
-pub returns-clause-sender : goal.returns-clause-sender
-returns-clause-sender c =
-    let v = seen c.self.inside in
-    let p : post.Post = record {
-      number = c.len-number.result;
-      from = c.args.from;
-      tag = c.args.tag;
-      ctx =
-          c.args.ctx;
-      cap = c.args.cap;
-    } in
-    let taken = c.in_ok-taken.taken in
-    subst (λ (w : ReceivingView). IfSome taken (λ a. a.env.from < w.sizes.ranks)) c.self.view_is
-    (taken_sender v c.self.invariant taken (post_takeable v c.self.invariant p taken c.in_ok-taken.ensures.oldest))
-
-pub returns-clause-kept : goal.returns-clause-kept
-returns-clause-kept c = λ line.
+pub returns-clause-started : goal.returns-clause-started
+returns-clause-started c =
     let v = seen c.self.inside in
     let a = c.self.inside in
     let p : post.Post = record {
       number = c.len-number.result;
       from = c.args.from;
       tag = c.args.tag;
-      ctx =
-          c.args.ctx;
+      ctx = c.args.ctx;
       cap = c.args.cap;
     } in
     let taken = c.in_ok-taken.taken in
+    let s : Started = record { number = c.len-number.result; taken = taken } in
     let next : c.len-number.result ≡ length a.receives.items =
     omega (arith, c.len-number.ensures, c.reserve.ensures.len, a.receives.ok.0) in
+    let grants = c.grant_taken.ensures.grants ∙ ap (λ gs. grants_with gs taken) c.reserve-2.ensures.same in
+    let receives = c.push_reserved.ensures.items
+    ∙ ap (λ (rs : List Receive). rs ++ c.new.result ∷ []) c.reserve.ensures.items
+    ∙ ap (λ (r : Receive). a.receives.items ++ r ∷ []) c.new.ensures in
     let same = begun_same v (deed.Post p) c.args.cap taken c.post.new.self c.grant_taken.new.grants.grants
     c.grant_taken.new.receipts.rows
-    c.push_reserved.new.self.items c.in_ok-taken.ensures.ok
-    (c.grant_taken.ensures.grants ∙ ap (λ gs. grants_with gs taken) c.reserve-2.ensures.same)
-    c.grant_taken.ensures.receipts
-    (c.push_reserved.ensures.items ∙ ap (λ (rs : List Receive). rs ++ c.new.result ∷ []) c.reserve.ensures.items
-    ∙ ap (λ (r : Receive). a.receives.items ++ r ∷ []) c.new.ensures) in
-    let kept = c.self.invariant in
-    let takeable = post_takeable v kept p taken c.in_ok-taken.ensures.oldest in
-    let keeps = keeps-begun v (event.Post p line) (deed.Post p) c.len-number.result c.args.cap taken
-    (is_begin_post v p line taken next c.in_ok-taken.ensures.oldest) (may_begin_with v kept taken takeable) in
+    c.push_reserved.new.self.items c.in_ok-taken.ensures.ok grants c.grant_taken.ensures.receipts receives in
+    let takeable = post_takeable v c.self.invariant p taken c.in_ok-taken.ensures.oldest in
     let v' : ReceivingView = record v {
       deeds = c.post.new.self;
       grants = c.grant_taken.new.grants.grants;
       receipts = c.grant_taken.new.receipts.rows;
       receives = c.push_reserved.new.self.items;
     } in
-    subst (λ (w : ReceivingView). Preserves w v' (event.Post p line ∷ taken_events taken)) c.self.view_is
-    (subst (λ (w : ReceivingView). Preserves v w (event.Post p line ∷ taken_events taken)) same keeps)
-
-pub returns-clause-bytes : goal.returns-clause-bytes
-returns-clause-bytes c =
-    let v = seen c.self.inside in
-    let taken = c.in_ok-taken.taken in
-    let v' : ReceivingView = record v {
-      deeds = c.post.new.self;
-      grants = c.grant_taken.new.grants.grants;
-      receipts = c.grant_taken.new.receipts.rows;
-      receives = c.push_reserved.new.self.items;
-    } in
-    subst (λ (w : ReceivingView). SameBytes w v') c.self.view_is
-    (same-granted v v' taken refl
-    (c.grant_taken.ensures.grants ∙ ap (λ gs. grants_with gs taken) c.reserve-2.ensures.same))
+    subst (λ (w : ReceivingView). StartsOne c.args.cap (event.Post p) s w v') c.self.view_is
+    (record {
+      number = next;
+      sender = taken_sender v c.self.invariant taken takeable;
+      kept = λ line. subst (λ (w : ReceivingView). Preserves v w (event.Post p line ∷ taken_events taken)) same
+          (keeps-begun v (event.Post p line) (deed.Post p) c.len-number.result c.args.cap taken
+          (is_begin_post v p line taken next c.in_ok-taken.ensures.oldest)
+          (may_begin_with v c.self.invariant taken takeable));
+      sizes = refl;
+      streams = refl;
+      bytes = same-granted v v' taken refl grants;
+      drawn = refl;
+      receives = receives;
+    })

@@ -11,7 +11,7 @@ returns-in_ok-go_on-in-More-clause-known c = λ known count lacks.
     let p : Packet = c.args.p.now in
     let v : ReceivingView = c.args.self.now in
     let sender : p.from < c.self.inside.joiner.sizes.ranks =
-    subst (λ (w : ReceivingView). p.from < w.sizes.ranks) (sym c.self.view_is) c.requires.sender in
+    subst (λ (w : ReceivingView). p.from < w.sizes.ranks) (sym c.self.view_is) c.requires.continues.sender in
     let low : p.from < length v.streams =
     subst (λ (w : ReceivingView). p.from < length w.streams) c.self.view_is
     (rw (streams_length c.self.inside.joiner) sender) in
@@ -19,5 +19,5 @@ returns-in_ok-go_on-in-More-clause-known c = λ known count lacks.
     (stream_from c.self.inside.joiner p.from) low
     (ap (λ (w : ReceivingView). stream_of w p.from) (sym c.self.view_is)
     ∙ stream_at c.self.inside.joiner p.from sender)
-    c.in_ok-go_on-in-More.ensures.streams c.requires.continues
-    (λ eager known goes told. c.packets_tell.ensures eager known c.requires.kind goes told) count lacks
+    c.in_ok-go_on-in-More.ensures.took.streams c.requires.continues.continued
+    (λ eager known goes told. c.packets_tell.ensures eager known c.requires.continues.kind goes told) count lacks

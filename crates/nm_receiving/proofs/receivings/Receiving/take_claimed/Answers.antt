@@ -1,13 +1,15 @@
-use Rattle.std.specs.Prelude.{IfSome}
-use Rattle.std.proofs.Common.{◌≡◌, ◌<◌, Option, Some, List, [], ◌∷◌, ◌++◌, length, refl, sym, ◌∙◌, ap, subst, arith}
+use Rattle.std.proofs.Common.{◌≡◌, ℕ, Option, Some, List, [], ◌∷◌, ◌++◌, length, refl, sym, ◌∙◌, ap, subst, arith}
 use Rattle.std.proofs.lemmas.Bool.{true≢false}
 use Rattle.nm_types.specs.declared.messages.Arrival.{Arrival}
+use Rattle.nm_history.specs.declared.events.Happened.{Happened}
 use Rattle.nm_history.specs.declared.events.Happened.TheVariants as event
 use Rattle.nm_match.specs.declared.deeds.Deed.TheVariants as deed
 use Rattle.nm_match.proofs.StandsLemmas.{is_claimed-stands}
 use Rattle.nm_receiving.specs.declared.receipts.Receive.{Receive}
+use Rattle.nm_receiving.specs.declared.receivings.Started.{Started}
+use Rattle.nm_receiving.specs.Calls.{StartsOne}
 use Rattle.nm_receiving.specs.Kept.{ReceivingInvariant}
-use Rattle.nm_receiving.specs.Receipts.{ReceivingView, SameBytes, taken_events}
+use Rattle.nm_receiving.specs.Receipts.{ReceivingView, taken_events}
 use Rattle.nm_receiving.specs.Received.{AreReceived, Preserves}
 use Rattle.nm_receiving.specs.Seen.{seen}
 use Rattle.nm_receiving.specs.Steps.{grants_with}
@@ -91,57 +93,43 @@ invariant_of-self-2 c =
     taken (is_begin_match v number c.args.from c.args.n c.args.cap 0 taken next claimed there)
     (match_takeable v c.self.invariant c.args.from c.args.n taken claimed there))
 
-pub returns-clause-sender : goal.returns-clause-sender
-returns-clause-sender c =
-    let v = seen c.self.inside in
-    let taken : Option Arrival = Some c.get.result.arrival in
-    let there = claimed_message v c.self.invariant c.args.from c.args.n c.get.result c.get.ensures in
-    subst (λ (w : ReceivingView). IfSome taken (λ a. a.env.from < w.sizes.ranks)) c.self.view_is
-    (taken_sender v c.self.invariant taken
-    (match_takeable v c.self.invariant c.args.from c.args.n taken (sym c.is_claimed.ensures.value ∙ c.if-prove.false)
-    there))
-
-pub returns-clause-kept : goal.returns-clause-kept
-returns-clause-kept c = λ line.
+pub returns-clause-started : goal.returns-clause-started
+returns-clause-started c =
     let v = seen c.self.inside in
     let a = c.self.inside in
     let number = c.len-number.result in
-    let w = event.Match number c.args.from c.args.n c.args.cap line in
     let taken : Option Arrival = Some c.get.result.arrival in
+    let s : Started = record { number = number; taken = taken } in
+    let begins : ℕ → Happened = event.Match number c.args.from c.args.n c.args.cap in
     let next : number ≡ length a.receives.items =
     omega (arith, c.len-number.ensures, c.reserve.ensures.len, a.receives.ok.0) in
     let claimed = sym c.is_claimed.ensures.value ∙ c.if-prove.false in
     let there = claimed_message v c.self.invariant c.args.from c.args.n c.get.result c.get.ensures in
+    let grants = c.grant_taken.ensures.grants ∙ ap (λ gs. grants_with gs taken) c.reserve-2.ensures.same in
+    let receives = c.push_reserved.ensures.items
+    ∙ ap (λ (rs : List Receive). rs ++ c.new.result ∷ []) c.reserve.ensures.items
+    ∙ ap (λ (r : Receive). a.receives.items ++ r ∷ []) c.new.ensures in
     let same = begun_same v (deed.Match number c.args.from c.args.n) c.args.cap taken c.take_claimed.new.self
-    c.grant_taken.new.grants.grants
-    c.grant_taken.new.receipts.rows c.push_reserved.new.self.items c.in_ok-take_claimed.ensures.ok
-    (c.grant_taken.ensures.grants ∙ ap (λ gs. grants_with gs taken) c.reserve-2.ensures.same)
-    c.grant_taken.ensures.receipts
-    (c.push_reserved.ensures.items ∙ ap (λ (rs : List Receive). rs ++ c.new.result ∷ []) c.reserve.ensures.items
-    ∙ ap (λ (r : Receive). a.receives.items ++ r ∷ []) c.new.ensures) in
+    c.grant_taken.new.grants.grants c.grant_taken.new.receipts.rows c.push_reserved.new.self.items
+    c.in_ok-take_claimed.ensures.ok grants c.grant_taken.ensures.receipts receives in
     let takeable = match_takeable v c.self.invariant c.args.from c.args.n taken claimed there in
-    let keeps = keeps-begun v w (deed.Match number c.args.from c.args.n) number c.args.cap taken
-    (is_begin_match v number c.args.from c.args.n c.args.cap line taken next claimed there)
-    (may_begin_with v c.self.invariant taken takeable) in
     let v' : ReceivingView = record v {
       deeds = c.take_claimed.new.self;
       grants = c.grant_taken.new.grants.grants;
       receipts = c.grant_taken.new.receipts.rows;
       receives = c.push_reserved.new.self.items;
     } in
-    subst (λ (u : ReceivingView). Preserves u v' (w ∷ taken_events taken)) c.self.view_is
-    (subst (λ (u : ReceivingView). Preserves v u (w ∷ taken_events taken)) same keeps)
-
-pub returns-clause-bytes : goal.returns-clause-bytes
-returns-clause-bytes c =
-    let v = seen c.self.inside in
-    let taken : Option Arrival = Some c.get.result.arrival in
-    let v' : ReceivingView = record v {
-      deeds = c.take_claimed.new.self;
-      grants = c.grant_taken.new.grants.grants;
-      receipts = c.grant_taken.new.receipts.rows;
-      receives = c.push_reserved.new.self.items;
-    } in
-    subst (λ (w : ReceivingView). SameBytes w v') c.self.view_is
-    (same-granted v v' taken refl
-    (c.grant_taken.ensures.grants ∙ ap (λ gs. grants_with gs taken) c.reserve-2.ensures.same))
+    subst (λ (w : ReceivingView). StartsOne c.args.cap begins s w v') c.self.view_is
+    (record {
+      number = next;
+      sender = taken_sender v c.self.invariant taken takeable;
+      kept = λ line. subst (λ (u : ReceivingView). Preserves v u (begins line ∷ taken_events taken)) same
+          (keeps-begun v (begins line) (deed.Match number c.args.from c.args.n) number c.args.cap taken
+          (is_begin_match v number c.args.from c.args.n c.args.cap line taken next claimed there)
+          (may_begin_with v c.self.invariant taken takeable));
+      sizes = refl;
+      streams = refl;
+      bytes = same-granted v v' taken refl grants;
+      drawn = refl;
+      receives = receives;
+    })
