@@ -1,12 +1,11 @@
 -- The messages of one sender's packets, and which packets continue them. MPI 3.1, section 3.5
 -- (messages of one sender don't overtake).
 use Rattle.std.specs.Prelude.{◌≡◌, ℕ, ◌+◌, ◌-◌, ◌==◌, ◌<◌, ◌≤◌, Bool, true, false, not, ◌&&◌}
-use Rattle.std.specs.Prelude.{nat_lt, nat_le, min, if◌then◌else◌, IsTrue, Option, Some, None}
+use Rattle.std.specs.Prelude.{if◌then◌else◌, IsTrue, Option, Some, None}
 use Rattle.std.specs.Prelude.{IsSomeAnd, List, [], ◌∷◌, ◌++◌, length, map, filter, find, fold}
 use Rattle.std.specs.Prelude.{sum_by, take_while, ◌⊎◌}
 use Rattle.std.specs.Bool.{OnTrue}
 use Rattle.std.specs.List.{cons_option, flat_map, AllByRecursion}
-use Rattle.nm_types.specs.declared.limits.TheConstants.{MAX_PAYLOAD, MAX_BODY, MAX_TAG}
 use Rattle.nm_types.specs.declared.messages.How.TheVariants as how
 use Rattle.nm_types.specs.declared.messages.Envelope.{Envelope}
 use Rattle.nm_types.specs.declared.packets.Joined.{Joined}
@@ -14,6 +13,8 @@ use Rattle.nm_types.specs.declared.packets.Joined.TheVariants as joined
 use Rattle.nm_types.specs.declared.packets.Packet.{Packet}
 use Rattle.nm_types.specs.declared.packets.What.{What}
 use Rattle.nm_types.specs.declared.packets.What.TheVariants.{Head, More, Ask}
+use Rattle.nm_history.specs.Continues.{continues_stream}
+use Rattle.nm_history.specs.Known.{nothing_known}
 use Rattle.nm_history.specs.Sends.{is_ask}
 
 -- a message of a list of packets: its envelope, and its bytes so far
@@ -121,16 +122,12 @@ after stream _ bytes = stream
 abbrev pub after_all : Stream → List Packet → Stream
 after_all stream packets = fold (λ so_far p. after so_far p.what p.payload) stream packets
 
--- The packet continues a stream of so many messages, of which so many bytes are missing. Its
--- payload has this size.
+-- The packet continues a stream of so many messages, of which so many bytes are missing, as the
+-- protocol has it. Its payload has this size.
 abbrev pub continues : ℕ → ℕ → ℕ → What → ℕ → Bool
-continues eager count missing (Head tag ctx len) size =
-    missing == 0 && nat_le len eager && nat_le tag MAX_TAG && size == min MAX_PAYLOAD len
-continues eager count missing (More n) size =
-    nat_lt 0 missing && n + 1 == count && size == min MAX_PAYLOAD missing
-continues eager count missing (Ask tag ctx len) size =
-    missing == 0 && nat_le len MAX_BODY && nat_le tag MAX_TAG && size == 0
-continues eager count missing _ size = false
+continues eager count missing what size =
+    is_kept what
+    && continues_stream eager (record nothing_known { count = count; missing = missing }) what size
 
 -- each of these packets that begins, announces or goes on with a message continues the stream
 abbrev pub AllContinue : ℕ → Stream → List Packet → Type 0

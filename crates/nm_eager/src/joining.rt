@@ -4,12 +4,14 @@ ghost use Rattle.std.specs.Prelude.{◌≡◌, ◌≢◌, ◌<◌, ◌↔◌, �
 ghost use Rattle.std.specs.Prelude.{IsSomeAnd};
 ghost use Rattle.nm_types.specs.declared.limits.TheConstants.{MAX_PACKETS};
 ghost use Rattle.nm_eager.specs.Streams.{nothing_came, missing, skipped, after, joined_by};
+ghost use Rattle.nm_eager.specs.Streams.{continues as continues_lem};
 ghost use Rattle.nm_eager.specs.Streams.{IsStream, message_of, IsWholeIn, without};
 ghost use Rattle.nm_eager.specs.Joining.{stream_from, Fits, IsReadyFor, MakesRoom};
 ghost use Rattle.nm_eager.specs.Joining.{ChangesStream};
 
+use crate::continuing::{continues, is_eager};
 use crate::senders::Sender;
-use nm_types::{Bytes, Joined, MAX_PAYLOAD, MAX_TAG, Memory, Packet, Shape, What};
+use nm_types::{Bytes, Joined, Memory, Packet, Shape, What};
 use std::alloc::Global;
 use std::marker::Model;
 
@@ -57,33 +59,25 @@ impl Joiner {
     pub fn fits(&self, p: &Packet) -> bool
         ensures value { IsTrue result ↔ Fits self.now p.now }
     {
-        p.from < self.shape.ranks() && self.continues(p)
+        p.from < self.shape.ranks() && is_eager(p.what) && self.continues(p)
     }
 
-    /// Whether a packet of a rank of the run belongs to an eager message and continues its stream.
+    /// Whether a packet of a rank of the run is one of a message, and continues its stream.
     fn continues(&self, p: &Packet) -> bool
         requires { p.now.from < self.now.sizes.ranks }
-        ensures { IsTrue result ↔ Fits self.now p.now }
+        ensures { result ≡ continues_lem self.now.sizes.eager
+            (stream_from self.now p.now.from).count (missing (stream_from self.now p.now.from))
+            p.now.what (length p.now.payload) }
     {
         let sender = &self.senders[p.from as usize];
-        let missing = sender.missing();
         let size = p.payload.as_slice().len();
-        match p.what {
-            What::Head { tag, len, .. } => {
-                missing == 0
-                    && len <= self.shape.eager() as u32
-                    && tag <= MAX_TAG
-                    && size == len.min(MAX_PAYLOAD as u32) as usize
-            }
-            What::More { n } => {
-                let count = sender.count();
-                missing > 0
-                    && n < count
-                    && n + 1 == count
-                    && size == missing.min(MAX_PAYLOAD as u32) as usize
-            }
-            _ => false,
-        }
+        continues(
+            self.shape.eager(),
+            sender.count(),
+            sender.missing(),
+            p.what,
+            size,
+        )
     }
 
     /// How many messages of a sender were counted.

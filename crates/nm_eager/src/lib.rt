@@ -14,7 +14,8 @@
 //! # What is proved
 //! - `next` gives the packets that a send calls for, each once and in order (clauses `called` and
 //!   `none`).
-//! - `fits` is true exactly of a packet that continues its stream (clause `value`); `add` and
+//! - `continues` is the protocol's answer of a packet of a message, by two numbers, and `fits` is true
+//!   exactly of an eager one that continues its stream (clause `value`); `add` and
 //!   `skip` change a stream by one step (clause `step`), and `take` removes one message (clause
 //!   `others`).
 //! - After `reserve` the packet can be added without memory (clauses `ok` and `succeeds`), and want
@@ -24,11 +25,13 @@
 //! That `new`, `reserve` and `add` succeed with ample memory.
 #![tactic(auto)]
 
+mod continuing;
 mod cutting;
 mod joining;
 pub mod laws;
 mod messages;
 mod senders;
 
+pub use continuing::continues;
 pub use cutting::Cutter;
 pub use joining::Joiner;

@@ -12,6 +12,7 @@ use Rattle.nm_history.specs.declared.events.Event.{Event}
 use Rattle.nm_history.specs.declared.events.Happened.TheVariants as event
 use Rattle.nm_history.specs.Continues.{continues, continues_stream, has, is_of_stream, WORN_STAMP}
 use Rattle.nm_history.specs.Known.{Known}
+use Rattle.nm_eager.specs.Streams.{continues as continues_message}
 use Rattle.nm_receiving.specs.StreamViews.{IsContinued}
 
 -- a history that calls for an answer
@@ -61,3 +62,13 @@ own-of (Ask tag ctx len) a b = refl
 own-of (Withdraw n) a b = refl
 own-of (Clear n) a b = absurd (a n refl)
 own-of (Withdrawn n done) a b = absurd (b n done refl)
+
+-- a packet of a message continues by two numbers of what is known
+pub own-message : (eager : ℕ) (known : Known) (w : What) (size : ℕ) → ((n : ℕ) → w ≡ Withdraw n → ⊥)
+    → continues_message eager known.count known.missing w size ≡ continues_stream eager known w size
+own-message eager known (Head tag ctx len) size a = refl
+own-message eager known (More n) size a = refl
+own-message eager known (Ask tag ctx len) size a = refl
+own-message eager known (Withdraw n) size a = absurd (a n refl)
+own-message eager known (Clear n) size a = refl
+own-message eager known (Withdrawn n done) size a = refl

@@ -28,15 +28,13 @@ ghost use Rattle.nm_receiving.specs.Received.{AreReceived, PreservesSender, IsOw
 
 use crate::bytes::{grant_taken, shown, take_bytes};
 use crate::receipts::{Receipt, Receipts, Receive, give};
-use crate::streams::pieces;
+use crate::streams::{arrival, pieces};
 use crate::telling::packets_tell;
 use nm_eager::Joiner;
 use nm_history::Happened;
 use nm_match::Matcher;
 use nm_rndv::Grants;
-use nm_types::{
-    Answer, Arrival, Envelope, How, Memory, Packet, Peer, Piece, Post, Shape, TagPick, What,
-};
+use nm_types::{Answer, Arrival, How, Memory, Packet, Peer, Piece, Post, Shape, TagPick, What};
 use std::alloc::Global;
 use std::marker::Model;
 
@@ -260,28 +258,6 @@ impl Receiving {
         }
     }
 
-    /// The next message of a rank.
-    fn next_arrival(&self, from: u8, tag: u16, ctx: u8, len: u32, how: How) -> Arrival
-        requires { from < self.now.sizes.ranks }
-        ensures { result
-            ≡ record {
-              n = length (receipts_from self.now from);
-              env = record { from = from; tag = tag; ctx = ctx; len = len; how = how };
-            } }
-    {
-        let env = Envelope {
-            from,
-            tag,
-            ctx,
-            len,
-            how,
-        };
-        Arrival {
-            n: self.receipts.count(from),
-            env,
-        }
-    }
-
     /// An eager message begins.
     fn begin(&mut self, p: &Packet, tag: u16, ctx: u8, len: u32) -> Result<(), Memory>
         requires head { p.now.what ≡ what.Head tag ctx len }
@@ -290,7 +266,8 @@ impl Receiving {
         ensures err { OnErr result (self.new ≡ self.old) }
     {
         prove!(self.joiner.missing(p.from) == 0);
-        let arrival = self.next_arrival(p.from, tag, ctx, len, How::Eager);
+        let n = self.receipts.count(p.from);
+        let arrival = arrival(n, p.from, tag, ctx, len, How::Eager);
         self.receipts.reserve(p.from)?;
         self.joiner.reserve(p)?;
         let taker = self.matcher.arrive(arrival)?;
@@ -323,7 +300,8 @@ impl Receiving {
         ensures took { OnOk result (TakesMessagePacket p.now self.old self.new) }
         ensures err { OnErr result (self.new ≡ self.old) }
     {
-        let arrival = self.next_arrival(p.from, tag, ctx, len, How::Ask);
+        let n = self.receipts.count(p.from);
+        let arrival = arrival(n, p.from, tag, ctx, len, How::Ask);
         self.receipts.reserve(p.from)?;
         self.grants.reserve()?;
         let taker = self.matcher.arrive(arrival)?;

@@ -3,7 +3,7 @@
 //! MPI 3.1, sections 3.4 (communication modes), 3.5 (order) and 3.8.4 (cancel of a send). A rank has
 //! one `Stream` for each rank that sends to it, itself too. It tells of each packet whether it
 //! continues its stream; one that doesn't is a stray, which teaches nothing and makes nothing
-//! happen. `pieces` tells the same of each piece of a long message.
+//! happen. `pieces` tells what each piece of a long message makes happen.
 //!
 //! # What a contract sees
 //! A `Stream` is seen as what the packets told, by the words of the protocol (`nm_history::protocol`), and as
@@ -15,7 +15,7 @@
 //!   true.
 //! - `learn` is the protocol's step, and takes no memory after `reserve`.
 //! - `events` gives what the protocol says that the packet makes happen, on every such history.
-//! - A piece continues where it is the first that is due, and its event is the protocol's.
+//! - The event of a piece that continues is the protocol's.
 //! - After want of memory nothing that is known has changed.
 //! # What is only tested
 //! That calls which take memory succeed with ample memory.
@@ -26,4 +26,5 @@ pub mod pieces;
 mod streams;
 
 pub use effects::Made;
+pub(crate) use effects::arrival;
 pub use streams::Stream;

@@ -4,6 +4,7 @@ ghost use Rattle.std.specs.Prelude.{◌≡◌, option_to_list};
 ghost use Rattle.nm_history.specs.Effects.{whole_if as whole_if_lem};
 
 use nm_history::Happened;
+use nm_types::{Arrival, Envelope, How};
 
 /// What a packet made happen: nothing, one thing, or two in this order.
 #[derive(Drop)]
@@ -22,6 +23,24 @@ impl Made {
             second: None,
         }
     }
+}
+
+/// Message `n` of a rank, as its packet announces it.
+pub(crate) fn arrival(n: u64, from: u8, tag: u16, ctx: u8, len: u32, how: How) -> Arrival
+    ensures { result
+        ≡ record {
+          n = n;
+          env = record { from = from; tag = tag; ctx = ctx; len = len; how = how };
+        } }
+{
+    let env = Envelope {
+        from,
+        tag,
+        ctx,
+        len,
+        how,
+    };
+    Arrival { n, env }
 }
 
 /// Message `n` of a rank is here whole, if this is true.

@@ -1,23 +1,20 @@
 //! What a rank knows of another by its packets.
 
-ghost use Rattle.std.specs.Prelude.{◌≡◌, ◌≤◌, ◌==◌, ◌&&◌, List, length, min, not, IsTrue, OnOk};
-ghost use Rattle.nm_types.specs.declared.limits.TheConstants.{MAX_PAYLOAD};
+ghost use Rattle.std.specs.Prelude.{◌≡◌, ◌≤◌, ◌==◌, ◌&&◌, List, length, not, IsTrue, OnOk};
 ghost use Rattle.nm_history.specs.declared.events.Event.{Event};
 ghost use Rattle.nm_history.specs.Continues.{continues as continues_lem};
 ghost use Rattle.nm_history.specs.Continues.{has};
 ghost use Rattle.nm_history.specs.Continues.{continues_stream as continues_stream_lem};
-ghost use Rattle.nm_history.specs.declared.events.Happened.TheVariants as event;
-ghost use Rattle.nm_history.specs.Effects.{next_arrival, packet_events};
+ghost use Rattle.nm_history.specs.Effects.{packet_events};
 ghost use Rattle.nm_history.specs.Known.{learned, nothing_known};
 ghost use Rattle.nm_receiving.specs.Made.{all_made};
 ghost use Rattle.nm_receiving.specs.StreamViews.{HasRoom, IsContinued, is_called_for, is_done_at_once};
 
-use crate::streams::effects::{Made, whole_if};
+use crate::streams::effects::{Made, arrival, whole_if};
 use crate::streams::numbers::Numbers;
+use nm_eager::continues;
 use nm_history::Happened;
-use nm_types::{
-    Arrival, Envelope, How, MAX_BODY, MAX_PAYLOAD, MAX_STAMP, MAX_TAG, Memory, Packet, What,
-};
+use nm_types::{How, MAX_STAMP, Memory, Packet, What};
 use std::alloc::Global;
 use std::marker::Model;
 
@@ -80,13 +77,6 @@ impl Model for Stream {
         (n : ℕ) → has s.undone.numbers n ≡ true → has s.answered.numbers n ≡ true };
 }
 
-/// How many bytes the next packet carries of a message that lacks so many.
-fn part_of(missing: u32) -> usize
-    ensures { result ≡ min MAX_PAYLOAD missing }
-{
-    u32::from(MAX_PAYLOAD).min(missing) as usize
-}
-
 impl Stream {
     /// Nothing came.
     pub fn new(alloc: Global) -> Self
@@ -107,13 +97,6 @@ impl Stream {
         ensures { result ≡ self.now.known.count }
     {
         self.count
-    }
-
-    /// How many bytes the last message still lacks; 0 where none is unfinished.
-    pub fn missing(&self) -> u32
-        ensures { result ≡ self.now.known.missing }
-    {
-        self.missing
     }
 
     /// Whether a packet continues its stream, at a rank with this eager limit, in bytes.
@@ -159,25 +142,10 @@ impl Stream {
         ensures { result ≡ continues_stream_lem eager self.now.known what size }
     {
         match what {
-            What::Head { tag, len, .. } => {
-                self.missing == 0
-                    && len <= u32::from(eager)
-                    && tag <= MAX_TAG
-                    && size == part_of(len)
-            }
-            What::More { n } => {
-                0 < self.missing
-                    && n < self.count
-                    && n + 1 == self.count
-                    && size == part_of(self.missing)
-            }
-            What::Ask { tag, len, .. } => {
-                self.missing == 0 && len <= MAX_BODY && tag <= MAX_TAG && size == 0
-            }
             What::Withdraw { n } => {
                 self.missing == 0 && n < self.count && !self.withdrawn.has(n) && size == 0
             }
-            What::Clear { .. } | What::Withdrawn { .. } => false,
+            _ => continues(eager, self.count, self.missing, what, size),
         }
     }
 
@@ -226,21 +194,6 @@ impl Stream {
         }
     }
 
-    /// The next message, as its sender announces it.
-    fn arrival(&self, from: u8, tag: u16, ctx: u8, len: u32, how: How) -> Option<Happened>
-        ensures { result ≡ Some (event.Arrive (next_arrival self.now.known from tag ctx len how)) }
-    {
-        let env = Envelope {
-            from,
-            tag,
-            ctx,
-            len,
-            how,
-        };
-        let a = Arrival { n: self.count, env };
-        Some(Happened::Arrive { a })
-    }
-
     /// What a packet makes happen that continues its stream, before it is learned, at a rank where
     /// what it asks for is done at once or is not.
     pub fn events(&self, packet: &Packet, done_at_once: bool) -> Made
@@ -253,12 +206,16 @@ impl Stream {
         let size = packet.payload.as_slice().len() as u32;
         match packet.what {
             What::Head { tag, ctx, len } => Made {
-                first: self.arrival(from, tag, ctx, len, How::Eager),
+                first: Some(Happened::Arrive {
+                    a: arrival(self.count, from, tag, ctx, len, How::Eager),
+                }),
                 second: whole_if(len == size, from, self.count),
             },
             What::More { n } => Made::one(whole_if(self.missing == size, from, n)),
             What::Ask { tag, ctx, len } => Made {
-                first: self.arrival(from, tag, ctx, len, How::Ask),
+                first: Some(Happened::Arrive {
+                    a: arrival(self.count, from, tag, ctx, len, How::Ask),
+                }),
                 second: whole_if(len == 0 && done_at_once, from, self.count),
             },
             What::Clear { n } if done_at_once => Made::one(Some(Happened::Out { to: from, n })),

@@ -1,4 +1,4 @@
-use Rattle.std.proofs.Common.{◌≡◌, ◌<◌, ℕ, Bool, true, false, is_some, Option, None, List, [], ◌∷◌, ◌++◌, length, map}
+use Rattle.std.proofs.Common.{◌≡◌, ◌<◌, ℕ, Bool, false, is_some, Option, None, List, [], ◌∷◌, ◌++◌, length, map}
 use Rattle.std.proofs.Common.{refl, sym, ◌∙◌, ap, subst, arith}
 use Rattle.std.specs.Bool.{then_some}
 use Rattle.std.specs.Option.{option_map}
@@ -14,7 +14,7 @@ use Rattle.nm_match.specs.Deeds.{history_of, is_known_message}
 use Rattle.nm_match.proofs.StandsLemmas.{first_receive-stands}
 use Rattle.nm_receiving.specs.StreamViews.{is_done_at_once}
 use Rattle.nm_eager.specs.Senders.{Received}
-use Rattle.nm_eager.specs.Streams.{Stream, after, continues, missing, skipped}
+use Rattle.nm_eager.specs.Streams.{Stream, after, missing, skipped}
 use Rattle.nm_receiving.specs.declared.receipts.Receipt.{Receipt}
 use Rattle.nm_receiving.specs.declared.receipts.Receive.{Receive}
 use Rattle.nm_receiving.specs.Calls.{MayBeTakenIn, TakesMessagePacket}
@@ -40,14 +40,14 @@ pub arrive-requires : goal.arrive-requires
 arrive-requires c =
     let v = seen c.self.inside in
     let p : Packet = c.args.p.now in
-    let arr = c.next_arrival-arrival.ensures
-    ∙ ap (λ (w : ReceivingView). let a : Arrival =
+    let arr = c.arrival-arrival.ensures
+    ∙ ap (λ (n : ℕ). let a : Arrival =
     record {
-      n = length (receipts_from w p.from);
+      n = n;
       env =
           record { from = p.from; tag = c.args.tag; ctx = c.args.ctx; len = c.args.len; how = Ask };
     } in a)
-    (sym c.self.view_is) in
+    c.count-n.ensures in
     record {
       is_new = ap (λ (a : Arrival). is_known_message (history_of c.self.inside.matcher) a.env.from a.n) arr
           ∙ next_message v c.self.invariant p.from (length (receipts_from v p.from)) refl;
@@ -73,7 +73,7 @@ skip-requires-clause-limit c =
 
 pub give-requires : goal.give-requires
 give-requires c =
-    taker_inside (seen c.self.inside) c.self.invariant c.next_arrival-arrival.result c.in_ok-taker.taker
+    taker_inside (seen c.self.inside) c.self.invariant c.arrival-arrival.result c.in_ok-taker.taker
     c.in_ok-taker.ensures.oldest
 
 pub grant_taken-requires-clause-new : goal.grant_taken-requires-clause-new
@@ -82,15 +82,15 @@ grant_taken-requires-clause-new c =
     let p : Packet = c.args.p.now in
     let may = subst (λ (w : ReceivingView). MayBeTakenIn w p) (sym c.self.view_is) c.requires.continues in
     let sender = may.sender in
-    let arr = c.next_arrival-arrival.ensures
-    ∙ ap (λ (w : ReceivingView). let a : Arrival =
+    let arr = c.arrival-arrival.ensures
+    ∙ ap (λ (n : ℕ). let a : Arrival =
     record {
-      n = length (receipts_from w p.from);
+      n = n;
       env =
           record { from = p.from; tag = c.args.tag; ctx = c.args.ctx; len = c.args.len; how = Ask };
     } in a)
-    (sym c.self.view_is) in
-    ask_grant-new v c.self.invariant c.is_some.result c.next_arrival-arrival.result c.then_some-taken.result
+    c.count-n.ensures in
+    ask_grant-new v c.self.invariant c.is_some.result c.arrival-arrival.result c.then_some-taken.result
     c.then_some-taken.ensures
     (subst (λ (a : Arrival). a.env.from < length v.receipts) (sym arr) (let n = c.self.invariant.tables.receipts in
     omega (arith, sender, n)))
@@ -103,16 +103,16 @@ grant_taken-requires-clause-came c =
     let p : Packet = c.args.p.now in
     let may = subst (λ (w : ReceivingView). MayBeTakenIn w p) (sym c.self.view_is) c.requires.continues in
     let sender = may.sender in
-    let arr = c.next_arrival-arrival.ensures
-    ∙ ap (λ (w : ReceivingView). let a : Arrival =
+    let arr = c.arrival-arrival.ensures
+    ∙ ap (λ (n : ℕ). let a : Arrival =
     record {
-      n = length (receipts_from w p.from);
+      n = n;
       env =
           record { from = p.from; tag = c.args.tag; ctx = c.args.ctx; len = c.args.len; how = Ask };
     } in a)
-    (sym c.self.view_is) in
-    let r : Receipt = record { arrival = c.next_arrival-arrival.result; whole = false } in
-    ask_grant-came v c.self.invariant c.is_some.result c.next_arrival-arrival.result c.then_some-taken.result
+    c.count-n.ensures in
+    let r : Receipt = record { arrival = c.arrival-arrival.result; whole = false } in
+    ask_grant-came v c.self.invariant c.is_some.result c.arrival-arrival.result c.then_some-taken.result
     c.then_some-taken.ensures
     (subst (λ (a : Arrival). a.env.from < length v.receipts) (sym arr) (let n = c.self.invariant.tables.receipts in
     omega (arith, sender, n)))
@@ -154,7 +154,7 @@ streams_after c =
     (λ other differ. ap (λ (r : Received). r.stream) (step.others other differ))
 
 arrival_of : (c : goal.After-is_some-2) → let p : Packet = c.args.p.now in
-    ◌≡◌ {A = Arrival} c.next_arrival-arrival.result
+    ◌≡◌ {A = Arrival} c.arrival-arrival.result
     (record {
       n = length (receipts_from (seen c.self.inside) p.from);
       env =
@@ -162,14 +162,14 @@ arrival_of : (c : goal.After-is_some-2) → let p : Packet = c.args.p.now in
     })
 arrival_of c =
     let p : Packet = c.args.p.now in
-    c.next_arrival-arrival.ensures
-    ∙ ap (λ (w : ReceivingView). let a : Arrival =
+    c.arrival-arrival.ensures
+    ∙ ap (λ (n : ℕ). let a : Arrival =
     record {
-      n = length (receipts_from w p.from);
+      n = n;
       env =
           record { from = p.from; tag = c.args.tag; ctx = c.args.ctx; len = c.args.len; how = Ask };
     } in a)
-    (sym c.self.view_is)
+    c.count-n.ensures
 
 taker_is : (c : goal.After-is_some-2) → c.in_ok-taker.taker ≡ option_map (λ (q : post.Post). q.number) (taker_post c)
 taker_is c =
@@ -184,7 +184,7 @@ view_is : (c : goal.After-is_some-2) → let v : ReceivingView = seen c.self.ins
 view_is c =
     let v : ReceivingView = seen c.self.inside in
     let p : Packet = c.args.p.now in
-    let arrival = c.next_arrival-arrival.result in
+    let arrival = c.arrival-arrival.result in
     let r : Receipt = record { arrival = arrival; whole = false } in
     let taken = c.then_some-taken.result in
     ask_is v c.self.invariant p c.args.tag c.args.ctx c.args.len c.requires.ask (may_of c).sender
@@ -239,5 +239,5 @@ returns-clause-took c =
       sizes = c.skip.ensures.step.sizes;
       drawn = refl;
       ended = ap (λ (rs : List Receive). map (λ r. r.ended) rs) c.give.ensures
-          ∙ taken_ended c.self.inside.receives.items c.in_ok-taker.taker c.next_arrival-arrival.result;
+          ∙ taken_ended c.self.inside.receives.items c.in_ok-taker.taker c.arrival-arrival.result;
     })

@@ -1,4 +1,4 @@
-use Rattle.std.proofs.Common.{◌≡◌, ◌<◌, ◌==◌, ℕ, true, Option, None, List, [], ◌∷◌, ◌++◌, length, map, refl, sym, ◌∙◌}
+use Rattle.std.proofs.Common.{◌≡◌, ◌<◌, ◌==◌, ℕ, Option, None, List, [], ◌∷◌, ◌++◌, length, map, refl, sym, ◌∙◌}
 use Rattle.std.proofs.Common.{ap, subst}
 use Rattle.std.specs.Option.{option_map}
 use Rattle.std.proofs.Math.ListN.{set}
@@ -11,7 +11,7 @@ use Rattle.nm_types.specs.declared.packets.What.{What}
 use Rattle.nm_history.specs.Matching.{first_receive, matched_pairs}
 use Rattle.nm_match.specs.Deeds.{history_of, is_known_message}
 use Rattle.nm_eager.specs.Senders.{Received}
-use Rattle.nm_eager.specs.Streams.{IsStream, Stream, after, continues, missing}
+use Rattle.nm_eager.specs.Streams.{IsStream, Stream, after, missing}
 use Rattle.nm_receiving.specs.declared.receipts.Receipt.{Receipt}
 use Rattle.nm_receiving.specs.declared.receipts.Receive.{Receive}
 use Rattle.nm_receiving.specs.Calls.{MayBeTakenIn, TakesMessagePacket}
@@ -45,14 +45,14 @@ pub arrive-requires : goal.arrive-requires
 arrive-requires c =
     let v = seen c.self.inside in
     let p : Packet = c.args.p.now in
-    let arr = c.next_arrival-arrival.ensures
-    ∙ ap (λ (w : ReceivingView). let a : Arrival =
+    let arr = c.arrival-arrival.ensures
+    ∙ ap (λ (n : ℕ). let a : Arrival =
     record {
-      n = length (receipts_from w p.from);
+      n = n;
       env =
           record { from = p.from; tag = c.args.tag; ctx = c.args.ctx; len = c.args.len; how = Eager };
     } in a)
-    (sym c.self.view_is) in
+    c.count-n.ensures in
     record {
       is_new = ap (λ (a : Arrival). is_known_message (history_of c.self.inside.matcher) a.env.from a.n) arr
           ∙ next_message v c.self.invariant p.from (length (receipts_from v p.from)) refl;
@@ -70,7 +70,7 @@ add-requires-clause-limit c =
 
 pub give-requires : goal.give-requires
 give-requires c =
-    taker_inside (seen c.self.inside) c.self.invariant c.next_arrival-arrival.result c.in_ok-taker.taker
+    taker_inside (seen c.self.inside) c.self.invariant c.arrival-arrival.result c.in_ok-taker.taker
     c.in_ok-taker.ensures.oldest
 
 -- the fields afterwards
@@ -114,7 +114,7 @@ streams_after c =
     ∙ room_same old c.reserve-2.new.self p.from room other)
 
 arrival_of : (c : goal.After-give) → let p : Packet = c.args.p.now in
-    ◌≡◌ {A = Arrival} c.next_arrival-arrival.result
+    ◌≡◌ {A = Arrival} c.arrival-arrival.result
     (record {
       n = length (receipts_from (seen c.self.inside) p.from);
       env =
@@ -122,14 +122,14 @@ arrival_of : (c : goal.After-give) → let p : Packet = c.args.p.now in
     })
 arrival_of c =
     let p : Packet = c.args.p.now in
-    c.next_arrival-arrival.ensures
-    ∙ ap (λ (w : ReceivingView). let a : Arrival =
+    c.arrival-arrival.ensures
+    ∙ ap (λ (n : ℕ). let a : Arrival =
     record {
-      n = length (receipts_from w p.from);
+      n = n;
       env =
           record { from = p.from; tag = c.args.tag; ctx = c.args.ctx; len = c.args.len; how = Eager };
     } in a)
-    (sym c.self.view_is)
+    c.count-n.ensures
 
 view_is : (c : goal.After-give) → let v : ReceivingView = seen c.self.inside in let p : Packet = c.args.p.now in
     head_view v c.self.invariant p c.args.tag c.args.ctx c.args.len c.requires.head (may_of c).sender
@@ -138,7 +138,7 @@ view_is : (c : goal.After-give) → let v : ReceivingView = seen c.self.inside i
 view_is c =
     let v : ReceivingView = seen c.self.inside in
     let p : Packet = c.args.p.now in
-    let arrival = c.next_arrival-arrival.result in
+    let arrival = c.arrival-arrival.result in
     let step = ok_gives c.add.result c.unwrap.result c.unwrap.ensures c.add.ensures.step in
     head_is v c.self.invariant p c.args.tag c.args.ctx c.args.len c.requires.head (may_of c).sender (may_of c).continued
     (right_of c) (taker_post c)
@@ -182,5 +182,5 @@ returns-clause-took c =
       sizes = step.sizes ∙ c.reserve-2.ensures.same.sizes;
       drawn = refl;
       ended = ap (λ (rs : List Receive). map (λ r. r.ended) rs) c.give.ensures
-          ∙ taken_ended c.self.inside.receives.items c.in_ok-taker.taker c.next_arrival-arrival.result;
+          ∙ taken_ended c.self.inside.receives.items c.in_ok-taker.taker c.arrival-arrival.result;
     })
