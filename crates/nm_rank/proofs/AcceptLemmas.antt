@@ -1,10 +1,11 @@
 -- What a packet that continues its stream does to the messages.
-use Rattle.std.proofs.Common.{◌≡◌, ℕ, ◌+◌, Bool, true, false, List, [], ◌∷◌, ◌++◌, length, refl, sym, ◌∙◌, ap}
+use Rattle.std.proofs.Common.{◌≡◌, ℕ, ◌+◌, ◌<◌, Bool, true, false, List, [], ◌∷◌, ◌++◌, length, refl, sym, ◌∙◌, ap}
 use Rattle.std.proofs.Common.{subst, append-nil, arith}
-use Rattle.std.specs.Prelude.{map, filter, not, if◌then◌else◌, ◌==◌, ◌&&◌, nat_lt, slice_index_or, slice_set}
+use Rattle.std.specs.Prelude.{map, filter, not, if◌then◌else◌, ◌==◌, ◌&&◌, nat_lt, slice_index_or}
 use Rattle.std.specs.Prelude.{IsTrue, Result, Ok, Err, OnOk}
 use Rattle.std.specs.List.{AllByRecursion}
 use Rattle.std.proofs.lemmas.List.{get_or-set_other}
+use Rattle.nm_types.specs.declared.limits.TheConstants.{MAX_PACKETS}
 use Rattle.nm_types.specs.declared.lists.Memory.{Memory}
 use Rattle.nm_types.specs.declared.packets.Packet.{Packet}
 use Rattle.nm_types.specs.declared.packets.What.{What}
@@ -15,18 +16,19 @@ use Rattle.nm_history.specs.declared.events.Happened.TheVariants as event
 use Rattle.nm_history.specs.Happens.{happened, is_arrival, is_recall, is_undone, is_withdraw}
 use Rattle.nm_history.specs.Matching.{is_free_message, matched_pairs}
 use Rattle.nm_history.specs.Sends.{is_ask}
-use Rattle.nm_history.specs.Bytes.{bytes_in}
-use Rattle.nm_history.specs.Continues.{has, WORN_STAMP}
+use Rattle.nm_history.specs.Continues.{continues_answer, continues_stream, has, is_of_stream, WORN_STAMP}
 use Rattle.nm_history.specs.Effects.{happenings, packet_events, whole_if, is_empty_send}
 use Rattle.nm_history.specs.Known.{Known, learned}
 use Rattle.nm_history.specs.Rules.{AreRight}
 use Rattle.nm_history.proofs.Basic.{self_true}
 use Rattle.nm_eager.specs.Streams.{Stream, missing, nothing_came, is_kept, after}
+use Rattle.nm_eager.specs.Streams.{continues as continues_message}
 use Rattle.nm_rndv.specs.Offers.{Offering, destined, with_answer, with_clearance, with_destined}
 use Rattle.nm_sending.specs.Departures.{SendingView}
 use Rattle.nm_sending.specs.Sent.{AreSent, Preserves, MayBeAnswered, is_of_sending}
+use Rattle.nm_receiving.specs.Calls.{MayBeTakenIn, TakesMessagePacket}
 use Rattle.nm_receiving.specs.Receipts.{AddsBytes, ReceivingView, came_of, of_eager, stream_of}
-use Rattle.nm_receiving.specs.Received.{AreReceived, PreservesSender, TakesPacket, is_of_receiving}
+use Rattle.nm_receiving.specs.Received.{AreReceived, PreservesSender, is_of_receiving}
 use Rattle.nm_rank.specs.Calls.{offers_by}
 use Rattle.nm_rank.specs.Fields.{endings}
 use Rattle.nm_rank.specs.Takes.{Accepts, MayBeAccepted}
@@ -108,18 +110,15 @@ adds-none from r r' streams grants a = by_test (a.env.from == from && not (is_as
   by_test false = same ∙ sym (append-nil (came_of r a))
 
 pub accepts-take : (p : Packet) (s : SendingView) (r r' : ReceivingView) → is_kept p.what ≡ true
-    → TakesPacket r r' p
-    → r'.streams ≡ slice_set r.streams p.from (after (stream_of r p.from) p.what p.payload)
+    → TakesMessagePacket p r r'
     → ((known : Known) → known.count ≡ (stream_of r p.from).count →
     known.missing ≡ missing (stream_of r p.from) →
     PreservesSender r' p.from (learned known p.what (length p.payload)))
-    → ((known : Known) → known.count ≡ (stream_of r p.from).count →
-    AddsBytes (of_eager p.from (λ n. bytes_in n known p.what p.payload)) r r')
-    → r'.sizes ≡ r.sizes → r'.drawn ≡ r.drawn → endings r' ≡ endings r → StaysSent
+    → StaysSent
     → Accepts p s s r r'
-accepts-take p s r r' kept takes streams follows bytes sizes drawn ended stays = record {
+accepts-take p s r r' kept took follows stays = record {
   kept = λ h events known agrees t cont is sent received right.
-      (let g = takes h events known t.told.count t.told.lacks is received right in (
+      (let g = took.kept h events known t.told.count t.told.lacks is received right in (
         stays s h events
             (each-as NotSent events (packet_events known h p.from p.what (length p.payload)) is
             (kept-none known h p.from p.what (length p.payload) kept)) sent,
@@ -131,7 +130,7 @@ accepts-take p s r r' kept takes streams follows bytes sizes drawn ended stays =
     cleared = kept-cleared known p.what (length p.payload) kept ∙ t.cleared;
   });
   others = λ other known ne t. (let same : stream_of r' other ≡ stream_of r other =
-      ap (λ (xs : List Stream). slice_index_or xs other nothing_came) streams
+      ap (λ (xs : List Stream). slice_index_or xs other nothing_came) took.streams
       ∙ get_or-set_other r.streams p.from other (after (stream_of r p.from) p.what p.payload) nothing_came ne in
       record {
         told = record {
@@ -146,10 +145,10 @@ accepts-take p s r r' kept takes streams follows bytes sizes drawn ended stays =
   fewer = omega arith;
   offers = kept-offers s.offers p.from p.what kept;
   pushed = refl;
-  bytes = bytes;
-  sizes = sizes;
-  drawn = drawn;
-  ended = ended;
+  bytes = took.bytes;
+  sizes = took.sizes;
+  drawn = took.drawn;
+  ended = took.ended;
 }
 
 -- a test of a list's first element, under a map
@@ -177,19 +176,45 @@ cleared-more to from n (m ∷ order) = first-test (m.0 == to) m
 -- what a call that may be refused gives where it isn't
 pub accepts-ok : (res : Result Bool Memory) (p : Packet) (s : SendingView) (r r' : ReceivingView)
     → is_kept p.what ≡ true
-    → OnOk res (TakesPacket r r' p)
-    → OnOk res (r'.streams ≡ slice_set r.streams p.from (after (stream_of r p.from) p.what p.payload))
+    → OnOk res (TakesMessagePacket p r r')
     → OnOk res ((known : Known) → known.count ≡ (stream_of r p.from).count →
     known.missing ≡ missing (stream_of r p.from) →
     PreservesSender r' p.from (learned known p.what (length p.payload)))
-    → OnOk res ((known : Known) → known.count ≡ (stream_of r p.from).count →
-    AddsBytes (of_eager p.from (λ n. bytes_in n known p.what p.payload)) r r')
-    → OnOk res (r'.sizes ≡ r.sizes) → OnOk res (r'.drawn ≡ r.drawn) → OnOk res (endings r' ≡ endings r)
     → StaysSent
     → OnOk res (Accepts p s s r r')
-accepts-ok (Ok b) p s r r' kept takes streams follows bytes sizes drawn ended stays =
-    accepts-take p s r r' kept takes streams follows bytes sizes drawn ended stays
-accepts-ok (Err m) p s r r' kept takes streams follows bytes sizes drawn ended stays = tt
+accepts-ok (Ok b) p s r r' kept took follows stays = accepts-take p s r r' kept took follows stays
+accepts-ok (Err m) p s r r' kept took follows stays = tt
+
+-- a packet of a message that continues, by what is known, continues what came of its sender's messages
+kept-continues : (eager : ℕ) (known : Known) (h : List Event) (from : ℕ) (w : What) (size : ℕ) (fresh : Bool)
+    → is_kept w ≡ true
+    → (fresh
+    && (if is_of_stream w then continues_stream eager known w size else continues_answer known h from w size))
+    ≡ true
+    → continues_message eager known.count known.missing w size ≡ true
+kept-continues eager known h from (what.Head tag ctx len) size fresh e c = and_right fresh _ c
+kept-continues eager known h from (what.More n) size fresh e c = and_right fresh _ c
+kept-continues eager known h from (what.Ask tag ctx len) size fresh e c = and_right fresh _ c
+kept-continues eager known h from (what.Clear n) size fresh e c = not_kept e
+kept-continues eager known h from (what.Withdraw n) size fresh e c = not_kept e
+kept-continues eager known h from (what.Withdrawn n done) size fresh e c = not_kept e
+
+-- so it may be taken
+pub may-take : (s : SendingView) (r : ReceivingView) (p : Packet) → MayBeAccepted s r p → is_kept p.what ≡ true
+    → MayBeTakenIn r p
+may-take s r p may kept =
+    let told = may.tells.told in
+    record {
+      sender = may.sender;
+      kind = kept;
+      continued = subst (λ (n : ℕ). continues_message r.sizes.eager n (missing (stream_of r p.from)) p.what
+          (length p.payload) ≡ true) told.count
+          (subst (λ (n : ℕ). continues_message r.sizes.eager may.known.count n p.what (length p.payload) ≡ true)
+          told.lacks
+          (kept-continues r.sizes.eager may.known may.history p.from p.what (length p.payload)
+          (nat_lt p.stamp WORN_STAMP) kept may.continued));
+      few = subst (λ (n : ℕ). n < MAX_PACKETS) told.count may.few;
+    }
 
 -- what a clearance makes happen
 clear-none : (b : Bool) (from n : ℕ)

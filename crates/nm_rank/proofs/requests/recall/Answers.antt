@@ -13,7 +13,7 @@ returns-then-was_recalled-clause-kept c = λ h events e a.
 pub returns-clause-kept : goal.returns-clause-kept
 returns-clause-kept c = λ h events e a.
     first c.args.sending.now c.recall.new.self c.args.to c.args.n h events
-    (sym (c.was_recalled.ensures h a) ∙ c.if-was_recalled.false) e a c.in_ok-recall.ensures.kept
+    (sym (c.was_recalled.ensures h a) ∙ c.if-was_recalled.false) e a c.in_ok-recall.ensures.recalled.kept
 
 pub returns-clause-puts : goal.returns-clause-puts
 returns-clause-puts c = λ h called a below. (
@@ -23,7 +23,7 @@ returns-clause-puts c = λ h called a below. (
     c.recall.new.self.outbox) at
     (first-puts h called c.args.to c.args.n (c.clock-stamp.result + 1) c.args.sending.now.outbox
     c.recall.new.self.outbox (sym (c.was_recalled.ensures h a) ∙ c.if-was_recalled.false)
-    (c.in_ok-recall.ensures.puts called (subst (λ (k : ℕ). called ≤ k) (sym at) below))))
+    (c.in_ok-recall.ensures.recalled.puts called (subst (λ (k : ℕ). called ≤ k) (sym at) below))))
 
 pub returns-then-was_recalled-clause-offers : goal.returns-then-was_recalled-clause-offers
 returns-then-was_recalled-clause-offers c = λ h a.
@@ -33,4 +33,4 @@ returns-then-was_recalled-clause-offers c = λ h a.
 pub returns-clause-offers : goal.returns-clause-offers
 returns-clause-offers c = λ h a.
     first-offers h c.args.to c.args.n c.args.sending.now.offers c.recall.new.self.offers
-    (sym (c.was_recalled.ensures h a) ∙ c.if-was_recalled.false) c.in_ok-recall.ensures.recalled
+    (sym (c.was_recalled.ensures h a) ∙ c.if-was_recalled.false) c.in_ok-recall.ensures.recalled.recalled

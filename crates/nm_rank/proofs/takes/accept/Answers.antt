@@ -1,14 +1,18 @@
 use Rattle.std.proofs.Common.{◌≡◌, rules, true}
 use Rattle.nm_eager.specs.Streams.{is_kept}
-use Rattle.nm_rank.proofs.AcceptLemmas.{accepts-ok, accepts-clear, accepts-undo, accepts-withdraw, may-undo}
+use Rattle.nm_rank.proofs.AcceptLemmas.{accepts-ok, accepts-clear, accepts-undo, accepts-withdraw, may-take, may-undo}
 use Rattle.nm_rank.proofs.takes.accept.Goals as goal
 
 pub returns-in-Head-clause-accepts : goal.returns-in-Head-clause-accepts
 returns-in-Head-clause-accepts c =
     let kept : is_kept c.args.p.now.what ≡ true = search (rules, c.in-Head.is) in
     accepts-ok c.take.result c.args.p.now c.args.sending.now c.args.receiving.now c.take.new.self kept
-    c.take.ensures.kept c.take.ensures.streams c.take.ensures.known c.take.ensures.bytes c.take.ensures.sizes
-    c.take.ensures.drawn c.take.ensures.ended c.sides_stay.ensures.sent
+    c.take.ensures.took c.take.ensures.known c.sides_stay.ensures.sent
+
+pub take-requires : goal.take-requires
+take-requires c =
+    let kept : is_kept c.args.p.now.what ≡ true = search (rules, c.in-Head.is) in
+    record { continues = may-take c.args.sending.now c.args.receiving.now c.args.p.now c.requires.may kept }
 
 pub returns-in-Clear-clause-accepts : goal.returns-in-Clear-clause-accepts
 returns-in-Clear-clause-accepts c =

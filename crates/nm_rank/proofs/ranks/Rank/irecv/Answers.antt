@@ -45,9 +45,9 @@ invariant_of-self-2 c =
     c.add.ensures.events c.add.ensures.clock c.add.ensures.room c.follow.ensures.events
     c.follow.ensures.clock c.follow.ensures.room c.in_ok-make_room.ensures.two c.follow.ensures.same
     puts.me puts.popped (λ i. refl) refl c.sides_stay.ensures.sent
-    (c.in_ok-started.ensures.kept c.args.line)
-    c.in_ok-started.ensures.sizes c.in_ok-started.ensures.streams c.in_ok-started.ensures.drawn
-    c.in_ok-started.ensures.receives refl c.in_ok-started.ensures.number
+    (c.in_ok-started.ensures.started.kept c.args.line)
+    c.in_ok-started.ensures.started.sizes c.in_ok-started.ensures.started.streams c.in_ok-started.ensures.started.drawn
+    c.in_ok-started.ensures.started.receives refl c.in_ok-started.ensures.started.number
     (rw (c.unwrap.ensures) at c.add-2.ensures.ok)
 
 pub returns-clause-starts : goal.returns-clause-starts
@@ -55,7 +55,7 @@ returns-clause-starts c =
     let a = c.self.inside in
     let h = a.journal.events in
     let number : c.in_ok-started.started.number ≡ length (receives h) =
-    c.in_ok-started.ensures.number ∙ c.self.invariant.history.received.count in
+    c.in_ok-started.ensures.started.number ∙ c.self.invariant.history.received.count in
     let taken : c.in_ok-started.started.taken
     ≡ first_message h (matched_pairs h) c.args.from c.args.tag c.args.ctx =
     c.in_ok-started.ensures.taken h c.self.invariant.history.received in
@@ -108,7 +108,7 @@ returns-clause-starts c =
             ctx = c.args.ctx;
             cap = c.args.cap;
           })))
-          c.in_ok-started.ensures.streams c.in_ok-started.ensures.bytes c.in_ok-started.ensures.drawn
+          c.in_ok-started.ensures.started.streams c.in_ok-started.ensures.started.bytes c.in_ok-started.ensures.started.drawn
           (rw (c.unwrap.ensures) at c.add-2.ensures.ok));
       offers = ap (λ (s : SendingView). s.offers) c.follow.ensures.same
           ∙ same-offers a.sending c.make_room.new.sending c.make_room.ensures.letters;

@@ -1,4 +1,4 @@
-use Rattle.std.proofs.Common.{◌≡◌, ℕ, ◌+◌, ◌<◌, [], ◌∷◌, length, refl, sym, ◌∙◌, ap, subst}
+use Rattle.std.proofs.Common.{◌≡◌, ℕ, ◌+◌, ◌<◌, [], ◌∷◌, length, refl, sym, ◌∙◌, ap, subst, arith}
 use Rattle.std.specs.Prelude.{if◌then◌else◌, map}
 use Rattle.nm_history.specs.declared.events.Happened.TheVariants as event
 use Rattle.nm_sending.specs.Sent.{Preserves}
@@ -8,6 +8,7 @@ use Rattle.nm_history.specs.Sends.{is_ask, sends}
 use Rattle.nm_rndv.specs.Offers.{destined, with_asked, with_destined}
 use Rattle.nm_sending.specs.declared.TheConstants.{MAX_MESSAGES}
 use Rattle.nm_sending.specs.Departures.{SendingView, departures_to}
+use Rattle.nm_sending.specs.Outboxes.{put_to}
 use Rattle.nm_rank.specs.Ranks.{IsFresh, RankView, seen}
 use Rattle.nm_rank.specs.Sends.{next_send}
 use Rattle.nm_rank.specs.Steps.{StartsSend}
@@ -34,14 +35,14 @@ invariant_of-self-2 c =
     subst (λ (v : RankView). c.args.to < v.sizes.ranks) (sym c.self.view_is) c.requires.to in
     let kept = subst (λ (l : ℕ). Preserves c.make_room.new.sending c.send.new.self
     (event.Send c.args.to c.in_ok-n.n c.args.tag c.args.ctx l c.mode-how.result c.args.line ∷ []))
-    (sym c.len-len.ensures) (c.in_ok-n.ensures.kept c.args.line) in
-    let puts = c.in_ok-n.ensures.puts c.make_room.new.journal.events c.args.line in
+    (sym c.len-len.ensures) (c.in_ok-n.ensures.sent c.args.line).kept in
+    let puts = (c.in_ok-n.ensures.sent c.args.line).put.puts c.make_room.new.journal.events in
     fields-send a.me a.shape c.make_room.new.journal c.add.new.self c.make_room.new.sending c.send.new.self
     a.receiving _ c.make_room.new.requests c.add-2.new.self a.took.items a.pulled.items c.args.to
     c.in_ok-n.n c.args.tag c.args.ctx c.len-len.result c.args.line c.mode-how.result c.unwrap.result
     roomy within c.add.ensures.events c.add.ensures.clock c.add.ensures.room
-    c.in_ok-make_room.ensures.two c.in_ok-n.ensures.counted kept puts.me puts.popped
-    (ap (λ o. o.order) c.in_ok-n.ensures.asked ∙ order-asked _ _ _ _ _)
+    c.in_ok-make_room.ensures.two (c.in_ok-n.ensures.sent c.args.line).counted kept puts.me puts.popped
+    (ap (λ o. o.order) (c.in_ok-n.ensures.sent c.args.line).put.asked ∙ order-asked _ _ _ _ _)
     (c.sides_stay.ensures.received a.receiving c.make_room.new.journal.events _ (refl, tt)
     roomy.history.received)
     (rw (c.unwrap.ensures) at c.add-2.ensures.ok)
@@ -52,7 +53,7 @@ returns-clause-starts c =
     let to = c.args.to in
     let body = c.args.body in
     let number : c.in_ok-n.n ≡ length (sends a.journal.events to) =
-    c.in_ok-n.ensures.number
+    (c.in_ok-n.ensures.sent c.args.line).number
     ∙ ap (λ (s : SendingView). length (departures_to s to)) c.make_room.ensures.letters
     ∙ length-sent a.sending a.journal.events c.self.invariant.history.sent to in
     let how : c.mode-how.result ≡ how_of a.shape.eager c.args.sync (body_len body) =
@@ -68,7 +69,7 @@ returns-clause-starts c =
       ← how,
       ← number,
       ← same-offers a.sending c.make_room.new.sending c.make_room.ensures.letters,
-    ) c.in_ok-n.ensures.asked) in
+    ) (c.in_ok-n.ensures.sent c.args.line).put.asked) in
     subst (λ (v : RankView). StartsSend
     (next_send v c.args.to c.args.tag c.args.ctx c.args.body c.args.sync c.args.line) c.args.body c.unwrap.result v
     (seen a.me a.shape c.add.new.self c.send.new.self a.receiving
@@ -84,18 +85,26 @@ returns-clause-starts c =
           (length (sends a.journal.events c.args.to)) (body_len c.args.body) same
           c.make_room.ensures.events c.make_room.ensures.letters c.make_room.ensures.requests
           c.add.ensures.events c.add.ensures.clock (ap (λ k. k + 1) c.clock-stamp.ensures.value)
-          (c.in_ok-n.ensures.puts a.journal.events c.args.line) c.in_ok-n.ensures.same
+          ((c.in_ok-n.ensures.sent c.args.line).put.puts a.journal.events) (c.in_ok-n.ensures.sent c.args.line).same
           (rw (c.unwrap.ensures) at c.add-2.ensures.ok) number c.len-len.ensures how;
       offers = offers;
     })
 
-pub send-requires-clause-few : goal.send-requires-clause-few
-send-requires-clause-few c =
+pub send-requires-clause-room : goal.send-requires-clause-room
+send-requires-clause-room c =
     let a = c.self.inside in
     let fresh = subst (λ (v : RankView). IsFresh v) (sym c.self.view_is) c.requires.fresh in
     let within : c.args.to < a.shape.ranks =
     subst (λ (v : RankView). c.args.to < v.sizes.ranks) (sym c.self.view_is) c.requires.to in
-    subst (λ (k : ℕ). k < MAX_MESSAGES)
-    (sym (ap (λ (s : SendingView). length (departures_to s c.args.to)) c.make_room.ensures.letters
-    ∙ length-sent a.sending a.journal.events c.self.invariant.history.sent c.args.to))
-    (fresh.messages c.args.to within).0
+    let messages = fresh.messages c.args.to within in
+    let clock = fresh.clock in
+    let letters = c.make_room.ensures.letters in
+    let put = ap (λ (s : SendingView). put_to s.outbox c.args.to) letters in
+    let staying = ap (λ (s : SendingView). s.staying) letters in
+    record {
+      few = subst (λ (k : ℕ). k < MAX_MESSAGES)
+          (sym (ap (λ (s : SendingView). length (departures_to s c.args.to)) letters
+          ∙ length-sent a.sending a.journal.events c.self.invariant.history.sent c.args.to)) messages.0;
+      room = let few = messages.1 in omega (arith, few, put);
+      counted = let few = c.self.invariant.room.few in omega (arith, clock, staying, few);
+    }

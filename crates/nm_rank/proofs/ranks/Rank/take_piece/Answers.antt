@@ -32,6 +32,6 @@ invariant_of-self-2 c =
     c.draw.new.self _ c.make_room.new.requests a.took.items a.pulled.items c.args.p.now
     (option_to_list c.in_ok-drawn.drawn.event) c.in_ok-drawn.drawn.continued _ roomy
     c.note.ensures.events c.note.ensures.clock c.note.ensures.room c.in_ok-make_room.ensures.two
-    (c.in_ok-drawn.ensures.event c.make_room.new.journal.events roomy.history.received)
-    c.in_ok-drawn.ensures.kept c.in_ok-drawn.ensures.same c.in_ok-drawn.ensures.counted within number
+    (c.in_ok-drawn.ensures.drew.event c.make_room.new.journal.events roomy.history.received)
+    c.in_ok-drawn.ensures.drew.kept c.in_ok-drawn.ensures.drew.same c.in_ok-drawn.ensures.drew.counted within number
     c.sides_stay.ensures.sent
