@@ -1,20 +1,22 @@
 -- How check ends.
-use Rattle.std.proofs.Common.{◌≡◌, subst}
+use Rattle.std.proofs.Common.{◌≡◌, ◌∙◌, ℕ, inl, inr, ap, subst, List, Option, None, Some}
+use Rattle.std.specs.Option.{IfSome, IsSomeAnd}
 use Rattle.std.specs.Prelude.{codes}
 use Rattle.nm_outside.specs.Told.{Appends}
 use Rattle.nm_script.specs.CommandWords.{IsTaken}
 use Rattle.nm_script.specs.declared.command_line.CommandLine.{CommandLine}
 use Rattle.nm_script.specs.declared.command_line.Mode.TheVariants.{Check, Parts, Plain, Multi}
-use Rattle.nm_cli.specs.Checks.{IsCheckedEnd}
+use Rattle.nm_cli.specs.Checks.{IsCheckedAs, IsCheckedEnd, IsWritten, checked_status, checked_text}
+use Rattle.nm_cli.specs.Done.{Ending, Ends}
 use Rattle.nm_cli.specs.Endings.{OrFails}
 use Rattle.nm_cli.specs.Scripts.{Reads, Runs}
 use Rattle.nm_check.specs.declared.verdicts.Verdict.TheVariants.{Holds}
+use Rattle.nm_check.specs.declared.checked.checks.Checked.{Checked as CheckedText}
 use Rattle.nm_check.specs.declared.checked.checks.Checked.TheVariants.{Judged}
-use Rattle.nm_cli.specs.Answers.{WasRead}
 use Rattle.nm_cli.specs.declared.answers.Response.{Response}
 use Rattle.nm_cli.specs.declared.answers.Response.TheVariants.{Usage, Unread, Refused, Ran}
 use Rattle.nm_cli.specs.declared.answers.Response.TheVariants.{Free, Determinate, Checked, NoPlan, Planned, Logged}
-use Rattle.nm_cli.proofs.EndLemmas.{Ending, Ends, answered_for, or_unread, or_unwritten, other, to_fails}
+use Rattle.nm_cli.proofs.EndLemmas.{answered_for, or_unread, or_unwritten, other, to_fails}
 
 pub check_is : (s : Ending) (a : Response) → Ends s a → (line : CommandLine) → IsTaken s.words line →
     line.mode ≡ Check → OrFails (IsCheckedEnd line s.input s.status s.before s.after) s.status
@@ -39,9 +41,23 @@ check_is s (Logged t r log) e line taken is =
     absurd (other (λ m. m ≡ Multi t r) line.mode Check is (λ h. cc) (answered_for s (Logged t r log) e line taken).0)
 
 -- the trace of a run of the script holds
-pub holds_is : (s : Ending) (a : Response) → Ends s a → (WasRead a → a ≡ Checked (Judged Holds)) →
+judged_holds : (line : CommandLine) (input : Option (List ℕ)) (checked : CheckedText) →
+    IfSome input (IsCheckedAs line checked) → IsSomeAnd input (IsWritten line) → checked ≡ Judged Holds
+judged_holds line None checked right written = absurd written
+judged_holds line (Some bytes) checked right written = right.holds written
+
+said_so : (line : CommandLine) (input before after : Option (List ℕ)) (status : ℕ) →
+    IsCheckedEnd line input status before after → IsSomeAnd input (IsWritten line) →
+    (status ≡ 0) × Appends before after (codes "holds\n")
+said_so line input before after status e written =
+    let is = judged_holds line input e.checked e.right written in
+    (e.ended ∙ ap checked_status is, subst (λ c. Appends before after (checked_text c)) is e.said)
+
+pub holds_is : (s : Ending) (a : Response) → Ends s a → (line : CommandLine) → IsTaken s.words line →
+    line.mode ≡ Check → IsSomeAnd s.input (IsWritten line) →
     OrFails ((s.status ≡ 0) × Appends s.before s.after (codes "holds\n")) s.status
-holds_is s Unread e is = or_unread s e
-holds_is s a e is =
-    to_fails s.status (or_unwritten s (Checked (Judged Holds)) (subst (λ x. Ends s x) (is tt) e)
-    (λ h said. (h, said)))
+holds_is s a e line taken is written =
+    elim (check_is s a e line taken is) [
+      | inl h ↦ inl (said_so line s.input s.before s.after s.status h written)
+      | inr h ↦ inr h
+    ]

@@ -5,44 +5,17 @@ use Rattle.nm_outside.specs.Told.{Appends, AppendsPart, Rose}
 use Rattle.nm_script.specs.CommandWords.{IsTaken}
 use Rattle.nm_script.specs.declared.command_line.CommandLine.{CommandLine}
 use Rattle.nm_script.specs.declared.command_line.Mode.{Mode}
-use Rattle.nm_report.specs.declared.records.RunRecord.{RunRecord}
-use Rattle.nm_world.specs.declared.whole.Ways.{Ways}
-use Rattle.nm_multi.specs.Calls.{Logged as Log}
 use Rattle.nm_cli.specs.Answers.{IsAnswer, IsAnswerTo, NotTaken, end_status, log_of, run_of, status_of, text_of}
 use Rattle.nm_cli.specs.Answers.{IsReadFor, WasRead, unread, usage, ways_of}
 use Rattle.nm_check.specs.declared.verdicts.Verdict.TheVariants.{Holds}
 use Rattle.nm_check.specs.declared.checked.checks.Checked.{Checked as CheckedText}
 use Rattle.nm_check.specs.declared.checked.checks.Checked.TheVariants.{NoTrace, NoScript, BadTrace, Judged}
 use Rattle.nm_cli.specs.Checks.{checked_status}
-use Rattle.nm_cli.specs.Endings.{IsSaid, IsStatus, OrFails, OrUnwritten}
+use Rattle.nm_cli.specs.Done.{Ending, Ends}
+use Rattle.nm_cli.specs.Endings.{IsStatus, OrFails, OrUnwritten}
 use Rattle.nm_cli.specs.declared.answers.Response.{Response}
 use Rattle.nm_cli.specs.declared.answers.Response.TheVariants.{Usage, Unread, Refused, Ran, Free, Determinate}
 use Rattle.nm_cli.specs.declared.answers.Response.TheVariants.{Checked, NoPlan, Planned, Logged}
-
--- What is seen of the program: its words, the bytes that the source told with its faults before and after,
--- what the sink took before and after with its faults, and how it ended.
-pub record Ending : Type 0 where
-  pub words : List (List ℕ)
-  pub input : Option (List ℕ)
-  pub read_old : ℕ
-  pub read_new : ℕ
-  pub before : Option (List ℕ)
-  pub after : Option (List ℕ)
-  pub write_old : ℕ
-  pub write_new : ℕ
-  pub status : ℕ
-  pub run : Option RunRecord
-  pub closed : Option Ways
-  pub log : Option Log
-
--- The answer is right and was said, its parts are handed out, and the words ask for one thing at most.
-pub record Ends (s : Ending) (answer : Response) : Type 0 where
-  pub right : IsAnswer s.words s.input s.read_old s.read_new answer
-  pub said : IsSaid answer s.status s.before s.after (Rose s.write_old s.write_new)
-  pub run_given : s.run ≡ run_of answer
-  pub ways_given : s.closed ≡ ways_of answer
-  pub log_given : s.log ≡ log_of answer
-  pub one : (line other : CommandLine) → IsTaken s.words line → IsTaken s.words other → line ≡ other
 
 -- words that ask for one thing don't ask for another
 pub other : (P : Mode → Type 0) (m n : Mode) → m ≡ n → (P n → ⊥) → P m → ⊥
@@ -53,8 +26,13 @@ pub answered_for : (s : Ending) (a : Response) → Ends s a → (line : CommandL
     IsAnswerTo line s.input s.read_old s.read_new a
 answered_for s Usage e line taken = absurd (e.right line taken)
 answered_for s a e line taken =
-    let same = e.one e.right.line line e.right.taken taken in
-    subst (λ l. IsAnswerTo l s.input s.read_old s.read_new a) same e.right.right
+    subst (λ l. IsAnswerTo l s.input s.read_old s.read_new a) (sym (e.right.only line taken)) e.right.right
+
+-- the words ask for one thing
+pub one_line : (s : Ending) (a : Response) → Ends s a → (line other : CommandLine) → IsTaken s.words line →
+    IsTaken s.words other → line ≡ other
+one_line s Usage e line other taken also = absurd (e.right line taken)
+one_line s a e line other taken also = e.right.only line taken ∙ sym (e.right.only other also)
 
 -- an answer that was not cut off was said whole
 pub said_whole : (s : Ending) (a : Response) → Ends s a → (s.status ≡ 5 → ⊥) →
@@ -155,16 +133,15 @@ no_five (Determinate r) h = no_run_status r.done 5 5 h refl (λ z. cc) (λ z. cc
 no_five (Planned q r w) h = no_run_status r.done 5 5 h refl (λ z. cc) (λ z. cc)
 no_five a h = omega (arith, h)
 
-pub unwritten_is : (s : Ending) (a : Response) → Ends s a → (left : Option (List ℕ)) →
-    IsReadFor s.words s.input left s.read_old s.read_new a → s.status ≡ 5 →
+pub unwritten_is : (s : Ending) (a : Response) → Ends s a → s.status ≡ 5 →
     Rose s.write_old s.write_new × (answer : Response) × IsAnswer s.words s.input s.read_old s.read_new answer
-    × IsReadFor s.words s.input left s.read_old s.read_new answer
+    × IsReadFor s.words s.input s.left s.read_old s.read_new answer
     × AppendsPart s.before s.after (text_of answer) × (s.run ≡ run_of answer) × (s.closed ≡ ways_of answer)
     × (s.log ≡ log_of answer)
-unwritten_is s a e left read h =
+unwritten_is s a e h =
     elim e.said [
       | inl p ↦ absurd (no_five a (sym h ∙ p.0))
-      | inr p ↦ (p.1, a, e.right, read, p.2, e.run_given, e.ways_given, e.log_given)
+      | inr p ↦ (p.1, a, e.right, e.read, p.2, e.run_given, e.ways_given, e.log_given)
     ]
 
 -- an ending that was written is not for want of memory

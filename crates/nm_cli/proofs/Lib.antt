@@ -1,4 +1,5 @@
 mod CheckEnds
+mod DoneLemmas
 mod EndLemmas
 mod PlainEnds
 mod PlanEnds

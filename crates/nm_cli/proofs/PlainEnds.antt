@@ -6,6 +6,7 @@ use Rattle.nm_script.specs.CommandWords.{IsTaken}
 use Rattle.nm_script.specs.declared.command_line.CommandLine.{CommandLine}
 use Rattle.nm_script.specs.declared.command_line.Mode.TheVariants.{Plain, Check, Parts, Multi}
 use Rattle.nm_cli.specs.Answers.{end_status}
+use Rattle.nm_cli.specs.Done.{Ending, Ends}
 use Rattle.nm_cli.specs.Endings.{IsFree, IsSure, IsWorkedOut, OrFails}
 use Rattle.nm_cli.specs.Plains.{IsNotPlain, IsPlain, free_text}
 use Rattle.nm_cli.specs.Scripts.{Runs}
@@ -13,7 +14,7 @@ use Rattle.nm_cli.specs.declared.answers.Response.{Response}
 use Rattle.nm_cli.specs.declared.answers.Response.TheVariants.{Usage, Unread, Refused, Ran}
 use Rattle.nm_cli.specs.declared.answers.Response.TheVariants.{Free, Determinate, Checked, NoPlan, Planned}
 use Rattle.nm_cli.specs.declared.answers.Response.TheVariants.{Logged}
-use Rattle.nm_cli.proofs.EndLemmas.{Ending, Ends, answered_for, or_unread, or_unwritten, other}
+use Rattle.nm_cli.proofs.EndLemmas.{answered_for, or_unread, or_unwritten, other}
 use Rattle.nm_cli.proofs.EndLemmas.{run_status, to_fails}
 use Rattle.nm_cli.proofs.RunEnds.{was_refused}
 

@@ -8,6 +8,7 @@ use Rattle.nm_script.specs.declared.command_line.Mode.TheVariants.{Plain, Check,
 use Rattle.nm_persist.specs.Promises.{ReceivesShowTheirSends}
 use Rattle.nm_script.specs.declared.faults.TextFault.TheVariants as plan_fault
 use Rattle.nm_plans.specs.declared.faults.PlanKind.{PlanKind}
+use Rattle.nm_cli.specs.Done.{Ending, Ends}
 use Rattle.nm_cli.specs.Endings.{IsPlanEnded, IsPlanRefused, OrFails}
 use Rattle.nm_cli.specs.Plans.{PlanRefuses, plan_fault_text}
 use Rattle.nm_cli.specs.Scripts.{Reads, Runs, read_of, sizes_for}
@@ -15,7 +16,7 @@ use Rattle.nm_cli.specs.declared.answers.Response.{Response}
 use Rattle.nm_cli.specs.declared.answers.Response.TheVariants.{Usage, Unread, Refused, Ran}
 use Rattle.nm_cli.specs.declared.answers.Response.TheVariants.{Free, Determinate, Checked, NoPlan, Planned}
 use Rattle.nm_cli.specs.declared.answers.Response.TheVariants.{Logged}
-use Rattle.nm_cli.proofs.EndLemmas.{Ending, Ends, answered_for, or_unread, or_unwritten, other, to_fails}
+use Rattle.nm_cli.proofs.EndLemmas.{answered_for, or_unread, or_unwritten, other, to_fails}
 
 refused_said : (input before after : Option (List ℕ)) (n : ℕ) (k : PlanKind) →
     IfSome input (λ bytes. PlanRefuses (read_of bytes) (plan_fault.Bad n k)) →

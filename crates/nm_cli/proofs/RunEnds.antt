@@ -13,6 +13,7 @@ use Rattle.nm_script.specs.declared.faults.TextFault.TheVariants as fault
 use Rattle.nm_report.specs.declared.records.RunRecord.{RunRecord}
 use Rattle.nm_world.specs.declared.whole.Ways.{Ways}
 use Rattle.nm_cli.specs.Answers.{Refuses, end_status, run_text}
+use Rattle.nm_cli.specs.Done.{Ending, Ends}
 use Rattle.nm_cli.specs.Endings.{IsRefused, IsReported, OrFails, OrUnwritten}
 use Rattle.nm_cli.specs.Faults.{fault_text}
 use Rattle.nm_cli.specs.Plains.{IsNotPlain, IsPlain}
@@ -22,7 +23,7 @@ use Rattle.nm_cli.specs.declared.answers.Response.{Response}
 use Rattle.nm_cli.specs.declared.answers.Response.TheVariants.{Usage, Unread, Refused, Ran}
 use Rattle.nm_cli.specs.declared.answers.Response.TheVariants.{Free, Determinate, Checked, NoPlan, Planned}
 use Rattle.nm_cli.specs.declared.answers.Response.TheVariants.{Logged}
-use Rattle.nm_cli.proofs.EndLemmas.{Ending, Ends, answered_for, no_run_status, not_five, or_unread, or_unwritten}
+use Rattle.nm_cli.proofs.EndLemmas.{answered_for, no_run_status, not_five, or_unread, or_unwritten}
 use Rattle.nm_cli.proofs.EndLemmas.{other, run_status, said_whole, to_fails, unless_failed}
 use Rattle.nm_types.proofs.OptionLemmas.{if_all as always}
 

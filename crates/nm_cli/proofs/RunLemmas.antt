@@ -33,9 +33,8 @@ use Rattle.nm_cli.specs.Answers.{CanBeTold, IsAnswer, IsAnswerFor, IsAnswerForPl
 use Rattle.nm_cli.specs.Plains.{IsNotPlain, IsPlain}
 use Rattle.nm_cli.specs.Answers.{IsAnswerForBytes, IsLogOf, IsRead, IsReadFor}
 use Rattle.nm_cli.specs.Plans.{IsRunOfPlan, PlanRefuses}
-use Rattle.nm_check.specs.Checks.{IsChecked}
 use Rattle.nm_check.specs.declared.checked.checks.Checked.{Checked}
-use Rattle.nm_cli.specs.Checks.{IsCheckedAs, IsTraced, IsWritten}
+use Rattle.nm_cli.specs.Checks.{IsCheckedAs, IsCheckedIn}
 use Rattle.nm_cli.specs.Scripts.{IsAsked, IsRunOfScript, IsRunOfWords, Reads, ReadsSource, limit_of, read_of}
 use Rattle.nm_cli.specs.Scripts.{sizes_for}
 use Rattle.nm_cli.specs.declared.answers.Response.{Response}
@@ -140,10 +139,9 @@ refused (Some bytes) read e is refuses = subst (λ bytes. Refuses bytes e) is re
 -- what was said of the bytes read answers the words
 checked_as : (line : CommandLine) (input : Option (List ℕ)) (read : List ℕ) (checked : Checked) →
     IfSome input (λ bytes. read ≡ take (limit_of line.mode) bytes) →
-    IsChecked line.cells line.eager read checked → IfSome input (IsCheckedAs line checked)
+    IsCheckedIn line checked read → IfSome input (IsCheckedAs line checked)
 checked_as line None read checked is h = tt
-checked_as line (Some bytes) read checked is h =
-    subst (λ xs. IsChecked line.cells line.eager xs checked) is h
+checked_as line (Some bytes) read checked is h = subst (IsCheckedIn line checked) is h
 
 -- as much is read as a script may have
 script_limit : (m : Mode) → Reads m → limit_of m ≡ 8388609
@@ -214,18 +212,12 @@ reads_source Trace reads = tt
 reads_source Plain reads = tt
 reads_source m reads = absurd reads
 
--- a script and the trace of one of its runs were read whole
-pub traced : (line : CommandLine) (input : Option (List ℕ)) (read : List ℕ) →
-    IfSome input (λ bytes. read ≡ take (limit_of line.mode) bytes) → IsSomeAnd input (IsWritten line) →
-    IsTraced line read
-traced line None read is written = absurd written
-traced line (Some bytes) read is written = subst (IsTraced line) (sym is) written
-
 -- an answer for a command line that was taken answers the words
-pub line_answered : (words : List (List ℕ)) (line : CommandLine) → IsTaken words line → (input : Option (List ℕ))
-    (old new : ℕ) (a : Response) → IsAnswerTo line input old new a → IsAnswer words input old new a
-line_answered words line taken input old new answer.Usage h = absurd h
-line_answered words line taken input old new a h = record { line = line; taken = taken; right = h }
+pub line_answered : (words : List (List ℕ)) (line : CommandLine) → IsTaken words line →
+    ((other : CommandLine) → IsTaken words other → other ≡ line) → (input : Option (List ℕ)) (old new : ℕ)
+    (a : Response) → IsAnswerTo line input old new a → IsAnswer words input old new a
+line_answered words line taken only input old new answer.Usage h = absurd h
+line_answered words line taken only input old new a h = record { line = line; taken = taken; only = only; right = h }
 
 -- and what was read for it was read for the words, which ask for one thing
 pub read_for : (words : List (List ℕ)) (line : CommandLine) →

@@ -29,12 +29,13 @@ use Rattle.nm_sure.specs.Agree.{ArePlain, PlainRunsAgree, PlainRunsTell}
 use Rattle.nm_sure.specs.Plain.{is_plain}
 use Rattle.nm_sure.specs.PlainText.{plain_done, plain_text, plain_told}
 use Rattle.nm_cli.specs.Answers.{end_status, run_text}
+use Rattle.nm_cli.specs.Done.{Ending, Ends}
 use Rattle.nm_cli.specs.Endings.{IsReported}
 use Rattle.nm_cli.specs.Plains.{IsDeterminate, all_home, sure_text}
 use Rattle.nm_cli.specs.Scripts.{IsAsked, IsKnown, Runs, read_of, sizes_for}
 use Rattle.nm_world.specs.declared.whole.Ways.{Ways}
 use Rattle.nm_cli.specs.declared.answers.Response.{Response}
-use Rattle.nm_cli.proofs.EndLemmas.{Ending, Ends}
+use Rattle.nm_cli.proofs.EndLemmas.{one_line}
 use Rattle.nm_cli.proofs.RunEnds.{reported_is}
 
 -- what is known of scripts, of plain ones and of floods
@@ -157,7 +158,7 @@ pub determinate_is : Laws → (s : Ending) (a : Response) → Ends s a → (line
     × Appends s.before s.after (sure_text line.mode (sizes_for line ranks) lines)
 determinate_is laws s a e line taken ranks lines known plain ended =
     let r = reported_is s a e ended in
-    let same : r.0 ≡ line = e.one r.0 line r.1 taken in
+    let same : r.0 ≡ line = one_line s a e r.0 line r.1 taken in
     let reported = subst (λ l. Runs l.mode → IsReported l s.input s.status s.run s.closed s.before s.after) same r.2 in
     reported_so laws line s.input s.before s.after s.status s.run s.closed ranks lines taken.numbers plain known
     (reported (runs_of line.mode lines plain))

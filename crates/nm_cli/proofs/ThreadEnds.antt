@@ -8,13 +8,14 @@ use Rattle.nm_script.specs.declared.command_line.Mode.TheVariants.{Plain, Check,
 use Rattle.nm_multi.specs.Calls.{Logged as Log}
 use Rattle.nm_multi.specs.Programs.{IsWhole}
 use Rattle.nm_multi.specs.Text.{log_text}
+use Rattle.nm_cli.specs.Done.{Ending, Ends}
 use Rattle.nm_cli.specs.Endings.{IsLogged, OrUnwritten}
 use Rattle.nm_cli.specs.Scripts.{Reads, ReadsSource, Runs}
 use Rattle.nm_cli.specs.declared.answers.Response.{Response}
 use Rattle.nm_cli.specs.declared.answers.Response.TheVariants.{Usage, Unread, Refused, Ran}
 use Rattle.nm_cli.specs.declared.answers.Response.TheVariants.{Free, Determinate, Checked, NoPlan, Planned}
 use Rattle.nm_cli.specs.declared.answers.Response.TheVariants.{Logged}
-use Rattle.nm_cli.proofs.EndLemmas.{Ending, Ends, answered_for, or_unwritten, other}
+use Rattle.nm_cli.proofs.EndLemmas.{answered_for, or_unwritten, other}
 
 same_numbers : (m : Mode) (t r threads rounds : ℕ) → m ≡ Multi t r → m ≡ Multi threads rounds →
     (t ≡ threads) × (r ≡ rounds)

@@ -31,8 +31,7 @@ use Rattle.nm_plans.specs.Expansion.{expand}
 use Rattle.nm_plans.specs.declared.lines.PlanLine.{PlanLine}
 use Rattle.nm_persist.specs.Report.{run_text as plan_run_text}
 use Rattle.nm_persist.specs.Rules.{IsTextOf as IsPlanText}
-use Rattle.nm_check.specs.Checks.{IsChecked}
-use Rattle.nm_cli.specs.Checks.{IsCheckedAs, checked_status, checked_text}
+use Rattle.nm_cli.specs.Checks.{IsCheckedAs, IsCheckedIn, checked_status, checked_text}
 use Rattle.nm_cli.specs.Faults.{fault_text}
 use Rattle.nm_cli.specs.Plains.{IsNotPlain, IsPlain, free_text}
 use Rattle.nm_cli.specs.Plans.{IsRunOfPlan, PlanRefuses, plan_fault_text}
@@ -177,7 +176,7 @@ Refuses bytes fault.Memory = Unit {0}
 abbrev pub IsAnswerForBytes : CommandLine → List ℕ → Response → Type 0
 IsAnswerForBytes line bytes (Refused number kind) = Reads line.mode × Refuses bytes (fault.Bad number kind)
 IsAnswerForBytes line bytes (Checked checked) =
-    (line.mode ≡ mode.Check) × IsChecked line.cells line.eager bytes checked
+    (line.mode ≡ mode.Check) × IsCheckedIn line checked bytes
 IsAnswerForBytes line bytes (NoPlan number kind) =
     (line.mode ≡ mode.Parts) × PlanRefuses bytes (fault.Bad number kind)
 IsAnswerForBytes line bytes (Planned plan run ways) =
@@ -208,11 +207,12 @@ IsAnswerTo line input old new (Planned plan run ways) =
 IsAnswerTo line input old new (Logged threads rounds log) =
     (line.mode ≡ mode.Multi threads rounds) × IsWhole threads rounds log.entries
 
--- the words ask for something, and the answer to it is right
+-- the words ask for one thing, and the answer to it is right
 pub record IsAnswered (words : List (List ℕ)) (input : Option (List ℕ)) (old new : ℕ) (answer : Response)
     : Type 0 where
   pub line : CommandLine
   pub taken : IsTaken words line
+  pub only : (other : CommandLine) → IsTaken words other → other ≡ line
   pub right : IsAnswerTo line input old new answer
 
 -- the answer is right: the words are not taken, or they are answered

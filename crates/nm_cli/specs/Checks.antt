@@ -35,18 +35,6 @@ checked_status (NoScript line kind) = 3
 checked_status (BadTrace line) = 9
 checked_status (Judged verdict) = verdict_status verdict
 
--- it is what the bytes read are, in the sizes that the words say
-abbrev pub IsCheckedAs : CommandLine → Checked → List ℕ → Type 0
-IsCheckedAs line checked bytes = IsChecked line.cells line.eager (take (limit_of line.mode) bytes) checked
-
--- With check, by what the bytes are: no script with a trace, or one, with the verdict.
-pub record IsCheckedEnd (line : CommandLine) (input : Option (List ℕ)) (status : ℕ)
-    (old new : Option (List ℕ)) : Type 0 where
-  pub checked : Checked
-  pub right : IfSome input (IsCheckedAs line checked)
-  pub ended : status ≡ checked_status checked
-  pub said : Appends old new (checked_text checked)
-
 -- what was read is a script and the trace of one of its runs
 pub record IsTraced (line : CommandLine) (read : List ℕ) : Type 0 where
   pub front : List ℕ
@@ -62,3 +50,20 @@ pub record IsTraced (line : CommandLine) (read : List ℕ) : Type 0 where
 -- the bytes are, as far as they are read
 abbrev pub IsWritten : CommandLine → List ℕ → Type 0
 IsWritten line bytes = IsTraced line (take (limit_of line.mode) bytes)
+
+-- It is what these bytes are, in the sizes that the words say. The trace of a run of the script holds.
+pub record IsCheckedIn (line : CommandLine) (checked : Checked) (bytes : List ℕ) : Type 0 where
+  pub right : IsChecked line.cells line.eager bytes checked
+  pub holds : IsTraced line bytes → checked ≡ Judged Holds
+
+-- it is what the bytes read are
+abbrev pub IsCheckedAs : CommandLine → Checked → List ℕ → Type 0
+IsCheckedAs line checked bytes = IsCheckedIn line checked (take (limit_of line.mode) bytes)
+
+-- With check, by what the bytes are: no script with a trace, or one, with the verdict.
+pub record IsCheckedEnd (line : CommandLine) (input : Option (List ℕ)) (status : ℕ)
+    (old new : Option (List ℕ)) : Type 0 where
+  pub checked : Checked
+  pub right : IfSome input (IsCheckedAs line checked)
+  pub ended : status ≡ checked_status checked
+  pub said : Appends old new (checked_text checked)

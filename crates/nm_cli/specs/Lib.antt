@@ -1,5 +1,6 @@
 pub mod Answers
 pub mod Checks
+pub mod Done
 pub mod Endings
 pub mod Faults
 pub mod Plains

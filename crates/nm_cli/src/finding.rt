@@ -1,18 +1,14 @@
 //! The answer to the words.
 
-ghost use Rattle.std.specs.Prelude.{◌≡◌, List, map, string_bytes, IfOk, IsSomeAnd};
+ghost use Rattle.std.specs.Prelude.{◌≡◌, List, map, string_bytes, IfOk};
 ghost use Rattle.nm_outside.specs.Told.{LosesAtMost};
-ghost use Rattle.nm_script.specs.CommandWords.{AreNumbers, InRange, IsTaken};
-ghost use Rattle.nm_script.specs.declared.command_line.CommandLine.{CommandLine};
-ghost use Rattle.nm_script.specs.declared.command_line.Mode.TheVariants.{Check, Flood, Multi};
+ghost use Rattle.nm_script.specs.CommandWords.{AreNumbers, InRange};
+ghost use Rattle.nm_script.specs.declared.command_line.Mode.TheVariants.{Flood, Multi};
 ghost use Rattle.nm_script.specs.FloodScripts.{flood_lines};
-ghost use Rattle.nm_check.specs.declared.verdicts.Verdict.TheVariants.{Holds};
-ghost use Rattle.nm_check.specs.declared.checked.checks.Checked.TheVariants.{Judged};
 ghost use Rattle.nm_cli.specs.Answers.{CanBeTold, IsAnswer, IsAnswerFor, IsAnswerForBytes};
-ghost use Rattle.nm_cli.specs.Answers.{IsAnswerTo, IsLogOf, IsRead, IsReadFor, NotTaken, WasRead};
-ghost use Rattle.nm_cli.specs.Checks.{IsTraced, IsWritten};
+ghost use Rattle.nm_cli.specs.Answers.{IsAnswerTo, IsLogOf, IsRead, IsReadFor};
+ghost use Rattle.nm_cli.specs.Done.{TakesInput};
 ghost use Rattle.nm_cli.specs.Scripts.{ReadsSource, limit_of};
-ghost use Rattle.nm_cli.specs.declared.answers.Response.TheVariants.{Checked};
 
 use crate::answers::Response;
 use crate::checks::answer_trace;
@@ -67,9 +63,7 @@ fn answer_bytes<R: Threads + Wait + Sync, G: Gate + Sync>(
 ) -> Result<Response, Memory>
     requires range { InRange line.now }
     requires reads { ReadsSource line.now.mode }
-    ensures answer { IfOk result (IsAnswerForBytes line.now bytes.now) }
-    ensures holds { line.now.mode ≡ Check → IsTraced line.now bytes.now →
-        IfOk result (λ answer. answer ≡ Checked (Judged Holds)) }
+    ensures { IfOk result (IsAnswerForBytes line.now bytes.now) }
 {
     match line.mode {
         Mode::Check => answer_trace(alloc, line, bytes),
@@ -94,8 +88,6 @@ fn answer_source<R: Threads + Wait + Sync, S: Source, G: Gate + Sync>(
     ensures taken { LosesAtMost (limit_of line.now.mode) (S.left source.old) (S.left source.new) }
     ensures read { IfOk result (IsRead line.now (S.left source.old) (S.left source.new)
         (S.faults source.old) (S.faults source.new)) }
-    ensures holds { line.now.mode ≡ Check → IsSomeAnd (S.left source.old) (IsWritten line.now) →
-        IfOk result (λ answer. WasRead answer → answer ≡ Checked (Judged Holds)) }
 {
     match read_up_to(alloc, source, limit(&line.mode)) {
         Ok(bytes) => answer_bytes(rt, alloc, line, &bytes, gate),
@@ -141,8 +133,6 @@ fn answer_line<R: Threads + Wait + Sync, S: Source, G: Gate + Sync>(
     ensures taken { LosesAtMost (limit_of line.now.mode) (S.left source.old) (S.left source.new) }
     ensures read { IfOk result (IsRead line.now (S.left source.old) (S.left source.new)
         (S.faults source.old) (S.faults source.new)) }
-    ensures holds { line.now.mode ≡ Check → IsSomeAnd (S.left source.old) (IsWritten line.now) →
-        IfOk result (λ answer. WasRead answer → answer ≡ Checked (Judged Holds)) }
 {
     match line.mode {
         Mode::Flood {
@@ -167,18 +157,10 @@ pub fn find_answer<R: Threads + Wait + Sync, S: Source, G: Gate + Sync>(
     ensures answer { IfOk result (IsAnswer (map string_bytes words.now)
         (S.left source.old) (S.faults source.old) (S.faults source.new)) }
     ensures told { IfOk result CanBeTold }
-    ensures one { (line other : CommandLine) → IsTaken (map string_bytes words.now) line →
-        IsTaken (map string_bytes words.now) other → line ≡ other }
-    ensures untouched { NotTaken (map string_bytes words.now) → source.new ≡ source.old }
-    ensures made { (line : CommandLine) → IsTaken (map string_bytes words.now) line →
-        ¬ (ReadsSource line.mode) → source.new ≡ source.old }
-    ensures taken { (line : CommandLine) → IsTaken (map string_bytes words.now) line →
-        LosesAtMost (limit_of line.mode) (S.left source.old) (S.left source.new) }
+    ensures taken { TakesInput (map string_bytes words.now) (S.left source.old) (S.left source.new)
+        (source.new ≡ source.old) }
     ensures read { IfOk result (IsReadFor (map string_bytes words.now) (S.left source.old)
         (S.left source.new) (S.faults source.old) (S.faults source.new)) }
-    ensures holds { (line : CommandLine) → IsTaken (map string_bytes words.now) line →
-        line.mode ≡ Check → IsSomeAnd (S.left source.old) (IsWritten line) → IfOk result
-        (λ answer. WasRead answer → answer ≡ Checked (Judged Holds)) }
 {
     let Some(line) = read(words) else {
         return Ok(Response::Usage);

@@ -5,10 +5,11 @@
 //!
 //! # What a contract sees
 //! The words as lists of bytes; the bytes that the source tells, of which at most 8,388,609 are
-//! taken, with `check` 67,108,865, however it ends; the bytes that the sink tells; the status, the record of the run,
-//! what the closed ports kept, and the log of several threads. Statuses 0 to 6 have a clause each
-//! that says what they mean, and 0 to 3 one that says when they come; the words beside `run`,
-//! `trace` and `flood` have a clause each, which tells their cases apart.
+//! taken, with `check` 67,108,865, however it ends; the bytes that the sink tells; the status, the
+//! record of the run, what the closed ports kept, and the log of several threads. What is due is one
+//! relation, `IsAnswer`, case by case of what the words ask for and the bytes are. `nemesis` says by
+//! `done` that what is due is said and handed out, and nothing else. `laws` has what follows from
+//! that: what each status means and when it comes, and how each kind of words ends.
 //! # What is proved
 //! - Status 2 exactly where the words are not taken, and then nothing was read; 3 with `run`,
 //!   `trace` and `plain` exactly where the bytes spell no script; 0 and 1 of a run exactly where
@@ -40,28 +41,20 @@
 //! That it succeeds with ample memory.
 #![tactic(auto)]
 
-ghost use Rattle.std.specs.Prelude.{◌≡◌, ◌≢◌, ℕ, ◌⊎◌, None, List, Some, codes, drop, map};
-ghost use Rattle.std.specs.Prelude.{string_bytes, IfSome, IsSomeAnd};
-ghost use Rattle.nm_types.specs.declared.scripts.Line.{Line};
-ghost use Rattle.nm_outside.specs.Told.{Appends, AppendsPart, LosesAtMost, Rose};
+ghost use Rattle.std.specs.Prelude.{◌≡◌, ◌⊎◌, None, Some, map, string_bytes};
+ghost use Rattle.nm_outside.specs.Told.{Appends, AppendsPart, Rose};
 ghost use Rattle.nm_script.specs.CommandWords.{IsTaken};
 ghost use Rattle.nm_script.specs.declared.command_line.CommandLine.{CommandLine};
-ghost use Rattle.nm_script.specs.declared.command_line.Mode.TheVariants.{Check, Multi, Parts, Plain};
-ghost use Rattle.nm_sure.specs.PlainText.{plain_done};
-ghost use Rattle.nm_script.specs.Spelled.{SpellsNone};
 ghost use Rattle.nm_cli.specs.declared.answers.Response.{Response};
-ghost use Rattle.nm_cli.specs.Answers.{IsAnswer, IsReadFor, NotTaken, end_status, log_of, run_of};
-ghost use Rattle.nm_cli.specs.Answers.{text_of, unread, usage, ways_of};
-ghost use Rattle.nm_cli.specs.Endings.{IsLogged, IsRefused, IsReported, IsSaid, IsStatus};
-ghost use Rattle.nm_cli.specs.Endings.{IsPlanEnded, IsWorkedOut, OrFails, OrUnwritten};
-ghost use Rattle.nm_cli.specs.Plains.{IsDeterminate, sure_text};
-ghost use Rattle.nm_cli.specs.Scripts.{HandsOut, IsKnown, Makes, Reads, ReadsSource, Runs};
-ghost use Rattle.nm_cli.specs.Checks.{IsCheckedEnd, IsWritten};
-ghost use Rattle.nm_cli.specs.Scripts.{limit_of, read_of, sizes_for};
+ghost use Rattle.nm_cli.specs.Answers.{IsAnswer, IsReadFor, log_of, run_of, text_of, unread, ways_of};
+ghost use Rattle.nm_cli.specs.Done.{IsDone, TakesInput};
+ghost use Rattle.nm_cli.specs.Endings.{IsReported, IsSaid, IsStatus};
+ghost use Rattle.nm_cli.specs.Scripts.{Runs};
 
 mod answers;
 mod checks;
 mod finding;
+pub mod laws;
 mod plans;
 mod runs;
 
@@ -69,11 +62,7 @@ use answers::{Response, status, text};
 use finding::find_answer;
 use nm_multi::CallLog;
 use nm_outside::{Gate, Sink, Source, write_all};
-use nm_persist::runs::receives_show_their_sends;
 use nm_report::RunRecord;
-use nm_script::flood::laws::{floods_keep_the_limits, floods_name_their_messages};
-use nm_script::laws::one_script;
-use nm_sure::plain_runs_agree;
 use nm_world::Ways;
 use std::alloc::Global;
 use std::sync::Wait;
@@ -168,97 +157,33 @@ pub fn nemesis<R: Threads + Wait + Sync, S: Source, K: Sink, G: Gate + Sync>(
     sink: &mut K,
     gate: &G,
 ) -> Ended
-    // The words are not taken, and nothing is read.
-    ensures usage { result.status ≡ 2 → NotTaken (map string_bytes words.now)
-        × Appends (K.taken sink.old) (K.taken sink.new) usage }
-    ensures not_taken { NotTaken (map string_bytes words.now) →
-        OrUnwritten (result.status ≡ 2) result.status × (source.new ≡ source.old) }
-
-    // A script was to be read, and the bytes are none.
-    ensures refused { result.status ≡ 3 → (line : CommandLine)
-        × IsTaken (map string_bytes words.now) line × (Reads line.mode →
-        IfSome (S.left source.old) (IsRefused (K.taken sink.old) (K.taken sink.new))) }
-    ensures refuses { (line : CommandLine) → IsTaken (map string_bytes words.now) line →
-        Reads line.mode → IfSome (S.left source.old) (λ bytes.
-        SpellsNone (read_of bytes) → OrFails (result.status ≡ 3) result.status) }
-
     // A script ran, and every rank is at its end, or one waits for what can't come.
     ensures reported { (result.status ≡ 0) ⊎ (result.status ≡ 1) → (line : CommandLine)
         × IsTaken (map string_bytes words.now) line
         × (Runs line.mode → IsReported line (S.left source.old) result.status result.run
         result.closed (K.taken sink.old) (K.taken sink.new)) }
-    ensures reports { (line : CommandLine) → IsTaken (map string_bytes words.now) line →
-        Runs line.mode → (ranks : ℕ) (lines : List Line) →
-        IsKnown line.mode (S.left source.old) ranks lines →
-        OrFails ((result.status ≡ 0) ⊎ (result.status ≡ 1)) result.status }
 
-    // Words that are taken, a script, and no fault: then the run's text, whole, or want of memory.
-    ensures completes { (line : CommandLine) → IsTaken (map string_bytes words.now) line →
-        Runs line.mode → (ranks : ℕ) (lines : List Line) →
-        IsKnown line.mode (S.left source.old) ranks lines →
-        ¬ (Rose (S.faults source.old) (S.faults source.new)) →
-        ¬ (Rose (K.faults sink.old) (K.faults sink.new)) → (result.status ≡ 6)
-        ⊎ IsReported line (S.left source.old) result.status result.run result.closed
-        (K.taken sink.old) (K.taken sink.new) }
+    // What is due is said and handed out, and nothing else, by what the words ask for and the bytes
+    // are; or a write failed, or memory ran out.
+    ensures done { IsDone (record {
+      words = map string_bytes words.now;
+      input = S.left source.old;
+      left = S.left source.new;
+      read_old = S.faults source.old;
+      read_new = S.faults source.new;
+      before = K.taken sink.old;
+      after = K.taken sink.new;
+      write_old = K.faults sink.old;
+      write_new = K.faults sink.new;
+      status = result.status;
+      run = result.run;
+      closed = result.closed;
+      log = result.log;
+    }) }
 
-    // With run, trace and flood, also where the source doesn't tell its bytes: a run, or no script.
-    ensures ended { (line : CommandLine) → IsTaken (map string_bytes words.now) line →
-        Runs line.mode → OrFails ((result.status ≡ 0) ⊎ ((result.status ≡ 1)
-        ⊎ (result.status ≡ 3))) result.status }
-
-    // What is read: a script, a plan or a trace is read whole, or to the limit, no more is taken
-    // however it ends, and for a flood and for several threads nothing is.
-    ensures read { (line : CommandLine) → IsTaken (map string_bytes words.now) line →
-        ReadsSource line.mode → OrFails (IfSome (S.left source.old)
-        (λ bytes. S.left source.new ≡ Some (drop (limit_of line.mode) bytes))) result.status }
-    ensures taken { (line : CommandLine) → IsTaken (map string_bytes words.now) line →
-        LosesAtMost (limit_of line.mode) (S.left source.old) (S.left source.new) }
-    ensures untouched { (line : CommandLine) → IsTaken (map string_bytes words.now) line →
-        ¬ (ReadsSource line.mode) → source.new ≡ source.old }
-
-    // A flood needs no source.
-    ensures made { (line : CommandLine) → IsTaken (map string_bytes words.now) line →
-        Makes line.mode → OrUnwritten ((result.status ≡ 0) ⊎ (result.status ≡ 1)) result.status }
-
-    // With plain, by what the bytes spell: no script, one that is not plain, or a plain one.
-    ensures plain { (line : CommandLine) → IsTaken (map string_bytes words.now) line →
-        line.mode ≡ Plain → OrFails (IsWorkedOut line (S.left source.old) result.status
-        (K.taken sink.old) (K.taken sink.new)) result.status }
-
-    // All runs of a plain script are reported alike, and so are those of a flood: what is said is a
-    // function of the script and the sizes.
-    ensures determinate { (line : CommandLine) → IsTaken (map string_bytes words.now) line →
-        (ranks : ℕ) (lines : List Line) → IsKnown line.mode (S.left source.old) ranks lines →
-        IsDeterminate line.mode lines → (result.status ≡ 0) ⊎ (result.status ≡ 1) →
-        (result.status ≡ end_status (plain_done (sizes_for line ranks) lines))
-        × Appends (K.taken sink.old) (K.taken sink.new)
-        (sure_text line.mode (sizes_for line ranks) lines) }
-
-    // With check, by what the bytes are: no script with a trace, or one, with the verdict on the
-    // trace. That of a run of the script holds.
-    ensures check { (line : CommandLine) → IsTaken (map string_bytes words.now) line →
-        line.mode ≡ Check → OrFails (IsCheckedEnd line (S.left source.old) result.status
-        (K.taken sink.old) (K.taken sink.new)) result.status }
-    ensures holds { (line : CommandLine) → IsTaken (map string_bytes words.now) line →
-        line.mode ≡ Check → IsSomeAnd (S.left source.old) (IsWritten line) →
-        OrFails ((result.status ≡ 0)
-        × Appends (K.taken sink.old) (K.taken sink.new) (codes "holds\n")) result.status }
-
-    // With parts, by what the bytes spell: no plan, or a plan, whose script ran. What is said of a
-    // receive shows the body of that start at its sender.
-    ensures parts { (line : CommandLine) → IsTaken (map string_bytes words.now) line →
-        line.mode ≡ Parts → OrFails (IsPlanEnded line (S.left source.old) result.status result.run
-        result.closed (K.taken sink.old) (K.taken sink.new)) result.status }
-
-    // Several threads shared one rank. The log is one history that has each thread's calls.
-    ensures logged { (line : CommandLine) → IsTaken (map string_bytes words.now) line →
-        (threads rounds : ℕ) → line.mode ≡ Multi threads rounds →
-        OrUnwritten ((result.status ≡ 0) × IsLogged threads rounds result.log
-        (K.taken sink.old) (K.taken sink.new)) result.status }
-
-    // No failure is passed over.
-    ensures quiet { OrFails (S.faults source.new ≡ S.faults source.old) result.status }
-    ensures quiet_sink { (result.status ≡ 5) ⊎ (K.faults sink.new ≡ K.faults sink.old) }
+    // What is taken of the source, however it ends.
+    ensures taken { TakesInput (map string_bytes words.now) (S.left source.old) (S.left source.new)
+        (source.new ≡ source.old) }
 
     // The source failed.
     ensures unread { result.status ≡ 4 → Rose (S.faults source.old) (S.faults source.new)
@@ -273,17 +198,12 @@ pub fn nemesis<R: Threads + Wait + Sync, S: Source, K: Sink, G: Gate + Sync>(
         × AppendsPart (K.taken sink.old) (K.taken sink.new) (text_of answer)
         × (result.run ≡ run_of answer) × (result.closed ≡ ways_of answer)
         × (result.log ≡ log_of answer) }
+    ensures quiet_sink { (result.status ≡ 5) ⊎ (K.faults sink.new ≡ K.faults sink.old) }
 
     // Want of memory, before the first write.
     ensures memory { result.status ≡ 6 → (K.taken sink.new ≡ K.taken sink.old)
         × (result.run ≡ None) × (result.closed ≡ None) × (result.log ≡ None) }
     ensures statuses { IsStatus result.status }
-    ensures no_record { (result.status ≡ 2) ⊎ ((result.status ≡ 3) ⊎ (result.status ≡ 4)) →
-        (result.run ≡ None) × (result.closed ≡ None) × (result.log ≡ None) }
-    ensures no_run { (line : CommandLine) → IsTaken (map string_bytes words.now) line →
-        ¬ (HandsOut line.mode) → (result.run ≡ None) × (result.closed ≡ None) }
-    ensures no_log { (line : CommandLine) → IsTaken (map string_bytes words.now) line →
-        ((threads rounds : ℕ) → line.mode ≢ Multi threads rounds) → result.log ≡ None }
 {
     let Ok(answer) = find_answer(rt, alloc, words, source, gate) else {
         return hand_out_nothing(WANT_OF_MEMORY);
@@ -292,10 +212,5 @@ pub fn nemesis<R: Threads + Wait + Sync, S: Source, K: Sink, G: Gate + Sync>(
         return hand_out_nothing(WANT_OF_MEMORY);
     };
     let status = deliver(sink, &due, &answer);
-    one_script();
-    plain_runs_agree();
-    floods_keep_the_limits();
-    floods_name_their_messages();
-    receives_show_their_sends();
     hand_out(status, answer)
 }

@@ -1,7 +1,6 @@
 -- What was asked for is done, and a flood and several threads need no source.
-use Rattle.std.proofs.Common.{◌≡◌, sym, ◌∙◌}
 use Rattle.std.proofs.lemmas.Result.{IfOk-weaker}
-use Rattle.nm_script.specs.declared.command_line.Mode.TheVariants.{Flood, Multi, Check}
+use Rattle.nm_script.specs.declared.command_line.Mode.TheVariants.{Flood, Multi}
 use Rattle.nm_cli.proofs.RunLemmas.{flood_answered, log_answered, log_told, loses_none, told, unread_source}
 use Rattle.nm_cli.proofs.finding.answer_line.Goals as goal
 
@@ -27,12 +26,6 @@ returns-in-Flood-clause-read g c =
     (λ a h. unread_source c.args.line.now (Flood flood.key flood.ranks flood.messages) a flood.is (λ r. r))
     c.run_flood.ensures
 
-pub returns-in-Flood-clause-holds : goal.returns-in-Flood-clause-holds
-returns-in-Flood-clause-holds g c check written = absurd (apart (sym c.in-Flood.is ∙ check))
-  where
-    apart : Flood c.in-Flood.key c.in-Flood.ranks c.in-Flood.messages ≡ Check → ⊥
-    apart h = cc
-
 pub returns-in-Multi-clause-answer : goal.returns-in-Multi-clause-answer
 returns-in-Multi-clause-answer g c =
     IfOk-weaker c.run_threads.result _ _
@@ -52,9 +45,3 @@ returns-in-Multi-clause-read g c =
     IfOk-weaker c.run_threads.result _ _
     (λ a h. unread_source c.args.line.now (Multi c.in-Multi.threads c.in-Multi.rounds) a c.in-Multi.is (λ r. r))
     c.run_threads.ensures
-
-pub returns-in-Multi-clause-holds : goal.returns-in-Multi-clause-holds
-returns-in-Multi-clause-holds g c check written = absurd (apart (sym c.in-Multi.is ∙ check))
-  where
-    apart : Multi c.in-Multi.threads c.in-Multi.rounds ≡ Check → ⊥
-    apart h = cc

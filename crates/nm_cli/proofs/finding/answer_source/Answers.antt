@@ -1,13 +1,12 @@
 -- What was read is answered.
-use Rattle.std.proofs.Common.{◌≡◌, sym, subst}
+use Rattle.std.proofs.Common.{◌≡◌, subst}
 use Rattle.std.specs.Prelude.{IfOk, IfSome, take}
 use Rattle.std.proofs.lemmas.Result.{IfOk-weaker}
 use Rattle.nm_outside.specs.Told.{LosesAtMost}
 use Rattle.nm_outside.proofs.ReadingLemmas.{left_at}
 use Rattle.nm_cli.specs.Answers.{IsAnswerForBytes}
-use Rattle.nm_cli.specs.Checks.{IsTraced}
 use Rattle.nm_cli.specs.Scripts.{limit_of}
-use Rattle.nm_cli.proofs.RunLemmas.{bytes_answered, bytes_told, traced}
+use Rattle.nm_cli.proofs.RunLemmas.{bytes_answered, bytes_told}
 use Rattle.nm_cli.proofs.finding.answer_source.Goals as goal
 
 pub returns-in-Ok-clause-answer : goal.returns-in-Ok-clause-answer
@@ -17,12 +16,12 @@ returns-in-Ok-clause-answer g c =
     let read = c.in-Ok.bytes.items in
     let is = subst (λ n. IfSome input (λ bytes. read ≡ take n bytes)) c.limit.ensures c.in-Ok.ensures.bytes in
     let said = subst (λ read. IfOk c.answer_bytes.result (IsAnswerForBytes line read)) c.deref.ensures.value
-    c.answer_bytes.ensures.answer in
+    c.answer_bytes.ensures in
     IfOk-weaker c.answer_bytes.result _ _ (bytes_answered line input _ _ read is) said
 
 pub returns-in-Ok-clause-told : goal.returns-in-Ok-clause-told
 returns-in-Ok-clause-told g c =
-    IfOk-weaker c.answer_bytes.result _ _ (bytes_told c.args.line.now c.deref.result.now) c.answer_bytes.ensures.answer
+    IfOk-weaker c.answer_bytes.result _ _ (bytes_told c.args.line.now c.deref.result.now) c.answer_bytes.ensures
 
 pub returns-in-Ok-clause-taken : goal.returns-in-Ok-clause-taken
 returns-in-Ok-clause-taken g c =
@@ -38,13 +37,4 @@ returns-in-Ok-clause-read g c =
     let rest = left_at (limit_of line.mode) input _ read is c.in-Ok.ensures.rest in
     IfOk-weaker c.answer_bytes.result _ _
     (λ a h. record { quiet = λ was. c.in-Ok.ensures.quiet (λ failed. cc); whole = λ was reads. rest })
-    c.answer_bytes.ensures.answer
-
-pub returns-in-Ok-clause-holds : goal.returns-in-Ok-clause-holds
-returns-in-Ok-clause-holds g c check written =
-    let line = c.args.line.now in
-    let input = g.S.Source.left c.args.source.now in
-    let read = c.in-Ok.bytes.items in
-    let is = subst (λ n. IfSome input (λ bytes. read ≡ take n bytes)) c.limit.ensures c.in-Ok.ensures.bytes in
-    let trace = subst (IsTraced line) (sym c.deref.ensures.value) (traced line input read is written) in
-    IfOk-weaker c.answer_bytes.result _ _ (λ a h was. h) (c.answer_bytes.ensures.holds check trace)
+    c.answer_bytes.ensures
