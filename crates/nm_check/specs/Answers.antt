@@ -1,12 +1,19 @@
 -- What the program answers: a text and a status.
 use Rattle.std.specs.Prelude.{◌≡◌, ℕ, ◌⊎◌, List, IfSome, Option, Some, codes, drop, take}
+use Rattle.nm_types.specs.declared.scripts.Line.{Line}
 use Rattle.nm_script.specs.CommandWords.{IsTaken}
 use Rattle.nm_script.specs.declared.command_line.CommandLine.{CommandLine}
 use Rattle.nm_script.specs.declared.command_line.Mode.TheVariants.{Check}
+use Rattle.nm_script.specs.Spelled.{IsTextOf}
 use Rattle.nm_outside.specs.Told.{Appends, AppendsPart, Rose}
+use Rattle.nm_report.specs.Lawful.{IsRunIn}
+use Rattle.nm_report.specs.declared.records.RunRecord.{RunRecord}
+use Rattle.nm_trace.specs.Traces.{IsTraceOf}
 use Rattle.nm_check.specs.declared.verdicts.Verdict.{Verdict}
 use Rattle.nm_check.specs.declared.verdicts.Verdict.TheVariants.{Holds}
-use Rattle.nm_check.specs.Checks.{IsChecked}
+use Rattle.nm_check.specs.Checks.{IsChecked, IsInput, sizes}
+use Rattle.nm_check.specs.declared.checked.checks.Checked.TheVariants as what
+use Rattle.nm_check.specs.Done.{Ending}
 use Rattle.nm_check.specs.Found.{IsFound, checked_of}
 use Rattle.nm_check.specs.declared.breaks.finding.Found.{Found}
 use Rattle.nm_check.specs.declared.breaks.finding.Found.TheVariants.{NoTrace, NoScript, BadTrace, Judged}
@@ -59,11 +66,28 @@ IsAsked words line = IsTaken words line × (line.mode ≡ Check)
 abbrev pub NotAsked : List (List ℕ) → Type 0
 NotAsked words = (line : CommandLine) → ¬ (IsAsked words line)
 
+-- these bytes are a script and the trace of one of its runs
+pub record IsTraced (line : CommandLine) (bytes : List ℕ) : Type 0 where
+  pub front : List ℕ
+  pub rest : List ℕ
+  pub ranks : ℕ
+  pub lines : List Line
+  pub run : RunRecord
+  pub input : IsInput bytes front rest
+  pub script : IsTextOf front ranks lines
+  pub trace : IsTraceOf (sizes line.cells line.eager ranks) rest run
+  pub lawful : IsRunIn (sizes line.cells line.eager ranks) lines run
+
+-- the bytes are, as far as they are read
+abbrev pub IsWritten : CommandLine → List ℕ → Type 0
+IsWritten line bytes = IsTraced line (read_of bytes)
+
 -- It is what these bytes are, in the sizes of the words: what a check says of them, and where they break the
--- rule first.
+-- rule first. The trace of a run of the script holds.
 pub record IsFoundIn (line : CommandLine) (found : Found) (bytes : List ℕ) : Type 0 where
   pub checked : IsChecked line.cells line.eager bytes (checked_of found)
   pub placed : IsFound line.cells line.eager bytes found
+  pub holds : IsTraced line bytes → checked_of found ≡ what.Judged Holds
 
 -- .. of the bytes of a source where it tells them
 abbrev pub IsFoundOf : CommandLine → Option (List ℕ) → Found → Type 0
@@ -73,12 +97,17 @@ IsFoundOf line input found = IfSome input (λ bytes. IsFoundIn line found (read_
 abbrev pub IsQuoteOf : Option (List ℕ) → Found → Option (List ℕ) → Type 0
 IsQuoteOf input found quote = IfSome input (λ bytes. quote ≡ quote_of (read_of bytes) found)
 
+-- the words ask for this and nothing else
+pub record AsksFor (words : List (List ℕ)) (line : CommandLine) : Type 0 where
+  pub asked : IsAsked words line
+  pub only : (other : CommandLine) → IsAsked words other → other ≡ line
+
 -- an answer is right: by the words, by the bytes of the source, and by its count of faults before and after
 abbrev pub IsAnswer : List (List ℕ) → Option (List ℕ) → ℕ → ℕ → Response → Type 0
 IsAnswer words input old new Usage = NotAsked words
 IsAnswer words input old new Unread = ((line : CommandLine) × IsAsked words line) × Rose old new
 IsAnswer words input old new (Told found quote) =
-    (line : CommandLine) × IsAsked words line × IsFoundOf line input found × IsQuoteOf input found quote
+    (line : CommandLine) × AsksFor words line × IsFoundOf line input found × IsQuoteOf input found quote
 
 -- the source was read
 abbrev pub WasRead : Response → Type 0
@@ -101,3 +130,10 @@ abbrev pub IsSaid : Response → ℕ → Option (List ℕ) → Option (List ℕ)
 IsSaid answer status old new fails =
     ((status ≡ status_of answer) × Appends old new (text_of answer))
     ⊎ ((status ≡ 5) × fails × AppendsPart old new (text_of answer))
+
+-- It ends with this answer: it is right, the source was read for it, and its text was written, whole and with its
+-- status, or the sink failed.
+pub record SaysVerdict (e : Ending) (answer : Response) : Type 0 where
+  pub right : IsAnswer e.words e.input e.read_old e.read_new answer
+  pub read : IsRead e.words e.input e.left e.read_old e.read_new answer
+  pub said : IsSaid answer e.status e.before e.after (Rose e.write_old e.write_new)

@@ -1,15 +1,9 @@
 -- How the program ends: what was said, with which status.
 use Rattle.std.specs.Prelude.{◌≡◌, ℕ, ◌⊎◌, List, Option}
-use Rattle.nm_types.specs.declared.scripts.Line.{Line}
 use Rattle.nm_script.specs.declared.command_line.CommandLine.{CommandLine}
 use Rattle.nm_outside.specs.Told.{Appends}
-use Rattle.nm_script.specs.Spelled.{IsTextOf}
-use Rattle.nm_report.specs.Lawful.{IsRunIn}
-use Rattle.nm_report.specs.declared.records.RunRecord.{RunRecord}
-use Rattle.nm_trace.specs.Traces.{IsTraceOf}
-use Rattle.nm_check.specs.Checks.{IsInput, sizes}
 use Rattle.nm_check.specs.declared.breaks.finding.Found.{Found}
-use Rattle.nm_check.specs.Answers.{IsAsked, IsFoundOf, IsQuoteOf, found_status, read_of}
+use Rattle.nm_check.specs.Answers.{IsAsked, IsFoundOf, IsQuoteOf, found_status}
 use Rattle.nm_check.specs.VerdictTexts.{found_text}
 
 -- The words ask for a verdict, and it was said of the bytes what they are, with the line that is told.
@@ -23,18 +17,6 @@ pub record IsTold (words : List (List ℕ)) (input : Option (List ℕ)) (status 
   pub quoted : IsQuoteOf input found quote
   pub ended : status ≡ found_status found
   pub said : Appends old new (found_text found quote)
-
--- the bytes are a script and the trace of one of its runs
-pub record IsWritten (line : CommandLine) (bytes : List ℕ) : Type 0 where
-  pub front : List ℕ
-  pub rest : List ℕ
-  pub ranks : ℕ
-  pub lines : List Line
-  pub run : RunRecord
-  pub input : IsInput (read_of bytes) front rest
-  pub script : IsTextOf front ranks lines
-  pub trace : IsTraceOf (sizes line.cells line.eager ranks) rest run
-  pub lawful : IsRunIn (sizes line.cells line.eager ranks) lines run
 
 -- the statuses at which something was said of the bytes
 abbrev pub IsSpoken : ℕ → Type 0

@@ -1,6 +1,7 @@
 pub mod Answers
 pub mod CellCounts
 pub mod Checks
+pub mod Done
 pub mod Dues
 pub mod Endings
 pub mod Evidences

@@ -1,7 +1,8 @@
 //! Traces in, verdicts out: where a trace breaks a rule of its script first, in plain words.
 //!
 //! `verdict` is the one top call. It takes the words of `nemesis check`, reads a script and a trace,
-//! and writes one line.
+//! and writes one line. It says by one relation, `IsDone`, that what is due is said and nothing else;
+//! `laws` has what follows from that.
 //!
 //! # What a contract sees
 //! Bytes as a list of numbers. `nm_check::breaks` says what is found of them, and `specs/Quotes.antt` which
@@ -25,6 +26,7 @@ mod called;
 mod counts;
 mod dues;
 mod incidents;
+pub mod laws;
 mod quotes;
 mod sentences;
 mod texts;

@@ -1,18 +1,14 @@
 //! The whole program: words, a script and a trace in, a verdict and a status out.
 
-ghost use Rattle.std.specs.Prelude.{◌≡◌, ◌⊎◌, ℕ, List, Some, drop, map, string_bytes};
-ghost use Rattle.std.specs.Prelude.{IfOk, IfSome, IsSomeAnd, MatchOption};
+ghost use Rattle.std.specs.Prelude.{◌≡◌, ◌⊎◌, Some, map, string_bytes, IfOk, IfSome, MatchOption};
 ghost use Rattle.nm_script.specs.CommandWords.{InRange};
-ghost use Rattle.nm_outside.specs.Told.{Appends, AppendsPart, LosesAtMost, Rose};
-ghost use Rattle.nm_check.specs.declared.verdicts.Verdict.TheVariants.{Holds};
-ghost use Rattle.nm_check.specs.declared.checked.checks.Checked.TheVariants as checked;
-ghost use Rattle.nm_check.specs.Found.{checked_of};
-ghost use Rattle.nm_check.specs.declared.verdict.answers.Response.{Response};
-ghost use Rattle.nm_check.specs.Answers.{AreAsked, IsAnswer, IsAsked, IsRead, IsSaid, NotAsked};
-ghost use Rattle.nm_check.specs.Answers.{status_of, text_of, unread, usage};
-ghost use Rattle.nm_check.specs.Endings.{IsSpoken, IsStatus, IsTold, IsWritten, OrFails};
-ghost use Rattle.nm_check.specs.Endings.{OrUnwritten};
 ghost use Rattle.nm_script.specs.declared.command_line.CommandLine as the_line;
+ghost use Rattle.nm_outside.specs.Told.{Appends, AppendsPart, LosesAtMost, Rose};
+ghost use Rattle.nm_check.specs.declared.verdict.answers.Response.{Response};
+ghost use Rattle.nm_check.specs.Answers.{IsAnswer, IsAsked, IsRead, IsSaid, NotAsked, SaysVerdict};
+ghost use Rattle.nm_check.specs.Answers.{text_of, unread};
+ghost use Rattle.nm_check.specs.Done.{IsDone};
+ghost use Rattle.nm_check.specs.Endings.{IsSpoken, IsTold};
 
 use crate::breaks::find;
 use crate::verdict::answers::{Response, status, text};
@@ -60,9 +56,6 @@ fn find_answer<S: Source>(
     ensures taken { LosesAtMost 67108865 (S.left source.old) (S.left source.new) }
     ensures read { IfOk result (IsRead (map string_bytes words.now) (S.left source.old)
         (S.left source.new) (S.faults source.old) (S.faults source.new)) }
-    ensures holds { (line : the_line.CommandLine) → IsAsked (map string_bytes words.now) line →
-        IsSomeAnd (S.left source.old) (IsWritten line) →
-        IfOk result (λ answer. OrFails (status_of answer ≡ 0) (status_of answer)) }
 {
     let Some(line) = asked(words) else {
         return Ok(Response::Usage);
@@ -104,28 +97,29 @@ pub fn verdict<S: Source, K: Sink>(
     source: &mut S,
     sink: &mut K,
 ) -> u8
-    // The words are not taken, and nothing is read.
-    ensures usage { result ≡ 2 → NotAsked (map string_bytes words.now)
-        × Appends (K.taken sink.old) (K.taken sink.new) usage }
-    ensures not_taken { NotAsked (map string_bytes words.now) →
-        OrUnwritten (result ≡ 2) result × (source.new ≡ source.old) }
-
     // What a check says of the bytes, and where they break the rule first.
     ensures told { IsSpoken result → IsTold (map string_bytes words.now) (S.left source.old) result
         (K.taken sink.old) (K.taken sink.new) }
 
-    // The trace of a run of the script holds.
-    ensures holds { (line : the_line.CommandLine) → IsAsked (map string_bytes words.now) line →
-        IsSomeAnd (S.left source.old) (IsWritten line) → OrFails (result ≡ 0) result }
+    // What is due is said, and nothing else, by the words and the bytes; or a write failed, or memory
+    // ran out.
+    ensures done { IsDone SaysVerdict (record {
+      words = map string_bytes words.now;
+      input = S.left source.old;
+      left = S.left source.new;
+      read_old = S.faults source.old;
+      read_new = S.faults source.new;
+      before = K.taken sink.old;
+      after = K.taken sink.new;
+      write_old = K.faults sink.old;
+      write_new = K.faults sink.new;
+      status = result;
+    }) }
 
-    // The source is read to its end, or to the limit, and no more is taken however it ends.
-    ensures read { AreAsked (map string_bytes words.now) → OrFails (IfSome (S.left source.old)
-        (λ bytes. S.left source.new ≡ Some (drop 67108865 bytes))) result }
+    // Where the words are not taken, nothing is read, and no more is taken than may be read however
+    // it ends.
+    ensures not_taken { NotAsked (map string_bytes words.now) → source.new ≡ source.old }
     ensures taken { LosesAtMost 67108865 (S.left source.old) (S.left source.new) }
-
-    // No failure is passed over.
-    ensures quiet { OrFails (S.faults source.new ≡ S.faults source.old) result }
-    ensures quiet_sink { (result ≡ 5) ⊎ (K.faults sink.new ≡ K.faults sink.old) }
 
     // The source failed.
     ensures unread { result ≡ 4 → Rose (S.faults source.old) (S.faults source.new)
@@ -136,10 +130,10 @@ pub fn verdict<S: Source, K: Sink>(
         × (answer : Response) × IsAnswer (map string_bytes words.now) (S.left source.old)
         (S.faults source.old) (S.faults source.new) answer
         × AppendsPart (K.taken sink.old) (K.taken sink.new) (text_of answer) }
+    ensures quiet_sink { (result ≡ 5) ⊎ (K.faults sink.new ≡ K.faults sink.old) }
 
     // Want of memory, before the first write.
     ensures memory { result ≡ 6 → K.taken sink.new ≡ K.taken sink.old }
-    ensures statuses { IsStatus result }
 {
     let Ok(answer) = find_answer(alloc, words, source) else {
         return WANT_OF_MEMORY;

@@ -1,0 +1,26 @@
+-- How a call of a program ends that answers words and a source with a text: one relation of what is seen of it,
+-- whatever its answers are.
+use Rattle.std.specs.Prelude.{◌≡◌, ℕ, ◌⊎◌, List, Option}
+
+-- What is seen of a call: its words, what the source told and has left, with its counts of faults, what the sink
+-- took before and after, with its counts, and the status.
+pub record Ending : Type 0 where
+  pub words : List (List ℕ)
+  pub input : Option (List ℕ)
+  pub left : Option (List ℕ)
+  pub read_old : ℕ
+  pub read_new : ℕ
+  pub before : Option (List ℕ)
+  pub after : Option (List ℕ)
+  pub write_old : ℕ
+  pub write_new : ℕ
+  pub status : ℕ
+
+-- memory ran out before the first write
+pub record RanShort (e : Ending) : Type 0 where
+  pub memory : e.status ≡ 6
+  pub unsaid : e.after ≡ e.before
+
+-- it ended with one of these answers, or memory ran out
+abbrev pub IsDone : {A : Type 0} → (Ending → A → Type 0) → Ending → Type 0
+IsDone {A} Ends e = RanShort e ⊎ ((answer : A) × Ends e answer)
