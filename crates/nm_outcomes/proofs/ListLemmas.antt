@@ -2,7 +2,7 @@
 use Rattle.std.proofs.Common.{◌≤◌, ◌≡◌, ℕ, suc, ◌+◌, ◌||◌, not, Bool, true, false, cond, Some, None, List, []}
 use Rattle.std.proofs.Common.{◌∷◌, ◌++◌}
 use Rattle.std.proofs.Common.{length, map, refl, sym, ◌∙◌, ap, arith}
-use Rattle.std.specs.Prelude.{insert, nat_lt, option_map, unwrap_or}
+use Rattle.std.specs.Prelude.{insert, nat_lt, unwrap_or}
 use Rattle.std.specs.List.{filter, find, list_any, position, position_or_len}
 use Rattle.std.proofs.lemmas.List.Elements.{filter-append}
 use Rattle.std.proofs.lemmas.List.Folds.{list_any-append}

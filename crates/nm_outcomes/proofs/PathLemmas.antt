@@ -261,7 +261,8 @@ module _ (shape : Sizes) (lines : List Line) (commands : AreCommands shape.ranks
   AllDue log = (i : ℕ) → AtEach (λ b e. IsDue shape.eager (commands_of i lines) b e.what) (history_in log i)
 
   -- the places after a step
-  moved_are : (before : List Step) (s : Step) (w : ℕ → RankPoint) → IsLog shape lines before → ArePlaces lines before w →
+  moved_are : (before : List Step) (s : Step) (w : ℕ → RankPoint) → IsLog shape lines before →
+      ArePlaces lines before w →
       MayCome shape lines (history_in before) s.rank s.event → ArePlaces lines (before ++ s ∷ []) (moved lines w s)
   moved_are before s w is are next i = by_rank (s.rank == i) refl
     where

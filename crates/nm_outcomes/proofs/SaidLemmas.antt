@@ -51,7 +51,8 @@ fold_map : {A B S : Type 0} (g : A → B) (f : S → B → S) (s : S) (xs : List
 fold_map g f s [] = refl
 fold_map g f s (x ∷ xs) = fold_map g f (f s (g x)) xs
 
-pub first_own : {X : Type 0} (f : Happened → Option X) → ((what : Happened) → is_of_packet what ≡ true → f what ≡ None) →
+pub first_own : {X : Type 0} (f : Happened → Option X) →
+    ((what : Happened) → is_of_packet what ≡ true → f what ≡ None) →
     (h : List Event) → filter_map (λ (e : Event). f e.what) h ≡ filter_map f (own_of h)
 first_own f none [] = refl
 first_own {X} f none (e ∷ h) = by_kind (is_of_packet e.what) refl (first_own f none h)

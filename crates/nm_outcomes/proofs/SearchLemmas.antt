@@ -40,6 +40,7 @@ module _ {S X : Type 0} (Goes : S → S → Type 0) (Ends : S → Type 0) (At : 
         by_kind : IsExplored Goes At Chosen Found s → ((t : S) → Found t → IsPath Goes n t e → Found e) → Found e
         by_kind (inl all) more = more path.0 (all path.0 path.1) path.2
         by_kind (inr some) more =
-            let first = chosen_first Goes Ends (At some.0) (Chosen some.0) (enough some.0) (suc n) s e some.1 path ends in
+            let first = chosen_first Goes Ends (At some.0) (Chosen some.0) (enough some.0)
+            (suc n) s e some.1 path ends in
             let same : first.0 ≡ n = (let one = first.1 in omega (arith, one)) in
             more first.2 (some.2 first.2 first.3) (subst (λ (m : ℕ). IsPath Goes m first.2 e) same first.4)

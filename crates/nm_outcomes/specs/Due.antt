@@ -38,10 +38,11 @@ pub record IsAnswerOf (commands : List Numbered) (before : List Event) (line : �
   pub next : IsNextCommand commands before command
   pub line_is : command.line ≡ line
 
--- the commands that cancel the request of a name, and that receive the message of a handle
+-- the command that cancels the request of a name
 abbrev pub cancel_of : ℕ → Command
 cancel_of name = command.Cancel name
 
+-- the command that receives the message of a handle
 abbrev pub receive_of : ℕ → ℕ → ℕ → Command
 receive_of name handle cap = command.Mrecv name handle cap
 

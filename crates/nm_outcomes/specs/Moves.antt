@@ -30,10 +30,11 @@ use Rattle.nm_outcomes.specs.Logs.{IsLog, MayCome, Step, history_in}
 use Rattle.nm_outcomes.specs.Places.{IsPlaceOf, RankPoint}
 use Rattle.nm_history.specs.declared.events.Event.{Event}
 
--- the live request of a name, and the live message of a handle
+-- the live request of a name
 abbrev pub request_now : RankPoint → ℕ → Option Request
 request_now place q = option_and_then place.requests (place.named q)
 
+-- the live message of a handle
 abbrev pub message_now : RankPoint → ℕ → Option Message
 message_now place m = option_and_then place.claims (place.handled m)
 
@@ -114,11 +115,12 @@ claim_in place line (command.Mprobe m from tag ctx) =
     option_map_or (λ a. Claim a.env.from a.n line ∷ []) (found_in place from tag ctx) []
 claim_in place line _ = []
 
--- the message of a receive, and the one whose bytes a wait or a test shows
+-- the receive of a request, with its message
 abbrev pub pair_in : RankPoint → Request → Option Pair
 pair_in place (Receiving number) = place.pairs number
 pair_in place (Sending to n) = None
 
+-- the receive whose bytes a wait or a test shows, with its message
 abbrev pub asked_in : RankPoint → Command → Option Pair
 asked_in place (command.Wait q) = option_and_then (pair_in place) (request_now place q)
 asked_in place (command.Test q) = option_and_then (pair_in place) (request_now place q)

@@ -66,7 +66,7 @@ pub record AreCommands (ranks : ℕ) (lines : List Line) : Type 0 where
   pub addressed :
       (i line : ℕ) (c : Command) → command_at (commands_of i lines) line ≡ Some c → IsAddressed ranks c
 
--- each run of a script is a path of moves, whose end is where its histories are
+-- the log of a run is a path of moves, whose end is where its histories are
 pub record IsPathOf (shape : Sizes) (lines : List Line) (ranks : List Ended) (log : List Step) : Type 0 where
   pub log_of : IsLogOf shape lines ranks log
   pub moves : AreMoves shape lines (λ i. first_place) log
@@ -74,6 +74,7 @@ pub record IsPathOf (shape : Sizes) (lines : List Line) (ranks : List Ended) (lo
       (i : ℕ) →
       IsPlaceOf i (commands_of i lines) (events_of ranks i) (moved_by lines (λ i. first_place) log i)
 
+-- each run of a script is such a path
 abbrev pub RunsArePaths : Type 0
 RunsArePaths =
     (shape : Sizes) (lines : List Line) (ranks : List Ended) (packets : List Packets) →

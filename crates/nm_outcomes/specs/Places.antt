@@ -92,10 +92,11 @@ abbrev pub or_else : {X : Type 0} → Option X → Option X → Option X
 or_else None b = b
 or_else (Some a) b = Some a
 
--- the oldest free message that a receive selects, and the oldest open receive that selects a message
+-- the oldest free message that a receive selects
 abbrev pub message_for : RankPoint → post.Post → Option Arrival
 message_for place p = find (λ a. matches p.from p.tag p.ctx a.env) place.messages
 
+-- the oldest open receive that selects a message
 abbrev pub receive_for : RankPoint → Arrival → Option post.Post
 receive_for place a = find (λ p. matches p.from p.tag p.ctx a.env) place.receives
 

@@ -42,7 +42,11 @@ Tells {X} E = (x y : X) → Decides (E x y) (x ≡ y)
 module _ {A B : Type 0} {E : A → A → Bool} {F : B → B → Bool} where
   both : Tells E → Tells F → Tells (λ (x y : A × B). E x.0 y.0 && F x.1 y.1)
   both one two x y = (
-    λ so i. ((one x.0 y.0).0 (first (E x.0 y.0) (F x.1 y.1) so) i, (two x.1 y.1).0 (second (E x.0 y.0) (F x.1 y.1) so) i),
+    λ so i. (
+      (one x.0 y.0).0 (first (E x.0 y.0) (F x.1 y.1) so) i,
+      (two x.1 y.1).0 (second (E x.0 y.0) (F x.1 y.1) so)
+          i,
+    ),
     λ is. and_so (E x.0 y.0) (F x.1 y.1) ((one x.0 y.0).1 (ap (λ (p : A × B). p.0) is))
         ((two x.1 y.1).1 (ap (λ (p : A × B). p.1) is)),
   )
@@ -279,6 +283,7 @@ module _ {X : Type 0} {E : X → X → Bool} (tells : Tells E) where
         congr = λ x y z so. ap (λ (w : X). E w z) ((tells x y).0 so);
       }
 
+-- so is the test of states
 pub spots_equiv : IsEquivalence same_spots
 spots_equiv = equivalence same_spot
 
