@@ -1,11 +1,10 @@
 -- Each answer that may come next is one that the states give.
-use Rattle.std.proofs.Common.{◌≡◌, ◌⊎◌, inl, inr, ℕ, ◌<◌, ◌&&◌, not, Bool, true, false, cond, Option, Some, None, List, []}
+use Rattle.std.proofs.Common.{◌≡◌, ◌⊎◌, inl, inr, ℕ, ◌&&◌, not, Bool, true, false, cond, Option, Some, None, List, []}
 use Rattle.std.proofs.Common.{◌∷◌, map, refl, sym, ◌∙◌, ap, subst, arith}
-use Rattle.std.specs.Prelude.{if◌then◌else◌, IfSome, IsSomeAnd, MatchOption, is_some, option_and_then, option_map}
+use Rattle.std.specs.Prelude.{if◌then◌else◌, IfSome, MatchOption, is_some, option_and_then, option_map}
 use Rattle.std.specs.Prelude.{unwrap_or}
-use Rattle.std.specs.List.{find, list_any, slice_get}
+use Rattle.std.specs.List.{find}
 use Rattle.std.specs.Option.{option_map_or}
-use Rattle.std.proofs.lemmas.Bool.{false≢true}
 use Rattle.nm_types.specs.declared.answers.Answer.{Answer}
 use Rattle.nm_types.specs.declared.answers.Answer.TheVariants as answer
 use Rattle.nm_types.specs.declared.messages.Arrival.{Arrival}
@@ -14,7 +13,7 @@ use Rattle.nm_types.specs.declared.messages.TagPick.{TagPick}
 use Rattle.nm_types.specs.declared.scripts.Command.{Command}
 use Rattle.nm_types.specs.declared.scripts.Command.TheVariants as command
 use Rattle.nm_types.specs.declared.scripts.Line.{Line}
-use Rattle.nm_types.specs.Commands.{Numbered, command_at, commands_of}
+use Rattle.nm_types.specs.Commands.{Numbered, commands_of}
 use Rattle.nm_types.specs.Sizes.{Sizes}
 use Rattle.nm_history.specs.declared.events.Event.{Event}
 use Rattle.nm_history.specs.declared.events.Happened.{Happened}
@@ -23,33 +22,31 @@ use Rattle.nm_history.specs.declared.plain.Pair.{Pair}
 use Rattle.nm_history.specs.Answers.{Message, answer_of, claim_at, is_seen, is_started, live, live_message, seen, without_bytes}
 use Rattle.nm_history.specs.Completion.{Request, is_here, pair_of_receive, result_of, shown}
 use Rattle.nm_history.specs.Completion.Request.{Receiving, Sending}
-use Rattle.nm_history.specs.Happens.{happened, is_cancel, is_recall}
-use Rattle.nm_history.specs.Matching.{is_of_receive, matched_pairs}
+use Rattle.nm_history.specs.Happens.{happened, is_cancel}
 use Rattle.nm_history.specs.RankRun.{CancelsFor, CancelsOf, cancels_since, claims_since, is_matched_probe, start_of}
 use Rattle.nm_history.specs.RankRun.{starts_since, without_number}
 use Rattle.nm_history.specs.Selection.{matches}
 use Rattle.nm_history.specs.Sends.{message_of}
 use Rattle.nm_match.specs.Deeds.{is_message}
 use Rattle.nm_lookups.specs.Queues.{free_messages}
-use Rattle.nm_types.proofs.OptionLemmas.{mapped_some, no_some, same_some}
+use Rattle.nm_types.proofs.OptionLemmas.{no_some, same_some}
 use Rattle.nm_outcomes.specs.Logs.{Step, history_in}
 use Rattle.nm_outcomes.specs.Moves.{AreBytesOf, MayAnswer, ShowsBytes, cancel_in, may_show, pair_in}
 use Rattle.nm_outcomes.specs.declared.spots.deeds.Deed.{Deed}
 use Rattle.nm_outcomes.specs.declared.spots.deeds.Deed.TheVariants as deed
 use Rattle.nm_outcomes.specs.declared.spots.deeds.Reply.{Reply}
 use Rattle.nm_outcomes.specs.declared.spots.deeds.Reply.TheVariants as reply
-use Rattle.nm_outcomes.specs.Deeds.{answer_meant, happening}
-use Rattle.nm_outcomes.specs.Looks.{IsSaid, claim_in, found_at, is_recall_by, live_in, message_in}
+use Rattle.nm_outcomes.specs.Deeds.{happening}
+use Rattle.nm_outcomes.specs.Looks.{IsSaid, claim_in, found_at, live_in, message_in}
 use Rattle.nm_outcomes.specs.RankStates.{Spot}
 use Rattle.nm_outcomes.proofs.SaidLemmas.{said}
 use Rattle.nm_outcomes.proofs.SpotLemmas.{off_is}
 use Rattle.nm_explored.specs.Successors.{answer_in, cancelled_at, is_idle_at, may_be_open, probed_at, received_at}
-use Rattle.nm_explored.specs.Successors.{recalled_at}
 use Rattle.nm_explored.specs.Successors.{result_in, seen_at, started_at}
-use Rattle.nm_explored.specs.Moves.{IsDeedOf, no_in, reply_in}
+use Rattle.nm_explored.specs.Moves.{IsDeedOf}
 use Rattle.nm_explored.specs.Settings.{IsAt}
-use Rattle.nm_explored.proofs.PlacedLemmas.{arrival_said, found_said, in_pairs, paired_said, placed}
-use Rattle.nm_explored.proofs.ResultLemmas.{Replies, is_got, plain_answer, replies_by, result_said}
+use Rattle.nm_explored.proofs.PlacedLemmas.{arrival_said, found_said, paired_said, placed}
+use Rattle.nm_explored.proofs.ResultLemmas.{Replies, plain_answer, replies_by, result_said}
 use Rattle.nm_explored.proofs.SinceLemmas.{busy_cancel, busy_claim, busy_start, idle}
 
 no_cancelled : answer.Cancelled ≡ answer.No → ⊥

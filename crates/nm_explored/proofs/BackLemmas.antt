@@ -1,13 +1,13 @@
 -- How the states of a store were found.
-use Rattle.std.proofs.Common.{◌≡◌, ◌⊎◌, inl, inr, ℕ, zero, suc, ◌+◌, ◌<◌, ◌≤◌, true, Option, Some, None, List, [], ◌∷◌, ◌++◌}
+use Rattle.std.proofs.Common.{◌≡◌, ◌⊎◌, inl, inr, ℕ, ◌+◌, ◌≤◌, true, Option, Some, None, List, [], ◌∷◌, ◌++◌}
 use Rattle.std.proofs.Common.{length, get_or, replicate, refl, sym, ◌∙◌, ap, subst, arith, length-append, append_assoc, append-nil}
 use Rattle.std.specs.Prelude.{option_and_then}
 use Rattle.std.specs.List.{slice_get, slice_set}
 use Rattle.std.proofs.lemmas.List.{map-set}
 use Rattle.std.proofs.lemmas.Option.{get_or_from_slice_get}
 use Rattle.nm_types.specs.declared.scripts.Line.{Line}
-use Rattle.nm_types.proofs.ListLemmas.{get_some, no_item, place_below}
-use Rattle.nm_types.proofs.OptionLemmas.{no_some, same_some}
+use Rattle.nm_types.proofs.ListLemmas.{get_some, place_below}
+use Rattle.nm_types.proofs.OptionLemmas.{no_some}
 use Rattle.nm_outcomes.specs.RankStates.{Spot, first_spot}
 use Rattle.nm_outcomes.proofs.SentLemmas.{get_more}
 use Rattle.nm_explored.specs.declared.choices.moves.Turn.{Turn}

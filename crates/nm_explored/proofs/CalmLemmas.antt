@@ -1,12 +1,11 @@
 -- In a script without cancels nothing is cancelled, recalled or withdrawn.
-use Rattle.std.proofs.Common.{◌≡◌, ◌⊎◌, inl, inr, ℕ, ◌+◌, ◌==◌, ◌&&◌, ◌||◌, not, Bool, true, false, cond, Option, Some, None}
-use Rattle.std.proofs.Common.{List, [], ◌∷◌, ◌++◌, replicate, zero, suc, refl, sym, ◌∙◌, ap, subst}
+use Rattle.std.proofs.Common.{◌≡◌, inl, inr, ℕ, ◌+◌, ◌==◌, ◌&&◌, ◌||◌, not, Bool, true, false, cond, Option, Some, None}
+use Rattle.std.proofs.Common.{List, [], ◌∷◌, replicate, zero, suc, refl, sym, ◌∙◌, ap, subst}
 use Rattle.std.specs.Prelude.{if◌then◌else◌, count_by, option_and_then, option_map}
 use Rattle.std.specs.List.{find, list_all, list_any, slice_get, slice_set}
 use Rattle.std.specs.Option.{option_map_or}
 use Rattle.std.proofs.lemmas.Bool.{false≢true}
 use Rattle.std.proofs.lemmas.List.Folds.{list_any-append}
-use Rattle.std.proofs.Math.Bool.{or-false}
 use Rattle.nm_types.specs.declared.messages.Arrival.{Arrival}
 use Rattle.nm_types.specs.declared.scripts.Command.{Command}
 use Rattle.nm_types.specs.declared.scripts.Command.TheVariants as command
@@ -88,7 +87,8 @@ module _ (eager : ℕ) (lines : List Line) (v : ℕ → Option Spot) (i : ℕ) (
   calm_start (command.Recv q from tag ctx cap) other starts = calm_as _ starts refl
   calm_start (command.Mrecv q m cap) other starts = by_message (message_in lines i x.deeds m) starts
     where
-      by_taken : (m : Claimed) (b : Bool) → (if b then None else Some (deed.Match (count_by is_receive_by x.deeds) m.from m.n cap line))
+      by_taken : (m : Claimed) (b : Bool) →
+          (if b then None else Some (deed.Match (count_by is_receive_by x.deeds) m.from m.n cap line))
           ≡ Some d → IsCalm
       by_taken m true starts = absurd (no_some d starts)
       by_taken m false starts = calm_as _ starts refl
@@ -108,7 +108,8 @@ module _ (eager : ℕ) (lines : List Line) (v : ℕ → Option Spot) (i : ℕ) (
   calm_deed : (c : Command) → not (is_cancel c) ≡ true → IsDeedOf eager lines v i x line c d → IsCalm
   calm_deed c other (inl does) = by_start (start_in eager lines i x line c) refl does.1
     where
-      by_held : (e : Deed) → start_in eager lines i x line c ≡ Some e → (b : Bool) → (if b then Some e else None) ≡ Some d →
+      by_held : (e : Deed) → start_in eager lines i x line c ≡ Some e → (b : Bool) →
+          (if b then Some e else None) ≡ Some d →
           IsCalm
       by_held e starts true begins = calm_start c other (starts ∙ begins)
       by_held e starts false begins = absurd (no_some d begins)

@@ -1,9 +1,9 @@
 -- Each event that may come next is a move of the ranks' states.
-use Rattle.std.proofs.Common.{◌≡◌, ◌⊎◌, inl, inr, ℕ, ◌-◌, ◌<◌, ◌≤◌, ◌==◌, ◌&&◌, not, Bool, true, false, Option, Some, None}
+use Rattle.std.proofs.Common.{◌≡◌, inl, ℕ, ◌-◌, ◌<◌, ◌≤◌, ◌==◌, ◌&&◌, not, Bool, true, false, Option, Some, None}
 use Rattle.std.proofs.Common.{List, [], ◌∷◌, ◌++◌, length, refl, sym, ◌∙◌, ap, subst, arith}
-use Rattle.std.specs.Prelude.{◌^◌, if◌then◌else◌, nat_le, nat_lt, IsSomeAnd, MatchOption, count_by, is_some, option_and_then}
+use Rattle.std.specs.Prelude.{◌^◌, if◌then◌else◌, nat_le, nat_lt, IsSomeAnd, MatchOption, count_by, option_and_then}
 use Rattle.std.specs.Prelude.{option_map}
-use Rattle.std.specs.List.{filter, find, list_any, slice_get}
+use Rattle.std.specs.List.{filter, list_any, slice_get}
 use Rattle.std.specs.Option.{option_map_or}
 use Rattle.std.proofs.lemmas.Bool.{false≢true}
 use Rattle.std.proofs.lemmas.Bool.Decides.{nat_tests}
@@ -30,10 +30,10 @@ use Rattle.nm_history.specs.Answers.{Message, answer_of, is_seen, is_started, li
 use Rattle.nm_history.specs.Answers.{without_bytes}
 use Rattle.nm_history.specs.Completion.{Request, is_taken}
 use Rattle.nm_history.specs.Completion.Request.{Receiving, Sending}
-use Rattle.nm_history.specs.Happens.{happened, is_claim, is_recall}
-use Rattle.nm_history.specs.Matching.{first_message, is_of_message, is_of_receive, matched_pairs}
+use Rattle.nm_history.specs.Happens.{happened, is_recall}
+use Rattle.nm_history.specs.Matching.{first_message, is_of_receive, matched_pairs}
 use Rattle.nm_history.specs.RankRun.{CancelsFor, cancels_since, claim_of, claims_since, how_of, is_matched_probe}
-use Rattle.nm_history.specs.RankRun.{ran_lines, start_of, starts_since, without_number}
+use Rattle.nm_history.specs.RankRun.{ran_lines, start_of}
 use Rattle.nm_history.specs.Sends.{Sent, arrivals, envelope, receives, sends}
 use Rattle.nm_history.specs.Underway.{MayFollow}
 use Rattle.nm_match.specs.Deeds.{is_message}
@@ -42,8 +42,8 @@ use Rattle.nm_types.proofs.NumberLemmas.{same_number}
 use Rattle.nm_types.proofs.TruthLemmas.{and_left, and_right, both}
 use Rattle.nm_sure.proofs.Lists.{any_at}
 use Rattle.nm_outcomes.specs.Due.{IsAnswerOf, IsCancelOf, IsDue, IsMatchOf, IsStartOf}
-use Rattle.nm_outcomes.specs.Logs.{MayCome, Step, history_in}
-use Rattle.nm_outcomes.specs.Moves.{Answers, MayMove, ShowsBytes}
+use Rattle.nm_outcomes.specs.Logs.{Step, history_in}
+use Rattle.nm_outcomes.specs.Moves.{MayMove, ShowsBytes}
 use Rattle.nm_outcomes.specs.Places.{IsProper, is_quiet}
 use Rattle.nm_outcomes.proofs.EndLemmas.{all_follow}
 use Rattle.nm_outcomes.proofs.FoundLemmas.{commands_in_range}
@@ -54,18 +54,18 @@ use Rattle.nm_outcomes.specs.declared.spots.deeds.Deed.{Deed}
 use Rattle.nm_outcomes.specs.declared.spots.deeds.Deed.TheVariants as deed
 use Rattle.nm_outcomes.specs.declared.spots.deeds.Message as message
 use Rattle.nm_outcomes.specs.declared.spots.deeds.Receive.{Receive}
-use Rattle.nm_outcomes.specs.Deeds.{happening, post_of_lem}
+use Rattle.nm_outcomes.specs.Deeds.{happening}
 use Rattle.nm_outcomes.specs.Looks.{IsSaid, is_receive_by, is_recall_by, is_send_by}
-use Rattle.nm_outcomes.specs.RankStates.{IsSpotOf, Spot, arrived_at, free_lem, spot_after, withdrawn_at}
+use Rattle.nm_outcomes.specs.RankStates.{IsSpotOf, Spot, free_lem, spot_after}
 use Rattle.nm_outcomes.proofs.SaidLemmas.{said}
 use Rattle.nm_outcomes.proofs.StepLemmas.{acts, arrives, withdraws}
 use Rattle.nm_explored.specs.declared.choices.moves.Move.TheVariants as move
-use Rattle.nm_explored.specs.Successors.{arrival_by, begun_in, cancel_at, match_at, may_begin, start_in}
-use Rattle.nm_explored.specs.Successors.{is_withdrawn_next, message_next}
+use Rattle.nm_explored.specs.Successors.{arrival_by, cancel_at, match_at, may_begin, start_in}
+use Rattle.nm_explored.specs.Successors.{is_withdrawn_next}
 use Rattle.nm_explored.specs.Lines.{line_in}
 use Rattle.nm_explored.specs.Moves.{EventsAreChoices, IsChosen, IsDeedOf}
 use Rattle.nm_explored.specs.Settings.{IsAt}
-use Rattle.nm_explored.proofs.AnswerLemmas.{Rules, answered}
+use Rattle.nm_explored.proofs.AnswerLemmas.{answered}
 use Rattle.nm_explored.proofs.PlacedLemmas.{are_placed, came_said, first_said, free_said, in_pairs, numbers_in, placed}
 use Rattle.nm_explored.proofs.SendLemmas.{deed_of, sent_deed}
 use Rattle.nm_explored.proofs.SinceLemmas.{cancel_free, claim_free, start_free}
@@ -459,7 +459,8 @@ events_are_choices shape lines log v i e spot script is_log stands stand within 
       is = subst (λ (x : Spot). IsSpotOf lines (history_in log i) x) same s.2;
     })
     e.stamp e.what next.own
-    (proper shape (commands_of i lines) (history_in log i) e.stamp e.what (all_follow shape lines log is_log i) next.own)
+    (proper shape (commands_of i lines) (history_in log i) e.stamp e.what (all_follow shape lines log is_log i)
+    next.own)
     due
     (steps_are_moves shape lines log (placed lines log) i e is_log (are_placed lines log) stand within next due) loud
   where

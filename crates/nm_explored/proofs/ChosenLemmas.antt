@@ -1,13 +1,10 @@
 -- The moves of a settled command are enough: each other move may be made behind them.
-use Rattle.std.proofs.Common.{◌≡◌, ◌⊎◌, inl, inr, ℕ, ◌<◌, ◌==◌, ◌||◌, Bool, true, false, cond, Option, Some, None, List}
-use Rattle.std.proofs.Common.{[], ◌∷◌, ◌++◌, ◌≢◌, length, refl, sym, ◌∙◌, ap, subst}
-use Rattle.std.specs.Prelude.{if◌then◌else◌, count_by, option_and_then, option_map}
+use Rattle.std.proofs.Common.{◌≡◌, ◌⊎◌, inl, inr, ℕ, ◌<◌, ◌==◌, Bool, true, false, Option, Some, None, List}
+use Rattle.std.proofs.Common.{[], ◌∷◌, ◌≢◌, length, refl, sym, ◌∙◌, ap, subst}
+use Rattle.std.specs.Prelude.{if◌then◌else◌, count_by, option_map}
 use Rattle.std.specs.List.{find, list_any, slice_get, slice_set}
-use Rattle.std.specs.Option.{option_map_or}
 use Rattle.std.proofs.lemmas.Bool.{false≢true}
 use Rattle.std.proofs.lemmas.List.{set_comm}
-use Rattle.std.proofs.lemmas.List.Folds.{list_any-append}
-use Rattle.std.proofs.Math.Bool.{or-false}
 use Rattle.nm_types.specs.declared.messages.Arrival.{Arrival}
 use Rattle.nm_types.specs.declared.messages.Peer.{Peer}
 use Rattle.nm_types.specs.declared.messages.TagPick.{TagPick}
@@ -18,7 +15,7 @@ use Rattle.nm_types.specs.declared.scripts.Line.{Line}
 use Rattle.nm_types.specs.Bodies.{body_len}
 use Rattle.nm_types.specs.Commands.{command_at, commands_of}
 use Rattle.nm_history.specs.declared.plain.Pair.{Pair}
-use Rattle.nm_history.specs.Matching.{is_of_message, is_of_receive}
+use Rattle.nm_history.specs.Matching.{is_of_receive}
 use Rattle.nm_history.specs.RankRun.{how_of}
 use Rattle.nm_types.proofs.ListLemmas.{find_nothing, get_set_other, get_set_same, place_below, set_twice}
 use Rattle.nm_types.proofs.NumberLemmas.{differ, same_number}
@@ -27,20 +24,18 @@ use Rattle.nm_outcomes.specs.Places.{or_else}
 use Rattle.nm_outcomes.specs.Searches.{AreEnough}
 use Rattle.nm_outcomes.specs.declared.spots.deeds.Deed.{Deed}
 use Rattle.nm_outcomes.specs.declared.spots.deeds.Deed.TheVariants as deed
-use Rattle.nm_outcomes.specs.declared.spots.deeds.Receive.{Receive}
 use Rattle.nm_outcomes.specs.declared.spots.deeds.Reply.{Reply}
 use Rattle.nm_outcomes.specs.Looks.{is_answer_by, is_send_by}
-use Rattle.nm_outcomes.specs.RankStates.{Spot, arrived_at, arrived_by, is_claim_by, is_gone_at, is_that, receive_of_spot}
-use Rattle.nm_outcomes.specs.RankStates.{spot_after, with_arrival}
+use Rattle.nm_outcomes.specs.RankStates.{Spot, arrived_at}
+use Rattle.nm_outcomes.specs.RankStates.{spot_after}
 use Rattle.nm_outcomes.proofs.ListLemmas.{find-placed_new}
 use Rattle.nm_outcomes.proofs.SpotLemmas.{pairs_with}
 use Rattle.nm_explored.specs.declared.choices.moves.Move.{Move}
 use Rattle.nm_explored.specs.declared.choices.moves.Move.TheVariants as move
-use Rattle.nm_explored.specs.declared.choices.moves.Turn.{Turn}
 use Rattle.nm_explored.specs.Successors.{answer_in, may_begin}
 use Rattle.nm_explored.specs.Lines.{line_in}
-use Rattle.nm_explored.specs.Moves.{IsAct, IsChoiceOf, IsDeedOf, IsTurn, moved_at}
-use Rattle.nm_explored.specs.Chosen.{Acts, AreCalm, Goes, HasNoCancel, IsSettled, IsSettledBy, LetsAct}
+use Rattle.nm_explored.specs.Moves.{IsAct, IsChoiceOf, IsDeedOf, moved_at}
+use Rattle.nm_explored.specs.Chosen.{Acts, Goes, IsSettled, IsSettledBy, LetsAct}
 use Rattle.nm_explored.specs.Ends.{AreAtRest, is_waiting}
 use Rattle.nm_explored.specs.Orderly.{HasNoClaim, IsOrderly, came_of}
 use Rattle.nm_explored.proofs.BehindLemmas.{arrive_behind, deed_behind, is_plain}
@@ -115,7 +110,8 @@ module _ (eager ranks : ℕ) (lines : List Line) (v w : ℕ → Option Spot) (se
         where
           sent : Deed
           sent =
-              deed.Send to (count_by (is_send_by to) y.deeds) tag ctx (body_len body) (how_of eager sync (body_len body))
+              deed.Send to (count_by (is_send_by to) y.deeds) tag ctx (body_len body)
+              (how_of eager sync (body_len body))
               is.line
 
           by_held : (e : Deed) (b : Bool) → (if b then Some e else None) ≡ Some d → is_plain e ≡ true → IsBehind x d
@@ -126,7 +122,8 @@ module _ (eager ranks : ℕ) (lines : List Line) (v w : ℕ → Option Spot) (se
           by_kind (inl begins) = by_held sent (may_begin y.deeds sent) begins.1 refl
           by_kind (inr (inl says)) =
               let r = mapped_some (λ (r : Reply). deed.Ran is.line r)
-              (answer_in w lines i y is.line (command.Send q to tag ctx body sync)) d says in plain_as (deed.Ran is.line r.0) refl r.2
+              (answer_in w lines i y is.line (command.Send q to tag ctx body sync)) d says in
+              plain_as (deed.Ran is.line r.0) refl r.2
           by_kind (inr (inr denies)) = absurd (no_some d denies)
 
       recv_before : (q : ℕ) (from : Peer) (tag : TagPick) (ctx cap : ℕ) → HasNoClaim lines →
@@ -143,7 +140,8 @@ module _ (eager ranks : ℕ) (lines : List Line) (v w : ℕ → Option Spot) (se
           IsDeedOf eager lines w i y is.line (command.Wait q) d → IsBefore (command.Wait q)
       wait_before q settled (inl begins) = absurd (no_some d begins.1)
       wait_before q settled (inr (inl says)) =
-          let r = mapped_some (λ (r : Reply). deed.Ran is.line r) (answer_in w lines i y is.line (command.Wait q)) d says in
+          let r = mapped_some (λ (r : Reply). deed.Ran is.line r) (answer_in w lines i y is.line (command.Wait q)) d
+          says in
           let same : settled.0 ≡ r.0 =
           same_some settled.0 r.0 (sym (wait_kept v w seen i lines x y later q settled.0 settled.1) ∙ r.1) in (
             inr (inl (ap (λ (o : Option Reply). option_map (λ (r : Reply). deed.Ran is.line r) o) settled.1
@@ -168,7 +166,8 @@ module _ (eager ranks : ℕ) (lines : List Line) (v w : ℕ → Option Spot) (se
           line_is : act.line ≡ is.line
           line_is =
               same_some act.line is.line
-              (sym act.place ∙ ap (λ (ds : List Deed). line_in lines i (count_by is_answer_by ds)) later.deeds ∙ is.place)
+              (sym act.place ∙ ap (λ (ds : List Deed). line_in lines i (count_by is_answer_by ds)) later.deeds
+              ∙ is.place)
 
           command_is : act.command ≡ is.command
           command_is =
@@ -201,10 +200,12 @@ module _ (eager ranks : ℕ) (lines : List Line) (i : ℕ) (s : List Spot) (at :
   IsOther u =
       Acts eager lines i s u
       ⊎ (LetsAct ranks lines i u
-      × ((v : List Spot) → Acts eager lines i u v → (t : List Spot) × Acts eager lines i s t × Goes eager ranks lines t v))
+      × ((v : List Spot) → Acts eager lines i u v →
+      (t : List Spot) × Acts eager lines i s t × Goes eager ranks lines t v))
 
   -- where all others see the rank's state so, the rank's command is settled as before
-  moved_on : (u : List Spot) (y : Spot) → Goes eager ranks lines s u → AreSeen (λ k. slice_get s k) (λ k. slice_get u k) →
+  moved_on : (u : List Spot) (y : Spot) → Goes eager ranks lines s u → AreSeen (λ k. slice_get s k)
+      (λ k. slice_get u k) →
       slice_get u i ≡ Some y → IsLater at.spot y →
       ((d : Deed) → IsBehind at.spot d → Goes eager ranks lines (slice_set s i (spot_after at.spot d))
       (slice_set u i (spot_after y d))) → IsOther u
@@ -217,13 +218,15 @@ module _ (eager ranks : ℕ) (lines : List Line) (i : ℕ) (s : List Spot) (at :
           inside = at.inside;
           spot = y;
           here = here;
-          settled = settled_kept eager ranks lines (λ k. slice_get s k) (λ k. slice_get u k) seen i at.spot y later at.settled;
+          settled = settled_kept eager ranks lines (λ k. slice_get s k) (λ k. slice_get u k) seen i at.spot y later
+              at.settled;
         },
         λ v acts.
             let same : acts.0 ≡ y = same_some acts.0 y (sym acts.1 ∙ here) in
             let act : IsAct eager lines (λ k. slice_get u k) i y acts.2 =
             subst (λ (z : Spot). IsAct eager lines (λ k. slice_get u k) i z acts.2) same acts.3 in
-            let before = act_before eager ranks lines (λ k. slice_get s k) (λ k. slice_get u k) seen i at.spot y later at.settled (λ none. at.orderly none i at.spot at.here)
+            let before = act_before eager ranks lines (λ k. slice_get s k) (λ k. slice_get u k) seen i at.spot y later
+            at.settled (λ none. at.orderly none i at.spot at.here)
             acts.2 act in (
               slice_set s i (spot_after at.spot acts.2),
               (at.spot, at.here, acts.2, before.0, refl),
@@ -235,7 +238,8 @@ module _ (eager ranks : ℕ) (lines : List Line) (i : ℕ) (s : List Spot) (at :
 
   -- a move of another rank, that withdraws nothing
   by_another : (j : ℕ) → j < ranks → (j == i) ≡ false → (z : Spot) → slice_get s j ≡ Some z → (m : Move) →
-      IsChoiceOf eager ranks lines (λ k. slice_get s k) j z m → AreSeen (λ k. slice_get s k) (λ k. slice_get (slice_set s j
+      IsChoiceOf eager ranks lines (λ k. slice_get s k) j z m → AreSeen (λ k. slice_get s k)
+      (λ k. slice_get (slice_set s j
       (moved_at z m)) k) →
       ((t : List Spot) → AreSeen (λ k. slice_get s k) (λ k. slice_get t k) → slice_get t j ≡ Some z →
       IsChoiceOf eager ranks lines (λ k. slice_get t k) j z m) →
@@ -287,7 +291,8 @@ module _ (eager ranks : ℕ) (lines : List Line) (i : ℕ) (s : List Spot) (at :
               (spot_after at.spot d) at.here there (ap (λ (y : Spot). y.came) (after_deed at.spot d).3) a choice;
         },
         set_twice s i (arrived_at at.spot a) (spot_after (arrived_at at.spot a) d)
-            ∙ ap (λ (y : Spot). slice_set s i y) (sym (plain a (new_number ranks (λ k. slice_get s k) i at.spot at.here a choice)))
+            ∙ ap (λ (y : Spot). slice_set s i y)
+            (sym (plain a (new_number ranks (λ k. slice_get s k) i at.spot at.here a choice)))
             ∙ sym (set_twice s i (spot_after at.spot d) (arrived_at (spot_after at.spot d) a)),
       )))
     where

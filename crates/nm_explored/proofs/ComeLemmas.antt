@@ -18,12 +18,11 @@ use Rattle.nm_types.specs.declared.scripts.Line.{Line}
 use Rattle.nm_history.specs.declared.plain.Pair.{Pair}
 use Rattle.nm_history.specs.Matching.{is_of_message, is_of_receive}
 use Rattle.nm_history.specs.Selection.{matches, matches_source, matches_tag}
-use Rattle.nm_match.proofs.ListLemmas.{filter-filter}
 use Rattle.nm_match.specs.Deeds.{is_message}
 use Rattle.nm_types.proofs.ListLemmas.{find_passes, get_set_other, get_set_same, place_below, set_twice}
-use Rattle.nm_types.proofs.NumberLemmas.{differ, eq_true, same_number, unequal}
+use Rattle.nm_types.proofs.NumberLemmas.{differ, same_number}
 use Rattle.nm_types.proofs.OptionLemmas.{mapped_some, no_some, same_some}
-use Rattle.nm_types.proofs.TruthLemmas.{and_left, and_right, not_true, or_left}
+use Rattle.nm_types.proofs.TruthLemmas.{and_left, not_true, or_left}
 use Rattle.nm_outcomes.specs.Places.{or_else}
 use Rattle.nm_outcomes.specs.Searches.{AreEnough}
 use Rattle.nm_outcomes.proofs.PlaceLemmas.{find-append}
@@ -40,22 +39,21 @@ use Rattle.nm_outcomes.specs.RankStates.{with_arrival, with_pair, without_number
 use Rattle.nm_outcomes.proofs.ListLemmas.{count-placed_new}
 use Rattle.nm_explored.specs.declared.choices.moves.Move.{Move}
 use Rattle.nm_explored.specs.declared.choices.moves.Move.TheVariants as move
-use Rattle.nm_explored.specs.declared.choices.moves.Turn.{Turn}
-use Rattle.nm_explored.specs.Successors.{answer_in, arrival_by, message_next, result_in, seen_at}
+use Rattle.nm_explored.specs.Successors.{arrival_by, message_next, result_in, seen_at}
 use Rattle.nm_explored.specs.Lines.{line_in}
-use Rattle.nm_explored.specs.Moves.{IsAct, IsChoiceOf, IsDeedOf, IsNextMessage, IsTurn, moved_at}
+use Rattle.nm_explored.specs.Moves.{IsAct, IsChoiceOf, IsDeedOf, IsNextMessage, moved_at}
 use Rattle.nm_explored.specs.Chosen.{Goes, is_cancel}
-use Rattle.nm_explored.specs.Coming.{AreEnoughAt, Choice, Comes, IsNamed, LetsCome, Makes}
+use Rattle.nm_explored.specs.Coming.{AreEnoughAt, Choice, Comes, LetsCome, Makes}
 use Rattle.nm_explored.specs.Coming.Choice.{Acting, Arriving}
 use Rattle.nm_explored.specs.Ends.{AreAtRest}
-use Rattle.nm_explored.specs.Orderly.{IsOrderly, came_of, is_claiming, is_numbered, is_rare_by}
+use Rattle.nm_explored.specs.Orderly.{IsOrderly, came_of, is_claiming, is_rare_by}
 use Rattle.nm_explored.proofs.CalmLemmas.{calm_next, no_withdrawal, passes_from}
 use Rattle.nm_explored.proofs.BehindLemmas.{deed_behind}
 use Rattle.nm_explored.proofs.ChosenLemmas.{acts_are_enough, arrival_later}
 use Rattle.nm_explored.proofs.OrderlyLemmas.{common_deed, new_number, not_gone, no_cancel, no_claim}
 use Rattle.nm_explored.proofs.OrderlyLemmas.{IsNewDeed, numbered, orderly_next}
-use Rattle.nm_explored.proofs.PostLemmas.{arrived, arrives_at, arrives_free, found_has, none_has, none_of_three}
-use Rattle.nm_explored.proofs.PostLemmas.{none_placed, pair_for, pairs_swap, post_behind, posted, posts_found, posts_open}
+use Rattle.nm_explored.proofs.PostLemmas.{arrived, arrives_at, arrives_free, found_has, none_of_three}
+use Rattle.nm_explored.proofs.PostLemmas.{none_placed, pair_for, pairs_swap, posts_found, posts_open}
 use Rattle.nm_explored.proofs.PostLemmas.{put_swap, turned}
 use Rattle.nm_explored.proofs.SeenLemmas.{AreSeen, IsLater, act_kept, after_arrival, after_deed, coming_kept}
 use Rattle.nm_explored.proofs.SeenLemmas.{next_kept}
@@ -91,7 +89,8 @@ find_none {X} p q (y ∷ ys) none = by_both (p y) (q y) refl none (find_none p q
         ap (λ (c : Bool). cond c (Some y) (find p (filter q ys))) one ∙ later none
     by_both false false one none later = later none
 
-both_left : (a b : ℕ) (rs : List Receive) → without_number a (without_number b rs) ≡ without_number b (without_number a rs)
+both_left : (a b : ℕ) (rs : List Receive) → without_number a (without_number b rs) ≡ without_number b
+    (without_number a rs)
 both_left a b [] = refl
 both_left a b (r ∷ rs) = by_both (a == r.number) (b == r.number) refl refl (both_left a b rs)
   where
@@ -221,7 +220,8 @@ module _ (x : Spot) (is : IsOrderly x) (a b : Arrival) (o : Receive) (from : ℕ
             ap (λ (y : Spot). receive_of_spot y a) (arrives_free b x none (not_gone x is b.env.from b.n past_b)) ∙ to
         by_other (Some p) goes =
             ap (λ (y : Spot). receive_of_spot y a) (arrives_at b x p goes)
-            ∙ find_still (λ (r : Receive). matches r.from r.tag r.ctx a.env) (λ (r : Receive). not (p.number == r.number))
+            ∙ find_still (λ (r : Receive). matches r.from r.tag r.ctx a.env)
+            (λ (r : Receive). not (p.number == r.number))
             x.receives o to (not_same (p.number == o.number) (other_number p goes))
 
     swap_came : with_arrival a (with_arrival b x.came) ≡ with_arrival b (with_arrival a x.came)
@@ -261,7 +261,8 @@ module _ (x : Spot) (is : IsOrderly x) (a b : Arrival) (o : Receive) (from : ℕ
         by_other (Some p) goes =
             ap (λ (y : Spot). arrived_at y a) (arrives_at b x p goes)
             ∙ arrives_at a (arrived b x (Some p)) o
-            (find_still (λ (r : Receive). matches r.from r.tag r.ctx a.env) (λ (r : Receive). not (p.number == r.number))
+            (find_still (λ (r : Receive). matches r.from r.tag r.ctx a.env)
+            (λ (r : Receive). not (p.number == r.number))
             x.receives o to (not_same (p.number == o.number) (other_number p goes)))
             ∙ ap (λ (rs : List Receive). record {
               deeds = x.deeds;
@@ -293,7 +294,8 @@ module _ (x : Spot) (is : IsOrderly x) (a b : Arrival) (o : Receive) (from : ℕ
             }) swap_came
             ∙ sym (ap (λ (y : Spot). arrived_at y b) (arrives_at a x o to)
             ∙ arrives_at b (arrived a x (Some o)) p
-            (find_still (λ (r : Receive). matches r.from r.tag r.ctx b.env) (λ (r : Receive). not (o.number == r.number))
+            (find_still (λ (r : Receive). matches r.from r.tag r.ctx b.env)
+            (λ (r : Receive). not (o.number == r.number))
             x.receives p goes
             (not_same (o.number == p.number) (turned o.number p.number ∙ other_number p goes))))
 
@@ -335,7 +337,8 @@ unfolding found_at
 found_same x y from tag ctx same = ap (λ (ms : List Arrival). find (λ a. matches from tag ctx a.env) ms) same
 
 -- what a rank may do, it may do behind a message that went to a receive
-act_behind : (eager : ℕ) (lines : List Line) (v w : ℕ → Option Spot) → AreSeen v w → (i : ℕ) (x y : Spot) → IsLater x y →
+act_behind : (eager : ℕ) (lines : List Line) (v w : ℕ → Option Spot) → AreSeen v w →
+    (i : ℕ) (x y : Spot) → IsLater x y →
     y.free ≡ x.free → (d : Deed) → (act : IsAct eager lines v i x d) → not (is_cancel act.command) ≡ true →
     not (is_claiming act.command) ≡ true → IsAct eager lines w i y d
 act_behind eager lines v w seen i x y later free d act none claims = record {
@@ -351,12 +354,14 @@ act_behind eager lines v w seen i x y later free d act none claims = record {
         option_map (λ (r : Reply). deed.Ran act.line r)
         (option_map_or (result_in v i x) (live_in lines i x.deeds q) (Some reply.Null)) ≡ Some d →
         option_map (λ (r : Reply). deed.Ran act.line r)
-        (option_map_or (result_in w i (record y { deeds = x.deeds })) (live_in lines i x.deeds q) (Some reply.Null)) ≡ Some d
+        (option_map_or (result_in w i (record y { deeds = x.deeds })) (live_in lines i x.deeds q) (Some reply.Null))
+        ≡ Some d
     waits q says =
         let r = mapped_some (λ (r : Reply). deed.Ran act.line r)
         (option_map_or (result_in v i x) (live_in lines i x.deeds q) (Some reply.Null)) d says in
         ap (λ (o : Option Reply). option_map (λ (r : Reply). deed.Ran act.line r) o)
-        (wait_kept v w seen i lines x (record y { deeds = x.deeds }) (record { deeds = refl; pairs = later.pairs }) q r.0 r.1)
+        (wait_kept v w seen i lines x (record y { deeds = x.deeds }) (record { deeds = refl; pairs = later.pairs }) q
+        r.0 r.1)
         ∙ ap (λ (e : Deed). Some e) r.2
 
     by_command : (c : Command) → not (is_cancel c) ≡ true → not (is_claiming c) ≡ true →
@@ -490,7 +495,8 @@ module _ (eager ranks : ℕ) (lines : List Line) (i from : ℕ) (s : List Spot) 
   by_another j low other z here m choice seen kept =
       moved_on (slice_set s j (moved_at z m)) x
       (record { rank = j; by = m }, low, record { spot = z; here = here; choice = choice }, refl) own
-      (message_kept (λ k. slice_get s k) (λ k. slice_get (slice_set s j (moved_at z m)) k) seen i x x at.is.here own from
+      (message_kept (λ k. slice_get s k) (λ k. slice_get (slice_set s j (moved_at z m)) k) seen i x x at.is.here own
+      from
       refl a at.is.next)
       at.is.to (
         record { rank = j; by = m },
@@ -571,7 +577,8 @@ module _ (eager ranks : ℕ) (lines : List Line) (i from : ℕ) (s : List Spot) 
             within = next.within;
             next = message_kept (λ k. slice_get s k) (λ k. slice_get t k) t_seen i x (arrived_at x a) at.is.here t_here
                 next.from
-                (came_same x a next.from (ap (λ (k : ℕ). next.from == k) of ∙ turned next.from from ∙ other)) b next.next;
+                (came_same x a next.from (ap (λ (k : ℕ). next.from == k) of ∙ turned next.from from ∙ other)) b
+                next.next;
           };
         },
         set_twice s i (arrived_at x b) (arrived_at (arrived_at x b) a)
@@ -597,7 +604,8 @@ module _ (eager ranks : ℕ) (lines : List Line) (i from : ℕ) (s : List Spot) 
       (m : Move) (z : Spot) → slice_get s j ≡ Some z → IsChoiceOf eager ranks lines (λ k. slice_get s k) j z m →
       IsOther (slice_set s j (moved_at z m))
 
-  own_move : (m : Move) → IsChoiceOf eager ranks lines (λ k. slice_get s k) i x m → IsOther (slice_set s i (moved_at x m))
+  own_move : (m : Move) → IsChoiceOf eager ranks lines (λ k. slice_get s k) i x m →
+      IsOther (slice_set s i (moved_at x m))
   own_move (move.Act d) act = by_deed d act
   own_move (move.Arrive b) next = by_sender (from == next.from) refl
     where

@@ -1,5 +1,5 @@
 -- States whose moves lead to states that are there.
-use Rattle.std.proofs.Common.{◌≡◌, ◌⊎◌, inl, inr, ℕ, ◌+◌, ◌<◌, Some, List, [], ◌∷◌, refl, sym, ◌∙◌, ap, subst, arith}
+use Rattle.std.proofs.Common.{◌≡◌, inl, inr, ℕ, ◌+◌, ◌<◌, Some, List, sym, ◌∙◌, ap, subst, arith}
 use Rattle.std.proofs.Common.{Option, get_or, length}
 use Rattle.std.specs.List.{slice_get, slice_set}
 use Rattle.std.proofs.lemmas.List.{map-set}
@@ -9,16 +9,15 @@ use Rattle.nm_types.specs.declared.scripts.Line.{Line}
 use Rattle.nm_types.proofs.ListLemmas.{get_some, place_below}
 use Rattle.nm_types.proofs.OptionLemmas.{same_some}
 use Rattle.nm_outcomes.specs.Searches as searches
-use Rattle.nm_outcomes.specs.declared.spots.deeds.Deed.{Deed}
 use Rattle.nm_outcomes.specs.RankStates.{Spot, arrived_at, first_spot, spot_after}
 use Rattle.nm_explored.specs.declared.choices.moves.Move.{Move}
 use Rattle.nm_explored.specs.declared.choices.moves.Move.TheVariants as move
 use Rattle.nm_explored.specs.declared.choices.moves.Turn.{Turn}
 use Rattle.nm_explored.specs.Successors.{message_next, spot_in}
 use Rattle.nm_explored.specs.Lists.{Has}
-use Rattle.nm_explored.specs.Moves.{AreMovesOf, IsAct, moved_at}
+use Rattle.nm_explored.specs.Moves.{IsAct, moved_at}
 use Rattle.nm_explored.proofs.KeptLemmas.{each_next, has_kept}
-use Rattle.nm_explored.specs.Chosen.{AreActsOfOne, Goes, IsSettled}
+use Rattle.nm_explored.specs.Chosen.{Goes, IsSettled}
 use Rattle.nm_explored.specs.Coming.{AreEnoughAt, AreEnoughTurns, IsNamed, Makes}
 use Rattle.nm_explored.specs.Coming.Choice.{Acting, Arriving}
 use Rattle.nm_explored.specs.Met.{IsMade}
@@ -127,7 +126,8 @@ module _ (eager ranks : ℕ) (lines : List Line) where
               inside = one.inside;
               spot = one.spot;
               here = at one.rank ∙ one.here;
-              settled = subst (λ (v : ℕ → Option Spot). IsSettled lines v one.rank one.spot) (λ j i. sym (at i) j) one.settled;
+              settled = subst (λ (v : ℕ → Option Spot). IsSettled lines v one.rank one.spot)
+                  (λ j i. sym (at i) j) one.settled;
             },
             λ u acts.
                 let is : acts.0 ≡ one.spot = same_some acts.0 one.spot (sym acts.1 ∙ at one.rank ∙ one.here) in

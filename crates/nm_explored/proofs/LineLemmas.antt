@@ -33,10 +33,12 @@ abbrev pub owns : ℕ → List Line → ℕ → Bool
 owns rank lines k = option_map_or (λ (line : Line). line.rank == rank) (slice_get lines k) false
 
 module _ (rank : ℕ) (lines : List Line) (k : ℕ) (below : k < length lines) where
-  pub own_here : owns rank lines k ≡ true → option_map (λ (c : Numbered). c.line) (left_at rank lines k 0) ≡ Some (k + 2)
+  pub own_here : owns rank lines k ≡ true → option_map (λ (c : Numbered). c.line) (left_at rank lines k 0) ≡ Some
+      (k + 2)
   own_here own =
       let x = get_some lines k below in
-      let mine : (x.0.rank == rank) ≡ true = ap (λ (o : Option Line). option_map_or (λ (line : Line). line.rank == rank) o false)
+      let mine : (x.0.rank == rank) ≡ true =
+      ap (λ (o : Option Line). option_map_or (λ (line : Line). line.rank == rank) o false)
       (sym x.1) ∙ own in
       ap (λ (ls : List Line). option_map (λ (c : Numbered). c.line) (slice_get (commands_from rank (k + 2) ls) 0))
       (dropped lines k x.0 x.1)

@@ -23,12 +23,12 @@ use Rattle.nm_explored.specs.declared.choices.moves.Turn.{Turn}
 use Rattle.nm_explored.specs.Successors.{spot_in}
 use Rattle.nm_explored.specs.Lists.{Has, Extends}
 use Rattle.nm_explored.specs.Moves.{IsChoiceOf, IsTurn, moved_at}
-use Rattle.nm_explored.proofs.KeptLemmas.{has_push, keeps_push}
+use Rattle.nm_explored.proofs.KeptLemmas.{keeps_push}
 use Rattle.nm_explored.specs.declared.ends.Explored.{Explored}
 use Rattle.nm_explored.specs.declared.ends.Explored.TheVariants.{All, TooMany}
 use Rattle.nm_explored.specs.Met.{AreTooMany, IfTooMany, IsAll, IsMade, IsMet, IsSound}
 use Rattle.nm_explored.specs.Stores.{AreLow, Grows, StandOnce, Store, states_in}
-use Rattle.nm_explored.proofs.StoreLemmas.{get_replicate, own_place}
+use Rattle.nm_explored.proofs.StoreLemmas.{own_place}
 
 -- a set has each element once
 pub once_in : {X : Type 0} (E : X → X → Bool) → ((x : X) → E x x ≡ true) → (xs : List X) → IsDistinct E xs →
@@ -159,7 +159,8 @@ low_set table ids i id low inside below j x here = by_rank (i == j) refl
     by_rank true same =
         let e : i ≡ j = same_number i j same in
         let is : id ≡ x =
-        same_some id x (sym (get_set_same ids i id inside) ∙ ap (λ (n : ℕ). slice_get (slice_set ids i id) n) e ∙ here) in
+        same_some id x (sym (get_set_same ids i id inside) ∙ ap (λ (n : ℕ). slice_get (slice_set ids i id) n) e
+        ∙ here) in
         subst (λ (n : ℕ). n < length table) is below
     by_rank false other = low j x (sym (get_set_other ids i j id (differ i j other)) ∙ here)
 
@@ -270,7 +271,8 @@ module _ (eager ranks : ℕ) (lines : List Line) where
       by_new (inl same) k other here =
           before k other (ap (λ (xs : List (List ℕ)). slice_get xs k) (sym same) ∙ here)
       by_new (inr more) k other here =
-          by_place (get_more old.states ids true k other (ap (λ (xs : List (List ℕ)). slice_get xs k) (sym more) ∙ here))
+          by_place (get_more old.states ids true k other (ap (λ (xs : List (List ℕ)). slice_get xs k) (sym more)
+          ∙ here))
         where
           by_place : (slice_get old.states k ≡ Some other) ⊎ ((k ≡ length old.states) × (ids ≡ other) × (true ≡ true)) →
               IsSound eager ranks lines new.table other

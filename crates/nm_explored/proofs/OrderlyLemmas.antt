@@ -2,26 +2,22 @@
 use Rattle.std.proofs.Common.{◌≡◌, ◌⊎◌, inl, inr, ℕ, zero, suc, ◌+◌, ◌<◌, ◌≤◌, ◌==◌, ◌&&◌, ◌||◌, not, Bool, true, false, cond}
 use Rattle.std.proofs.Common.{Option, Some, None, List, [], ◌∷◌, ◌++◌, length, length-append, replicate, refl, sym, ◌∙◌}
 use Rattle.std.proofs.Common.{ap, subst, arith}
-use Rattle.std.specs.Prelude.{if◌then◌else◌, count_by, nat_lt, option_and_then, option_map}
-use Rattle.std.specs.List.{filter, find, list_any, slice_get, slice_set}
+use Rattle.std.specs.Prelude.{if◌then◌else◌, count_by, nat_lt, option_and_then}
+use Rattle.std.specs.List.{filter, list_any, slice_get, slice_set}
 use Rattle.std.proofs.lemmas.Bool.{false≢true}
 use Rattle.std.proofs.lemmas.List.Elements.{filter-append}
-use Rattle.std.proofs.lemmas.List.Folds.{list_any-append}
 use Rattle.std.proofs.lemmas.List.Sums.{length-filter}
 use Rattle.nm_types.specs.declared.messages.Arrival.{Arrival}
 use Rattle.nm_types.specs.declared.scripts.Command.{Command}
 use Rattle.nm_types.specs.declared.scripts.Command.TheVariants as command
 use Rattle.nm_types.specs.declared.scripts.Line.{Line}
-use Rattle.nm_types.specs.Commands.{command_at, commands_of}
-use Rattle.nm_history.specs.declared.plain.Pair.{Pair}
 use Rattle.nm_history.specs.Matching.{is_of_message, is_of_receive}
 use Rattle.nm_history.specs.Selection.{matches}
 use Rattle.nm_match.specs.Deeds.{is_message}
-use Rattle.nm_lookups.specs.Queues.{without_message}
 use Rattle.nm_types.proofs.ListLemmas.{get_set_other, get_set_same, no_item, place_below}
 use Rattle.nm_types.proofs.NumberLemmas.{differ, eq_less, eq_true, same_number}
 use Rattle.nm_types.proofs.OptionLemmas.{mapped_some, no_some, same_some}
-use Rattle.nm_types.proofs.TruthLemmas.{and_left, and_right, not_true}
+use Rattle.nm_types.proofs.TruthLemmas.{not_true}
 use Rattle.nm_outcomes.proofs.SentLemmas.{get_more}
 use Rattle.nm_outcomes.specs.declared.spots.deeds.Deed.{Deed}
 use Rattle.nm_outcomes.specs.declared.spots.deeds.Deed.TheVariants as deed
@@ -29,9 +25,9 @@ use Rattle.nm_outcomes.specs.declared.spots.deeds.Message.{Message}
 use Rattle.nm_outcomes.specs.declared.spots.deeds.Receive.{Receive}
 use Rattle.nm_outcomes.specs.declared.spots.deeds.Reply.{Reply}
 use Rattle.nm_outcomes.specs.declared.spots.deeds.Reply.TheVariants as reply
-use Rattle.nm_outcomes.specs.Looks.{is_cancelling_by, is_receive_by, is_send_by}
+use Rattle.nm_outcomes.specs.Looks.{is_receive_by, is_send_by}
 use Rattle.nm_outcomes.specs.RankStates.{Spot, arrived_at, first_spot, is_behind, is_cancel_by, is_claim_by, is_gone_at}
-use Rattle.nm_outcomes.specs.RankStates.{is_that, message_of_spot, receive_of_spot, spot_after, with_arrival, without_number}
+use Rattle.nm_outcomes.specs.RankStates.{is_that, message_of_spot, receive_of_spot, spot_after, with_arrival}
 use Rattle.nm_outcomes.proofs.ListLemmas.{count-placed_new}
 use Rattle.nm_explored.specs.declared.choices.moves.Move.{Move}
 use Rattle.nm_explored.specs.declared.choices.moves.Move.TheVariants as move
@@ -42,7 +38,7 @@ use Rattle.nm_explored.specs.Moves.{IsChoiceOf, IsDeedOf, IsNextMessage, IsTurn,
 use Rattle.nm_explored.specs.Chosen.{AreCalm, Goes, HasNoCancel, is_cancel}
 use Rattle.nm_explored.specs.Met.{IsMet, IsWay}
 use Rattle.nm_explored.specs.Orderly.{AreOrderly, HasNoClaim, IsOrderly, came_of, is_claiming, is_numbered, is_rare_by}
-use Rattle.nm_explored.proofs.CalmLemmas.{any_along, met_calm, no_withdrawal, passes_from, way_calm}
+use Rattle.nm_explored.proofs.CalmLemmas.{any_along, no_withdrawal, passes_from, way_calm}
 use Rattle.nm_explored.proofs.PostLemmas.{arrived, arrives_at, arrives_free, found_has, none_has, none_of_three}
 use Rattle.nm_explored.proofs.PostLemmas.{none_placed, none_push, pair_for, posted, posts_found, posts_open, turned}
 
@@ -207,12 +203,14 @@ module _ (x : Spot) (is : IsOrderly x) where
     posted_found m at = record {
       common = none_push is_rare_by x.deeds (deed.Post r line) is.common refl;
       opens = λ number past. is.opens number (before number past);
-      paired = λ number past. none_placed (is_of_receive r.number) (is_of_receive number) (λ p. nat_lt r.number p.number)
+      paired = λ number past. none_placed (is_of_receive r.number) (is_of_receive number)
+          (λ p. nat_lt r.number p.number)
           (pair_for r m) x.pairs (is.paired number (before number past)) (other number past);
       free = λ from n past. none_left (is_message from n) (λ a. not (is_message m.env.from m.n a)) x.free
           (is.free from n past);
       taken = λ from n past. none_placed (is_of_receive r.number) (is_of_message from n) (λ p. nat_lt r.number p.number)
-          (pair_for r m) x.pairs (is.taken from n past) (none_has (is_message from n) x.free m (is.free from n past) at);
+          (pair_for r m) x.pairs (is.taken from n past)
+          (none_has (is_message from n) x.free m (is.free from n past) at);
       came = is.came;
       withdrawn = is.withdrawn;
       own = is.own;
@@ -236,7 +234,8 @@ module _ (x : Spot) (is : IsOrderly x) where
             (posted_found m (found_has (λ (a : Arrival). matches r.from r.tag r.ctx a.env) x.free m found))
 
   pub orderly_deed : (d : Deed) → is_rare_by d ≡ false → IsNewDeed x d → IsOrderly (spot_after x d)
-  orderly_deed (deed.Send to n tag ctx len how line) common new = orderly_plain (deed.Send to n tag ctx len how line) refl
+  orderly_deed (deed.Send to n tag ctx len how line) common new = orderly_plain (deed.Send to n tag ctx len how line)
+      refl
   orderly_deed (deed.Ran line r) common new = orderly_plain (deed.Ran line r) refl
   orderly_deed (deed.Post r line) common new = orderly_post r line new
   orderly_deed (deed.Match number from n cap line) common new = absurd (false≢true (sym common))
@@ -358,7 +357,8 @@ module _ (eager : ℕ) (lines : List Line) (v : ℕ → Option Spot) (i : ℕ) (
       IsDeedOf eager lines v i x line c d → IsCommon d
   common_deed c none claims (inl does) = by_start (start_in eager lines i x line c) refl does.1
     where
-      by_held : (e : Deed) → start_in eager lines i x line c ≡ Some e → (b : Bool) → (if b then Some e else None) ≡ Some d →
+      by_held : (e : Deed) → start_in eager lines i x line c ≡ Some e → (b : Bool) →
+          (if b then Some e else None) ≡ Some d →
           IsCommon d
       by_held e starts true begins = common_start c none claims (starts ∙ begins)
       by_held e starts false begins = absurd (no_some d begins)

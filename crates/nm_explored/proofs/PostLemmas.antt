@@ -1,23 +1,21 @@
 -- A receive that is posted, and a message that comes, may be swapped.
-use Rattle.std.proofs.Common.{◌≡◌, ℕ, zero, suc, ◌<◌, ◌==◌, ◌&&◌, ◌||◌, not, Bool, true, false, cond, Option, Some, None, List, [], ◌∷◌}
+use Rattle.std.proofs.Common.{◌≡◌, ℕ, zero, suc, ◌==◌, ◌&&◌, ◌||◌, not, Bool, true, false, cond, Option, Some, None, List, [], ◌∷◌}
 use Rattle.std.proofs.Common.{◌++◌, append-nil, arith, refl, sym, ◌∙◌, ap, subst}
 use Rattle.std.specs.Prelude.{if◌then◌else◌, nat_lt}
-use Rattle.std.specs.List.{filter, find, list_any, slice_get}
+use Rattle.std.specs.List.{find, list_any, slice_get}
 use Rattle.std.proofs.lemmas.Bool.{false≢true}
 use Rattle.std.proofs.lemmas.Bool.Decides.{nat_tests}
 use Rattle.std.proofs.lemmas.List.Elements.{filter-append}
 use Rattle.std.proofs.lemmas.List.Folds.{list_any-append}
-use Rattle.std.proofs.Math.Bool.{or-false}
 use Rattle.nm_types.specs.declared.messages.Arrival.{Arrival}
 use Rattle.nm_history.specs.declared.plain.Pair.{Pair}
 use Rattle.nm_history.specs.Matching.{is_of_message, is_of_receive}
 use Rattle.nm_history.specs.Selection.{matches}
 use Rattle.nm_match.specs.Deeds.{is_message}
 use Rattle.nm_lookups.specs.Queues.{without_message}
-use Rattle.nm_types.proofs.ListLemmas.{find_passes}
 use Rattle.nm_types.proofs.NumberLemmas.{eq_true, same_number}
 use Rattle.nm_types.proofs.OptionLemmas.{no_some, same_some}
-use Rattle.nm_types.proofs.TruthLemmas.{and_left, and_right, neither, not_true, same_test}
+use Rattle.nm_types.proofs.TruthLemmas.{neither, same_test}
 use Rattle.nm_outcomes.specs.Places.{or_else}
 use Rattle.nm_outcomes.proofs.PlaceLemmas.{find-append}
 use Rattle.nm_outcomes.specs.declared.spots.deeds.Deed.{Deed}
@@ -65,7 +63,8 @@ none_placed same test behind x xs none other =
 
 pub turned : (a b : ℕ) → (a == b) ≡ (b == a)
 turned a b =
-    same_test (a == b) (b == a) (λ is. eq_true b a (sym (same_number a b is))) (λ is. eq_true a b (sym (same_number b a is)))
+    same_test (a == b) (b == a) (λ is. eq_true b a (sym (same_number a b is)))
+    (λ is. eq_true a b (sym (same_number b a is)))
 
 pub self_is : (a : ℕ) → (a == a) ≡ true
 self_is a = eq_true a a refl
@@ -103,7 +102,8 @@ module _ {X : Type 0} (less : X → X → Bool) (x y : X) (first : less x y ≡ 
     abbrev two : List X → List X
     two zs = placed (less y) y zs
 
-    pub placed_swap : (zs : List X) → placed (less y) y (placed (less x) x zs) ≡ placed (less x) x (placed (less y) y zs)
+    pub placed_swap : (zs : List X) → placed (less y) y (placed (less x) x zs) ≡ placed (less x) x
+        (placed (less y) y zs)
     placed_swap [] =
         if_false (less y x) (y ∷ x ∷ []) (x ∷ y ∷ []) last ∙ sym (if_true (less x y) (x ∷ y ∷ []) (y ∷ x ∷ []) first)
     placed_swap (z ∷ zs) = by_place (less x z) (less y z) refl refl (placed_swap zs)
@@ -170,11 +170,13 @@ pairs_swap p q pairs new_p new_q other = by_order (nat_lt p.number q.number) ref
     by_order : (b : Bool) → nat_lt p.number q.number ≡ b →
         with_pair q (with_pair p pairs) ≡ with_pair p (with_pair q pairs)
     by_order true is =
-        put_swap (λ (a b : Pair). is_of_receive a.number b) (λ (a b : Pair). nat_lt a.number b.number) pairs p q new_p new_q reverse other is (not_less p.number q.number is)
+        put_swap (λ (a b : Pair). is_of_receive a.number b) (λ (a b : Pair). nat_lt a.number b.number) pairs p q new_p
+        new_q reverse other is (not_less p.number q.number is)
         (λ z later. less_then p.number q.number z.number is later)
     by_order false is =
         let lt : nat_lt q.number p.number ≡ true = more p.number q.number is other in
-        sym (put_swap (λ (a b : Pair). is_of_receive a.number b) (λ (a b : Pair). nat_lt a.number b.number) pairs q p new_q new_p other reverse lt is
+        sym (put_swap (λ (a b : Pair). is_of_receive a.number b) (λ (a b : Pair). nat_lt a.number b.number) pairs q p
+        new_q new_p other reverse lt is
         (λ z later. less_then q.number p.number z.number lt later))
 
 -- what is new is not left out
@@ -344,7 +346,8 @@ module _ (x : Spot) (r : Receive) (line : ℕ) (a : Arrival)
         (swapped_test ∙ other_message m of)))
         ∙ sym (posts_found r line (arrived a x None) m
         (find-append (λ (m : Arrival). matches r.from r.tag r.ctx m.env) x.free (a ∷ [])
-        ∙ ap (λ (p : Option Arrival). or_else p (find (λ (m : Arrival). matches r.from r.tag r.ctx m.env) (a ∷ []))) of))
+        ∙ ap (λ (p : Option Arrival). or_else p (find (λ (m : Arrival). matches r.from r.tag r.ctx m.env) (a ∷ [])))
+        of))
       where
         swapped_test : is_message m.env.from m.n a ≡ is_message a.env.from a.n m
         swapped_test =
@@ -421,7 +424,8 @@ module _ (x : Spot) (r : Receive) (line : ℕ) (a : Arrival)
         by_match true so of to = one_another of to so
         by_match false so of to = neither_other of to so
 
-        swap : (m : Option Arrival) (o : Option Receive) → message_of_spot x r ≡ m → receive_of_spot x a ≡ o → IsSwap m o
+        swap : (m : Option Arrival) (o : Option Receive) → message_of_spot x r ≡ m → receive_of_spot x a ≡ o →
+            IsSwap m o
         swap (Some m) (Some o) of to = both_older m o of to
         swap None (Some o) of to = older_receive o of to
         swap (Some m) None of to = older_message m of to

@@ -7,7 +7,6 @@ use Rattle.std.specs.Option.{option_map_or}
 use Rattle.std.proofs.lemmas.Bool.{false≢true}
 use Rattle.std.proofs.lemmas.List.Sums.{length-filter}
 use Rattle.std.proofs.lemmas.Option.{slice_get_past}
-use Rattle.nm_types.specs.declared.answers.Answer.{Answer}
 use Rattle.nm_types.specs.declared.answers.Answer.TheVariants as answer
 use Rattle.nm_types.specs.declared.messages.Arrival.{Arrival}
 use Rattle.nm_types.specs.declared.scripts.Command.{Command}
@@ -37,11 +36,10 @@ use Rattle.nm_outcomes.specs.Outcomes.{told_at}
 use Rattle.nm_outcomes.specs.Rests.{AreAtRest as PlacesAreAtRest, IsHeldUp as IsPlaceHeldUp}
 use Rattle.nm_outcomes.proofs.SentLemmas.{came_within}
 use Rattle.nm_outcomes.specs.declared.spots.deeds.Deed.{Deed}
-use Rattle.nm_outcomes.specs.declared.spots.deeds.Reply.{Reply}
 use Rattle.nm_outcomes.specs.declared.spots.deeds.Reply.TheVariants as reply
 use Rattle.nm_outcomes.specs.Deeds.{happening}
 use Rattle.nm_outcomes.specs.Looks.{IsSaid, is_answer_by, is_recall_by, is_send_by}
-use Rattle.nm_outcomes.specs.RankStates.{IsSpotOf, Spot, free_lem}
+use Rattle.nm_outcomes.specs.RankStates.{Spot, free_lem}
 use Rattle.nm_outcomes.proofs.SaidLemmas.{first_own, said}
 use Rattle.nm_outcomes.proofs.SpotLemmas.{off_is}
 use Rattle.nm_explored.specs.Successors.{answer_in, arrival_by, is_withdrawn_next, message_next, result_in, seen_at}
@@ -51,7 +49,7 @@ use Rattle.nm_explored.specs.Settings.{IsAt}
 use Rattle.nm_explored.proofs.PlacedLemmas.{came_said, found_said, free_said, numbers_in, placed}
 use Rattle.nm_explored.proofs.ResultLemmas.{ends}
 use Rattle.nm_explored.proofs.SendLemmas.{sent_many}
-use Rattle.nm_explored.specs.Ends.{IsAtRest, IsHeldUp, all_told, is_waiting, told_in}
+use Rattle.nm_explored.specs.Ends.{IsAtRest, IsHeldUp, is_waiting, told_in}
 
 some_none : {X : Type 0} (x : X) → Some x ≡ None → ⊥
 some_none x same = no_some x (sym same)
@@ -124,13 +122,15 @@ module _ (shape : Sizes) (lines : List Line) (log : List Step) (v : ℕ → Opti
 
   held : IsHeldUp lines v i spot
   held line c place here =
-      let found = mapped_some (λ (x : Numbered). x.line) (slice_get mine (count_by is_answer_by spot.deeds)) line place in
+      let found = mapped_some (λ (x : Numbered). x.line) (slice_get mine (count_by is_answer_by spot.deeds)) line
+      place in
       let next : slice_get mine (length (ran_lines h)) ≡ Some found.0 =
       ap (λ (k : ℕ). slice_get mine k) (sym say.ran) ∙ found.1 in
       let same : found.0.command ≡ c =
       same_some found.0.command c
       (sym (at.stand (length (ran_lines h)) found.0 next) ∙ ap (λ (l : ℕ). command_at mine l) found.2 ∙ here) in
-      by_command c (subst (λ (c : Command). IsPlaceHeldUp (placed lines log) i c) same (rest.waits i at.low found.0 next))
+      by_command c (subst (λ (c : Command). IsPlaceHeldUp (placed lines log) i c) same
+      (rest.waits i at.low found.0 next))
     where
       by_command : (c : Command) → IsPlaceHeldUp (placed lines log) i c →
           (is_waiting c ≡ true) × (answer_in v lines i spot line c ≡ None)

@@ -14,13 +14,12 @@ use Rattle.nm_types.proofs.NumberLemmas.{same_number}
 use Rattle.nm_types.proofs.OptionLemmas.{no_some}
 use Rattle.nm_types.proofs.TruthLemmas.{and_left, and_right, not_true}
 use Rattle.nm_match.specs.Deeds.{is_message}
-use Rattle.nm_report.specs.Told.{RankTold}
 use Rattle.nm_sure.proofs.Lists.{any_at}
 use Rattle.nm_outcomes.specs.Looks.{is_recall_by, is_send_by}
 use Rattle.nm_outcomes.specs.RankStates.{Spot, free_lem}
 use Rattle.nm_explored.specs.declared.ends.End.{End}
 use Rattle.nm_explored.specs.Ends.{AreAtRest, AreEndsAmong, AreEndsByWay, AreOnlyEnds, IsAtRest, IsToldAtRest}
-use Rattle.nm_explored.specs.Ends.{TellsOnly, all_told, told_at_end}
+use Rattle.nm_explored.specs.Ends.{TellsOnly, all_told}
 use Rattle.nm_explored.specs.Met.{AreBack, IsMade, IsWay}
 use Rattle.nm_explored.specs.Stores.{Store, states_in}
 use Rattle.nm_explored.specs.Successors.{arrival_by, is_withdrawn_next, spot_in}

@@ -1,9 +1,9 @@
 -- What a wait or a test may show, by the states of the ranks.
-use Rattle.std.proofs.Common.{◌≡◌, ℕ, ◌<◌, ◌==◌, ◌&&◌, ◌||◌, not, Bool, true, false, cond, Option, Some, None, List, []}
-use Rattle.std.proofs.Common.{map, refl, sym, ◌∙◌, ap, subst, arith}
-use Rattle.std.specs.Prelude.{if◌then◌else◌, nat_lt, replicate, Contains, IfSome, IsSomeAnd, length, option_and_then}
+use Rattle.std.proofs.Common.{◌≡◌, ℕ, ◌<◌, ◌&&◌, ◌||◌, not, Bool, true, false, cond, Option, Some, None, List, []}
+use Rattle.std.proofs.Common.{refl, sym, ◌∙◌, ap, arith}
+use Rattle.std.specs.Prelude.{if◌then◌else◌, nat_lt, replicate, IsSomeAnd, option_and_then}
 use Rattle.std.specs.Prelude.{option_map}
-use Rattle.std.specs.List.{filter, find, list_any, slice_get}
+use Rattle.std.specs.List.{filter, find, slice_get}
 use Rattle.std.specs.Option.{option_map_or}
 use Rattle.std.proofs.lemmas.Bool.{false≢true}
 use Rattle.nm_types.specs.declared.answers.Answer.{Answer}
@@ -18,10 +18,9 @@ use Rattle.nm_history.specs.Answers.{live, without_bytes}
 use Rattle.nm_history.specs.Completion.{Request, is_taken, pair_of_receive, shown}
 use Rattle.nm_history.specs.Completion.Request.{Receiving, Sending}
 use Rattle.nm_history.specs.Happens.{happened, is_arrival, is_cancel, is_recall, is_withdraw}
-use Rattle.nm_history.specs.Matching.{is_of_message, is_of_receive, matched_pairs}
+use Rattle.nm_history.specs.Matching.{is_of_receive, matched_pairs}
 use Rattle.nm_history.specs.Sends.{Sent, sends, sent_bytes}
 use Rattle.nm_history.proofs.SelectionLemmas.{find_contains}
-use Rattle.nm_match.specs.Deeds.{is_message}
 use Rattle.nm_match.proofs.NumberLemmas.{is_known_message-arrived}
 use Rattle.nm_types.proofs.ListLemmas.{get_from_map}
 use Rattle.nm_types.proofs.OptionLemmas.{mapped_some, no_some, same_some, some_and}
@@ -33,14 +32,14 @@ use Rattle.nm_outcomes.specs.declared.spots.deeds.Deed.{Deed}
 use Rattle.nm_outcomes.specs.declared.spots.deeds.Reply.{Reply}
 use Rattle.nm_outcomes.specs.declared.spots.deeds.Reply.TheVariants as reply
 use Rattle.nm_outcomes.specs.Deeds.{answer_meant, bytes_at}
-use Rattle.nm_outcomes.specs.Looks.{is_recall_by, is_send_by, is_unasked_by}
-use Rattle.nm_outcomes.specs.RankStates.{IsSpotOf, Spot, free_lem, is_cancel_by, is_that}
+use Rattle.nm_outcomes.specs.Looks.{is_send_by}
+use Rattle.nm_outcomes.specs.RankStates.{IsSpotOf, Spot}
 use Rattle.nm_outcomes.proofs.SaidLemmas.{said}
 use Rattle.nm_outcomes.proofs.SpotLemmas.{off_is}
 use Rattle.nm_explored.specs.Successors.{got_by, result_in, sent_at, shown_at}
 use Rattle.nm_explored.specs.Settings.{IsAt}
 use Rattle.nm_explored.proofs.PlacedLemmas.{came_said, free_said, numbers_in, placed}
-use Rattle.nm_explored.proofs.SendLemmas.{deed_of, sent_deed}
+use Rattle.nm_explored.proofs.SendLemmas.{sent_deed}
 
 -- an answer with bytes
 abbrev pub is_got : Answer → Bool

@@ -1,5 +1,5 @@
 -- What the other ranks look at of a rank stays so, or grows.
-use Rattle.std.proofs.Common.{◌≡◌, ◌⊎◌, inl, inr, ℕ, ◌==◌, ◌&&◌, ◌||◌, not, Bool, true, false, cond, Option, Some, None}
+use Rattle.std.proofs.Common.{◌≡◌, inl, inr, ℕ, ◌==◌, ◌&&◌, ◌||◌, not, Bool, true, false, cond, Option, Some, None}
 use Rattle.std.proofs.Common.{List, [], ◌∷◌, ◌++◌, refl, sym, ◌∙◌, ap, subst}
 use Rattle.std.specs.Prelude.{if◌then◌else◌, count_by, nat_lt, option_and_then, option_map}
 use Rattle.std.specs.List.{filter, find, list_any, slice_get, slice_set}
@@ -32,8 +32,8 @@ use Rattle.nm_outcomes.specs.RankStates.{is_that, message_of_spot, posted_at, re
 use Rattle.nm_outcomes.specs.RankStates.{with_arrival, without_number}
 use Rattle.nm_outcomes.proofs.ListLemmas.{any-placed_new}
 use Rattle.nm_outcomes.proofs.SpotLemmas.{pairs_with}
-use Rattle.nm_explored.specs.Successors.{answer_in, arrival_by, got_by, message_next, result_in, sent_at, shown_at}
-use Rattle.nm_explored.specs.Moves.{IsAct, IsDeedOf, IsNextMessage, no_in}
+use Rattle.nm_explored.specs.Successors.{answer_in, arrival_by, got_by, result_in, sent_at, shown_at}
+use Rattle.nm_explored.specs.Moves.{IsAct, IsDeedOf, IsNextMessage}
 
 -- truth values that grow
 pub and_more : (a b x y : Bool) → (a ≡ true → x ≡ true) → (b ≡ true → y ≡ true) → (a && b) ≡ true → (x && y) ≡ true

@@ -1,5 +1,5 @@
 -- What a state says of the messages that its rank sent.
-use Rattle.std.proofs.Common.{◌≡◌, ℕ, ◌==◌, not, Bool, true, false, cond, Option, Some, None, List, [], ◌∷◌, length, map}
+use Rattle.std.proofs.Common.{◌≡◌, ℕ, ◌==◌, not, Bool, true, false, cond, Some, List, [], ◌∷◌, length, map}
 use Rattle.std.proofs.Common.{refl, sym, ◌∙◌, ap}
 use Rattle.std.specs.List.{cons_option, filter, filter_map, slice_get}
 use Rattle.nm_types.specs.declared.scripts.Line.{Line}

@@ -5,8 +5,6 @@ use Rattle.std.specs.Cmp.Lexicographic.{pointwise}
 use Rattle.std.specs.List.{IsDistinct, list_any, slice_get}
 use Rattle.std.proofs.lemmas.Cmp.{nat_list_eq_equiv}
 use Rattle.indexmap.specs.IndexSet.{insert_key}
-use Rattle.nm_types.proofs.NumberLemmas.{same_number}
-use Rattle.nm_types.proofs.TruthLemmas.{and_left, and_right}
 use Rattle.nm_outcomes.specs.SameLaws.{same_spot, spots_equiv}
 use Rattle.nm_outcomes.specs.Sames.{same_spots}
 use Rattle.nm_outcomes.specs.RankStates.{Spot}

@@ -1,6 +1,6 @@
 -- What a rank did since its last answer, and the last of what it did.
 use Rattle.std.proofs.Common.{◌≡◌, ℕ, suc, ◌-◌, ◌||◌, not, Bool, true, false, cond, Option, Some, None, List, [], ◌∷◌}
-use Rattle.std.proofs.Common.{◌++◌, length, map, refl, sym, ◌∙◌, ap, subst, arith}
+use Rattle.std.proofs.Common.{◌++◌, length, map, refl, sym, ◌∙◌, ap, arith}
 use Rattle.std.specs.Prelude.{fold}
 use Rattle.std.specs.List.{cons_option, filter, filter_map, list_any, slice_get}
 use Rattle.std.specs.Option.{option_map_or}
@@ -17,7 +17,7 @@ use Rattle.nm_history.specs.Underway.{is_answer, is_of_packet}
 use Rattle.nm_history.proofs.AppendLemmas.{since_grows}
 use Rattle.nm_types.proofs.ListLemmas.{no_item}
 use Rattle.nm_types.proofs.OptionLemmas.{no_some, same_some}
-use Rattle.nm_types.proofs.TruthLemmas.{neither, not_true, or_left, or_right}
+use Rattle.nm_types.proofs.TruthLemmas.{not_true, or_left, or_right}
 use Rattle.nm_outcomes.specs.declared.spots.deeds.Deed.{Deed}
 use Rattle.nm_outcomes.specs.declared.spots.deeds.Deed.TheVariants as deed
 use Rattle.nm_outcomes.specs.Deeds.{happening}

@@ -1,21 +1,17 @@
 -- Stores that grow.
-use Rattle.std.proofs.Common.{◌≡◌, ◌⊎◌, inl, inr, ℕ, zero, suc, ◌+◌, ◌<◌, ◌==◌, Bool, true, false, Option, Some, None, List}
+use Rattle.std.proofs.Common.{◌≡◌, ◌⊎◌, inl, inr, ℕ, zero, suc, ◌+◌, ◌<◌, Option, Some, None, List}
 use Rattle.std.proofs.Common.{[], ◌∷◌, ◌++◌, length, get_or, replicate, refl, sym, ◌∙◌, ap, subst, arith}
 use Rattle.std.specs.Prelude.{option_and_then}
 use Rattle.std.specs.List.{slice_get, slice_set}
 use Rattle.std.proofs.lemmas.Option.{slice_get-get_or}
-use Rattle.nm_types.specs.declared.scripts.Line.{Line}
-use Rattle.nm_types.proofs.ListLemmas.{get_set_other, get_set_same, get_some, no_item, place_below}
-use Rattle.nm_types.proofs.NumberLemmas.{differ, same_number}
+use Rattle.nm_types.proofs.ListLemmas.{no_item, place_below}
 use Rattle.nm_types.proofs.OptionLemmas.{no_some, same_some}
-use Rattle.nm_outcomes.proofs.SentLemmas.{get_more}
-use Rattle.nm_outcomes.specs.RankStates.{Spot, first_spot}
-use Rattle.nm_explored.specs.declared.choices.moves.Move.{Move}
+use Rattle.nm_outcomes.specs.RankStates.{Spot}
 use Rattle.nm_explored.specs.declared.choices.moves.Turn.{Turn}
 use Rattle.nm_explored.specs.Successors.{spot_in}
 use Rattle.nm_explored.specs.Lists.{Has, Extends}
-use Rattle.nm_explored.specs.Moves.{AreMovesOf, moved_at}
-use Rattle.nm_explored.proofs.KeptLemmas.{each_next, has_kept}
+use Rattle.nm_explored.specs.Moves.{moved_at}
+use Rattle.nm_explored.proofs.KeptLemmas.{has_kept}
 use Rattle.nm_explored.specs.Stores.{Grows, Leads, Store}
 
 pub grows_all : (a : Store) → Grows a a

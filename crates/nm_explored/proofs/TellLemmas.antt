@@ -1,5 +1,5 @@
 -- What each run tells is told at one of the ends.
-use Rattle.std.proofs.Common.{◌≡◌, ℕ, ◌<◌, ◌≤◌, Option, Some, List, [], map, refl, sym, ◌∙◌, ap, subst, arith}
+use Rattle.std.proofs.Common.{◌≡◌, ℕ, ◌<◌, Option, Some, List, [], map, refl, sym, ◌∙◌, ap, subst, arith}
 use Rattle.std.proofs.Common.{◌∷◌, zero, suc, length}
 use Rattle.std.specs.Prelude.{Contains, IfOk, Result, Ok, Err, option_map, slice_index_or}
 use Rattle.std.specs.List.{range_with_len, slice_get}
@@ -10,14 +10,12 @@ use Rattle.nm_types.specs.Limits.{IsScript}
 use Rattle.nm_types.specs.Sizes.{Sizes}
 use Rattle.nm_history.specs.declared.events.Event.{Event}
 use Rattle.nm_history.specs.AtEach.{AtEach}
-use Rattle.nm_report.specs.declared.records.RunRecord.{RunRecord}
 use Rattle.nm_report.specs.Ends.{ends_of, packets_of}
-use Rattle.nm_report.specs.Lawful.{IsRunIn}
 use Rattle.nm_report.specs.Told.{RankTold, told_of}
 use Rattle.nm_types.proofs.ListLemmas.{no_item, place_below}
 use Rattle.nm_types.proofs.OptionLemmas.{same_some}
 use Rattle.nm_outcomes.specs.Due.{IsDue}
-use Rattle.nm_outcomes.specs.Logs.{IsLogOf, Step, events_of, history_in}
+use Rattle.nm_outcomes.specs.Logs.{events_of, history_in}
 use Rattle.nm_outcomes.specs.Outcomes.{told_at}
 use Rattle.nm_outcomes.specs.Places.{IsPlaceOf}
 use Rattle.nm_outcomes.specs.Searches as searches
@@ -27,7 +25,7 @@ use Rattle.nm_outcomes.proofs.LogLemmas.{at_of, own_run, runs_have_logs}
 use Rattle.nm_outcomes.proofs.PathLemmas.{sent_within}
 use Rattle.nm_outcomes.proofs.RestLemmas.{at_rest as places_at_rest}
 use Rattle.nm_outcomes.proofs.SearchLemmas.{ends_found}
-use Rattle.nm_outcomes.specs.RankStates.{IsSpotOf, Spot, first_spot}
+use Rattle.nm_outcomes.specs.RankStates.{Spot, first_spot}
 use Rattle.nm_explored.specs.Successors.{spot_in}
 use Rattle.nm_explored.specs.Lists.{Has}
 use Rattle.nm_explored.specs.Settings.{IsAt}

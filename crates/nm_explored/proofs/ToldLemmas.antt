@@ -1,13 +1,13 @@
 -- What some ranks and some deeds told, with one more.
-use Rattle.std.proofs.Common.{◌≡◌, ℕ, zero, suc, ◌+◌, ◌<◌, Option, Some, None, List, [], ◌∷◌, ◌++◌, length, take, get_or, refl, sym}
+use Rattle.std.proofs.Common.{◌≡◌, ℕ, zero, suc, ◌+◌, ◌<◌, Option, Some, None, List, [], ◌∷◌, ◌++◌, length, take, get_or, refl}
 use Rattle.std.proofs.Common.{◌∙◌, ap, arith}
 use Rattle.std.specs.Prelude.{option_map}
-use Rattle.std.specs.List.{cons_option, filter_map, range_with_len, slice_get}
+use Rattle.std.specs.List.{cons_option, filter_map, range_with_len}
 use Rattle.std.proofs.lemmas.List.Elements.{filter_map-append}
 use Rattle.std.proofs.lemmas.Option.{slice_get-get_or}
 use Rattle.nm_types.specs.declared.scripts.Line.{Line}
 use Rattle.nm_types.proofs.ListLemmas.{take_more}
-use Rattle.nm_report.specs.Told.{RankTold, Told, told_by}
+use Rattle.nm_report.specs.Told.{RankTold, told_by}
 use Rattle.nm_outcomes.specs.declared.spots.deeds.Deed.{Deed}
 use Rattle.nm_outcomes.specs.Deeds.{happening}
 use Rattle.nm_outcomes.specs.RankStates.{Spot}

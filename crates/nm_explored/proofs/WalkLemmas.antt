@@ -1,10 +1,9 @@
 -- A run is a path of moves over the states of its ranks.
 use Rattle.std.proofs.Common.{◌≡◌, ◌⊎◌, inl, inr, ℕ, suc, ◌<◌, ◌==◌, ◌&&◌, ◌||◌, Bool, true, false, Option, Some, None}
-use Rattle.std.proofs.Common.{List, [], ◌∷◌, ◌++◌, map, refl, sym, ◌∙◌, ap, subst, append-nil, append_assoc, length}
-use Rattle.std.specs.List.{find, list_any, slice_get, slice_set}
+use Rattle.std.proofs.Common.{List, [], ◌∷◌, ◌++◌, map, refl, sym, ◌∙◌, ap, subst, append-nil, append_assoc}
+use Rattle.std.specs.List.{slice_get, slice_set}
 use Rattle.std.proofs.lemmas.Bool.{false≢true}
 use Rattle.std.proofs.Math.Bool.{or-false}
-use Rattle.nm_types.specs.declared.messages.Arrival.{Arrival}
 use Rattle.nm_types.specs.declared.scripts.Line.{Line}
 use Rattle.nm_types.specs.Commands.{commands_of}
 use Rattle.nm_types.specs.Limits.{IsScript}
@@ -116,7 +115,8 @@ module _ (shape : Sizes) (lines : List Line) (commands : AreCommands shape.ranks
   IsPathOf n s e = IsPath (Goes shape.eager shape.ranks lines) n s e
 
   -- a rank went into another state
-  moved : (before : List Step) (s : Step) (states : List Spot) (t : Spot) → s.rank < shape.ranks → AreHere before states →
+  moved : (before : List Step) (s : Step) (states : List Spot) (t : Spot) → s.rank < shape.ranks →
+      AreHere before states →
       IsSpotOf lines (history_in before s.rank ++ s.event ∷ []) t →
       AreHere (before ++ s ∷ []) (slice_set states s.rank t)
   moved before s states t inside are is j low = by_rank (s.rank == j) refl

@@ -45,7 +45,8 @@ pub record IsSound (eager ranks : ℕ) (lines : List Line) (table : List Spot) (
   pub met : IsMet eager ranks lines (states_in table ids)
 
 -- the state with number k comes of one with a smaller number by the move that the store has
-pub record IsStep (eager ranks : ℕ) (lines : List Line) (store : Store) (k : ℕ) (ids : List ℕ) (way : Way) : Type 0 where
+pub record IsStep (eager ranks : ℕ) (lines : List Line) (store : Store) (k : ℕ) (ids : List ℕ)
+    (way : Way) : Type 0 where
   pub before : List ℕ
   pub here : slice_get store.states way.before ≡ Some before
   pub low : way.before < k

@@ -5,7 +5,7 @@ use Rattle.std.specs.List.{slice_get}
 use Rattle.nm_types.specs.declared.messages.Arrival.{Arrival}
 use Rattle.nm_types.specs.declared.scripts.Command.{Command}
 use Rattle.nm_types.specs.declared.scripts.Line.{Line}
-use Rattle.nm_types.specs.Commands.{Numbered, command_at, commands_of}
+use Rattle.nm_types.specs.Commands.{command_at, commands_of}
 use Rattle.nm_types.specs.Limits.{IsScript, sent_len}
 use Rattle.nm_types.specs.Sizes.{Sizes}
 use Rattle.nm_history.specs.declared.events.Event.{Event}

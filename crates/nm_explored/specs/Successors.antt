@@ -1,6 +1,6 @@
 -- What may happen next at a rank, by the states of all ranks.
-use Rattle.std.specs.Prelude.{◌≡◌, ◌⊎◌, ℕ, ◌-◌, ◌<◌, ◌^◌, ◌==◌, ◌&&◌, ◌||◌, Bool, true, false, not, if◌then◌else◌}
-use Rattle.std.specs.Prelude.{nat_lt, Contains, Option, Some, None, List}
+use Rattle.std.specs.Prelude.{ℕ, ◌-◌, ◌==◌, ◌&&◌, ◌||◌, Bool, true, false, not, if◌then◌else◌}
+use Rattle.std.specs.Prelude.{nat_lt, Option, Some, None, List}
 use Rattle.std.specs.Prelude.{count_by, filter, find, is_some, length, option_and_then, option_map}
 use Rattle.std.specs.List.{list_any, slice_get}
 use Rattle.std.specs.Option.{option_map_or}
@@ -9,8 +9,6 @@ use Rattle.nm_types.specs.declared.scripts.Command.{Command}
 use Rattle.nm_types.specs.declared.scripts.Command.TheVariants as command
 use Rattle.nm_types.specs.declared.scripts.Line.{Line}
 use Rattle.nm_types.specs.Bodies.{body_len}
-use Rattle.nm_types.specs.Commands.{Numbered, command_at, commands_of}
-use Rattle.nm_types.specs.Limits.{sent_len}
 use Rattle.nm_history.specs.declared.plain.Pair.{Pair}
 use Rattle.nm_history.specs.Answers.{Message as Claimed}
 use Rattle.nm_history.specs.Completion.{Request}
@@ -209,5 +207,6 @@ abbrev pub is_withdrawn_next : (ℕ → Option Spot) → ℕ → ℕ → ℕ →
 is_withdrawn_next w i from n =
     option_map_or
     (λ spot. option_map_or
-    (λ other. list_any (is_message from n) spot.came && (free_lem spot from n && list_any (is_recall_by i n) other.deeds))
+    (λ other. list_any (is_message from n) spot.came &&
+    (free_lem spot from n && list_any (is_recall_by i n) other.deeds))
     (w from) false) (w i) false

@@ -5,6 +5,7 @@ ghost use Rattle.std.specs.Prelude.{false, map, option_copied, option_map, slice
 ghost use Rattle.std.specs.List.{cons_option};
 ghost use Rattle.nm_types.specs.Bodies as bodies;
 ghost use Rattle.nm_types.specs.Bodies.{body_len};
+ghost use Rattle.nm_history.specs.declared.events.Happened.TheVariants as event;
 ghost use Rattle.nm_report.specs.Told.{told_by, told_of_rank};
 ghost use Rattle.nm_outcomes.specs.Deeds.{answer_meant, happening as happening_lem};
 ghost use Rattle.nm_outcomes.specs.Deeds.{bytes_at as bytes_at_lem};
@@ -29,7 +30,7 @@ use nm_outcomes::spots::looks::{is_answer, ran};
 use nm_outcomes::spots::ranks::Rank;
 use nm_report::{Accounts, RankAccount};
 use nm_types::laws::{bodies_have_their_length, commands_stand_at_their_lines};
-use nm_types::{Answer, Body, Bytes, Command, Line, Memory, Script, Shape};
+use nm_types::{Answer, Body, Bytes, Command, How, Line, Memory, Script, Shape};
 use std::alloc::Global;
 use std::marker::Model;
 
@@ -107,6 +108,21 @@ fn answer_of(alloc: Global, lines: &[Line], reply: Reply) -> Result<Answer, Memo
     })
 }
 
+/// The event of a send.
+fn sending(to: u8, n: u64, tag: u16, ctx: u8, len: u32, how: How, line: u32) -> Happened
+    ensures { result ≡ event.Send to n tag ctx len how line }
+{
+    Happened::Send {
+        to,
+        n,
+        tag,
+        ctx,
+        len,
+        how,
+        line,
+    }
+}
+
 /// What a deed stands for.
 pub fn happening(alloc: Global, lines: &[Line], deed: Deed) -> Result<Happened, Memory>
     requires { AreShort lines.now }
@@ -121,15 +137,7 @@ pub fn happening(alloc: Global, lines: &[Line], deed: Deed) -> Result<Happened, 
             len,
             how,
             line,
-        } => Happened::Send {
-            to,
-            n,
-            tag,
-            ctx,
-            len,
-            how,
-            line,
-        },
+        } => sending(to, n, tag, ctx, len, how, line),
         Deed::Post { receive, line } => Happened::Post {
             post: receive.post(),
             line,

@@ -42,16 +42,23 @@ pub struct Turn {
     pub by: Move,
 }
 
+/// A rank makes a move.
+pub fn make(rank: &mut Rank, by: Move) -> Result<(), Memory>
+    ensures { OnOk result (rank.new ≡ moved_at rank.old by) }
+{
+    match by {
+        Move::Act(deed) => rank.act(deed),
+        Move::Arrive(a) => rank.arrive(a),
+        Move::Withdraw(message) => rank.withdraw(message.rank, message.n),
+    }
+}
+
 /// A rank's state after a move.
 pub fn moved(rank: &Rank, by: Move) -> Result<Rank, Memory>
     ensures { IfOk result (λ after. after ≡ moved_at rank.now by) }
 {
     let mut after = rank.copy()?;
-    match by {
-        Move::Act(deed) => after.act(deed)?,
-        Move::Arrive(a) => after.arrive(a)?,
-        Move::Withdraw(message) => after.withdraw(message.rank, message.n)?,
-    }
+    make(&mut after, by)?;
     Ok(after)
 }
 

@@ -1,5 +1,5 @@
 -- A wait that has an answer is settled.
-use Rattle.std.proofs.Common.{◌≡◌, sym, ◌∙◌, ap, subst}
+use Rattle.std.proofs.Common.{sym, ◌∙◌, ap, subst}
 use Rattle.std.specs.Prelude.{IsTrue}
 use Rattle.nm_types.specs.declared.scripts.Command.{Command}
 use Rattle.nm_types.proofs.OptionLemmas.{some_of}

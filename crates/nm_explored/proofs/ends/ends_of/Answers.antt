@@ -1,12 +1,10 @@
 -- One state more, and all of them.
-use Rattle.std.proofs.Common.{◌≡◌, ℕ, ◌<◌, Some, List, length, map, ap, arith}
+use Rattle.std.proofs.Common.{◌≡◌, ℕ, Some, List, map}
 use Rattle.std.specs.List.{slice_get}
-use Rattle.nm_types.proofs.ListLemmas.{place_below}
 use Rattle.nm_explored.specs.Successors.{spot_in}
 use Rattle.nm_explored.specs.Lists.{Has}
 use Rattle.nm_explored.proofs.KeptLemmas.{each_next, has_kept, or_more}
 use Rattle.nm_explored.specs.Ends.{AreAtRest, IsEndAmong, IsToldAmong, all_told, told_at_end}
-use Rattle.nm_explored.specs.Stores.{Store}
 use Rattle.nm_explored.proofs.ends.ends_of.Goals as goal
 
 pub loop-k-preserved : goal.loop-k-preserved

@@ -10,4 +10,5 @@ loop-from-preserved c =
     each_next
     (λ (from : ℕ). message_next (spot_in c.args.view.table.now c.args.view.ids.now) c.args.i from ≡ None)
     c.loop-from.from c.loop-from.invariant
-    (sym c.next_message.ensures ∙ none_is c.next_message.result c.is_some.result (sym c.is_some.ensures) c.if-is_some.false)
+    (sym c.next_message.ensures ∙ none_is c.next_message.result c.is_some.result
+    (sym c.is_some.ensures) c.if-is_some.false)

@@ -1,5 +1,5 @@
 -- One message more may not be withdrawn, and then no message may.
-use Rattle.std.proofs.Common.{◌≡◌, ℕ, Some, false, List, length, get_or, sym, ◌∙◌, ap, subst, arith}
+use Rattle.std.proofs.Common.{◌≡◌, ℕ, Some, false, List, length, sym, ◌∙◌, ap, subst, arith}
 use Rattle.std.specs.List.{slice_get}
 use Rattle.std.proofs.lemmas.Option.{slice_get-get_or}
 use Rattle.nm_types.specs.declared.messages.Arrival.{Arrival}

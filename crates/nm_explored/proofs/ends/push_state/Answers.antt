@@ -1,5 +1,5 @@
 -- A state that is there, if it is an end.
-use Rattle.std.proofs.Common.{◌≡◌, ℕ, Some, List, map, ◌∙◌, ap, subst, arith}
+use Rattle.std.proofs.Common.{◌≡◌, ℕ, List, map, ◌∙◌, ap, subst, arith}
 use Rattle.std.specs.Prelude.{OnOk, Result, Ok, Err}
 use Rattle.std.specs.List.{slice_get}
 use Rattle.nm_types.proofs.ListLemmas.{place_below}
@@ -31,7 +31,8 @@ returns-in-Some-clause-added c =
     looked_up c.as_slice.result.now c.args.k c.in-Some.state.now ids c.in-Some.ensures.lookup.3.0
     c.in-Some.ensures.lookup.3.1 (ap (λ (ss : List (List ℕ)). slice_get ss c.args.k) states ∙ here) in
     subst (λ (x : List Spot). AreAtRest c.args.of.ranks c.args.of.lines.now (spot_in x ids) →
-    Has (map told_at_end c.push_end.new.ends.items) (all_told c.args.of.lines.now (spot_in x ids) c.args.of.ranks)) table
+    Has (map told_at_end c.push_end.new.ends.items) (all_told c.args.of.lines.now (spot_in x ids) c.args.of.ranks))
+    table
     (subst (λ (y : List ℕ). AreAtRest c.args.of.ranks c.args.of.lines.now (spot_in c.as_slice-in-Some.result.now y) →
     Has (map told_at_end c.push_end.new.ends.items)
     (all_told c.args.of.lines.now (spot_in c.as_slice-in-Some.result.now y) c.args.of.ranks)) (own ∙ same) added) rest)

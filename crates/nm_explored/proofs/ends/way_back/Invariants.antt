@@ -1,5 +1,5 @@
 -- The moves so far lead from the state that is next to the last one.
-use Rattle.std.proofs.Common.{◌≡◌, ℕ, ◌+◌, ◌≤◌, Some, List, ◌++◌}
+use Rattle.std.proofs.Common.{◌≡◌, ℕ, Some, List}
 use Rattle.std.specs.List.{slice_get}
 use Rattle.nm_types.specs.declared.scripts.Line.{Line}
 use Rattle.nm_explored.specs.Met.{AreBack}

@@ -39,7 +39,8 @@ loop-from-preserved c =
           (option_map (λ (a : Arrival). record { rank = c.args.i; by = Arrive a }) c.next_message.result)
           c.in_ok-push_arrival.ensures.only
           (λ t is.
-          let m = mapped_some (λ (a : Arrival). record { rank = c.args.i; by = Arrive a }) c.next_message.result t is in (
+          let m = mapped_some (λ (a : Arrival). record { rank = c.args.i; by = Arrive a }) c.next_message.result t is
+          in (
             m.0,
             m.2,
             record {

@@ -1,15 +1,14 @@
 -- What the command does and the answers that it may have are among the moves.
-use Rattle.std.proofs.Common.{◌≡◌, ◌⊎◌, inl, inr, Option, Some, ap, ◌∙◌}
-use Rattle.std.specs.Prelude.{◌<◌, ◌^◌, option_map}
-use Rattle.nm_types.specs.Limits.{sent_len}
+use Rattle.std.proofs.Common.{inl, inr, Option, ap, ◌∙◌}
+use Rattle.std.specs.Prelude.{option_map}
 use Rattle.nm_types.proofs.OptionLemmas.{if_some}
 use Rattle.nm_outcomes.specs.declared.spots.deeds.Deed.{Deed}
 use Rattle.nm_outcomes.specs.declared.spots.deeds.Deed.TheVariants as deed
 use Rattle.nm_outcomes.specs.declared.spots.deeds.Reply.{Reply}
 use Rattle.nm_explored.specs.declared.choices.moves.Move.TheVariants.{Act}
-use Rattle.nm_explored.specs.Successors.{begun_in, spot_in}
+use Rattle.nm_explored.specs.Successors.{spot_in}
 use Rattle.nm_explored.specs.Lists.{Has}
-use Rattle.nm_explored.specs.Moves.{IsDeedOf, no_in, reply_in}
+use Rattle.nm_explored.specs.Moves.{IsDeedOf}
 use Rattle.nm_explored.proofs.KeptLemmas.{deeds_only, has_kept}
 use Rattle.nm_explored.proofs.choices.moves.push_command.Goals as goal
 
@@ -28,7 +27,8 @@ returns-clause-added c d is = by_kind is
         has_kept c.push_deed-2.new.turns.items c.push_deed-3.new.turns.items _ c.in_ok-push_deed-3.ensures.kept
         (if_some (λ (d : Deed). Has c.push_deed-2.new.turns.items (record { rank = c.args.i; by = Act d }))
         c.replied.result d
-        (c.replied.ensures ∙ ap (λ (o : Option Reply). option_map (λ r. deed.Ran c.args.line r) o) c.answer.ensures ∙ says)
+        (c.replied.ensures ∙ ap (λ (o : Option Reply). option_map (λ r. deed.Ran c.args.line r) o) c.answer.ensures
+        ∙ says)
         c.in_ok-push_deed-2.ensures.added)
     by_kind (inr (inr denies)) =
         if_some (λ (d : Deed). Has c.push_deed-3.new.turns.items (record { rank = c.args.i; by = Act d }))

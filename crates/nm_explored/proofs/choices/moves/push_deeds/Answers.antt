@@ -8,7 +8,7 @@ use Rattle.nm_explored.specs.declared.choices.moves.Move.TheVariants.{Act}
 use Rattle.nm_explored.specs.declared.choices.moves.Turn.{Turn}
 use Rattle.nm_explored.specs.Successors.{spot_in}
 use Rattle.nm_explored.specs.Lines.{line_in}
-use Rattle.nm_explored.specs.Moves.{IsAct, IsDeedOf}
+use Rattle.nm_explored.specs.Moves.{IsAct}
 use Rattle.nm_explored.proofs.KeptLemmas.{IsDeedTurn, only_weaker}
 use Rattle.nm_explored.proofs.choices.moves.push_deeds.Goals as goal
 

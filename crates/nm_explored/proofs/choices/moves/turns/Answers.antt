@@ -1,8 +1,6 @@
 -- The moves of one rank more.
-use Rattle.std.proofs.Common.{ℕ, ◌⊎◌, inl, inr}
-use Rattle.nm_explored.specs.declared.choices.moves.Turn.{Turn}
+use Rattle.std.proofs.Common.{ℕ}
 use Rattle.nm_explored.specs.Successors.{spot_in}
-use Rattle.nm_explored.specs.Lists.{Has}
 use Rattle.nm_explored.specs.Moves.{AreMovesOf, IsTurn}
 use Rattle.nm_explored.proofs.KeptLemmas.{each_next, has_kept, or_more}
 use Rattle.nm_explored.proofs.choices.moves.turns.Goals as goal

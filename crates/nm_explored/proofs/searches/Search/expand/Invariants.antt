@@ -17,7 +17,8 @@ invariant-loop-turn l =
           slice_get l.turn-items m ≡ Some t → (spot : Spot) → spot_in l.fn.self.table ids t.rank ≡ Some spot →
           Leads l.self ids t.rank (moved_at spot t.by);
       made : length l.of.lines.now < 4294967293 → AreSendsShort l.of.lines.now →
-          l.k < length l.fn.self.states → IsMade l.of.eager l.of.ranks l.of.lines.now l.fn.self → IsMade l.of.eager l.of.ranks l.of.lines.now l.self;
+          l.k < length l.fn.self.states → IsMade l.of.eager l.of.ranks l.of.lines.now l.fn.self →
+          IsMade l.of.eager l.of.ranks l.of.lines.now l.self;
       back : length l.of.lines.now < 4294967293 → AreSendsShort l.of.lines.now →
           l.k < length l.fn.self.states → IsMade l.of.eager l.of.ranks l.of.lines.now l.fn.self →
           AreBack l.of.eager l.of.ranks l.of.lines.now l.fn.self → AreBack l.of.eager l.of.ranks l.of.lines.now l.self;

@@ -19,7 +19,8 @@ returns-clause-first c =
       ids = c.in_ok-ids.ids.items;
       only = one_state c.new-states.result c.add.new.self c.in_ok-ids.ids.items c.new-states.ensures
           c.in_ok-add.ensures.there
-          (by_new c.new-states.result c.add.new.self c.in_ok-ids.ids.items c.in_ok-add.field-0 c.in_ok-add.ensures.added);
+          (by_new c.new-states.result c.add.new.self c.in_ok-ids.ids.items c.in_ok-add.field-0
+          c.in_ok-add.ensures.added);
       idle = λ j low.
           ap (λ (xs : List ℕ). option_and_then (λ id. slice_get c.number.new.self id) (slice_get xs j))
           (c.in_ok-ids.ensures.items_if_clones_equal (λ y is. is))

@@ -1,5 +1,5 @@
 -- The first states are expanded.
-use Rattle.std.proofs.Common.{ℕ, ◌<◌, length}
+use Rattle.std.proofs.Common.{◌<◌, length}
 use Rattle.nm_explored.specs.Moves.{AreSendsShort}
 use Rattle.nm_explored.specs.Met.{AreBack, IsMade}
 use Rattle.nm_explored.specs.Stores.{AreExpanded, Grows}
@@ -10,7 +10,8 @@ invariant-loop-k l =
     record {
       grows : Grows l.fn.self l.self;
       all : length l.of.lines.now < 4294967293 → AreSendsShort l.of.lines.now →
-          IsMade l.of.eager l.of.ranks l.of.lines.now l.fn.self → AreExpanded l.of.eager l.of.ranks l.of.lines.now l.self l.k;
+          IsMade l.of.eager l.of.ranks l.of.lines.now l.fn.self → AreExpanded l.of.eager l.of.ranks l.of.lines.now
+          l.self l.k;
       made : length l.of.lines.now < 4294967293 → AreSendsShort l.of.lines.now →
           IsMade l.of.eager l.of.ranks l.of.lines.now l.fn.self → IsMade l.of.eager l.of.ranks l.of.lines.now l.self;
       back : length l.of.lines.now < 4294967293 → AreSendsShort l.of.lines.now →

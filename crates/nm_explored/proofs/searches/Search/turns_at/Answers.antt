@@ -1,5 +1,5 @@
 -- The moves at the state with a number.
-use Rattle.std.proofs.Common.{◌≡◌, ℕ, Some, List, ◌∙◌, ap, subst, arith}
+use Rattle.std.proofs.Common.{◌≡◌, ℕ, List, ◌∙◌, ap, subst, arith}
 use Rattle.std.specs.List.{slice_get}
 use Rattle.nm_types.proofs.ListLemmas.{place_below}
 use Rattle.nm_outcomes.specs.RankStates.{Spot}

@@ -1,5 +1,5 @@
 -- A set of states of ranks has each once, and keeps what it has.
-use Rattle.std.proofs.Common.{List, ℕ, ◌∙◌, ap}
+use Rattle.std.proofs.Common.{List, ◌∙◌, ap}
 use Rattle.std.specs.List.{slice_get}
 use Rattle.nm_outcomes.specs.RankStates.{Spot}
 use Rattle.nm_explored.proofs.SetLemmas.{spot_there, spots_keep, spots_once}
