@@ -179,7 +179,8 @@ module _ (shape : Sizes) (lines : List Line) (commands : AreCommands shape.ranks
           same_some _ a
           (sym (ap (λ (o : Option Deed). option_and_then (arrival_by from n) o)
           (sent_deed lines (history_in log from) other.0 other.2 i n s.0 s.1)) ∙ next) in
-          subst (λ (a : Arrival). IsReached shape lines (pushed log i (event.Arrive a)) (slice_set states i (arrived_at spot a))) same
+          subst (λ (a : Arrival). IsReached shape lines (pushed log i (event.Arrive a))
+          (slice_set states i (arrived_at spot a))) same
           (arrive_so from is.within s.0 s.1)
       by_place false above =
           let high : length (sends (history_in log from) i) ≤ n = grind (arith, nat_tests) in
@@ -270,7 +271,8 @@ module _ (shape : Sizes) (lines : List Line) (commands : AreCommands shape.ranks
       }
 
   pub goes_now : (m : message.Message) → IsRecalled (λ k. slice_get states k) i spot m →
-      IsReached shape lines (pushed log i (event.Withdraw m.rank m.n true)) (slice_set states i (withdrawn_at spot m.rank m.n))
+      IsReached shape lines (pushed log i (event.Withdraw m.rank m.n true))
+      (slice_set states i (withdrawn_at spot m.rank m.n))
   goes_now m is =
       subst (λ (m : message.Message). IsReached shape lines (pushed log i (event.Withdraw m.rank m.n true))
       (slice_set states i (withdrawn_at spot m.rank m.n)))

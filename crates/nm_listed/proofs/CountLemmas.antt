@@ -1,7 +1,7 @@
 -- How many starts a history has at most, and how many packets it calls for.
-use Rattle.std.proofs.Common.{◌≡◌, ℕ, zero, suc, ◌+◌, ◌-◌, ◌*◌, ◌<◌, ◌≤◌, ◌==◌, ◌&&◌, Bool, true, false, cond, Option, Some, None}
-use Rattle.std.proofs.Common.{List, [], ◌∷◌, ◌++◌, length, map, refl, sym, ◌∙◌, ap, arith, length-append}
-use Rattle.std.specs.Prelude.{if◌then◌else◌, count_by, filter, option_map, option_to_list, sum_by}
+use Rattle.std.proofs.Common.{◌≡◌, ℕ, suc, ◌+◌, ◌-◌, ◌*◌, ◌<◌, ◌≤◌, ◌==◌, Bool, true, false, cond, Option, Some, None}
+use Rattle.std.proofs.Common.{List, [], ◌∷◌, ◌++◌, length, refl, ◌∙◌, ap, arith, length-append}
+use Rattle.std.specs.Prelude.{if◌then◌else◌, count_by, filter, option_to_list, sum_by}
 use Rattle.std.specs.List.{cons_option, slice_get}
 use Rattle.std.specs.Option.{option_map_or}
 use Rattle.std.proofs.lemmas.Bool.{false≢true}
@@ -20,14 +20,14 @@ use Rattle.nm_history.specs.declared.plain.Pair.{Pair}
 use Rattle.nm_history.specs.Answers.{Message, is_started, live_message}
 use Rattle.nm_history.specs.AtEach.{AtEach}
 use Rattle.nm_history.specs.Matching.{matched_pairs, new_pair}
-use Rattle.nm_history.specs.Outgoing.{further_packets, is_clear, is_recall_to, is_withdraw_from, packets_at, packets_of_send}
+use Rattle.nm_history.specs.Outgoing.{further_packets, is_clear, is_recall_to, is_withdraw_from, packets_of_send}
 use Rattle.nm_history.specs.Outgoing.{packets_to}
 use Rattle.nm_history.specs.RankRun.{StartAt, is_start, ran_lines, start_of, starts_since, without_number}
 use Rattle.nm_history.specs.Sends.{Sent, is_ask, sends, sent_of}
 use Rattle.nm_history.specs.Underway.{MayFollow, is_answer}
 use Rattle.nm_history.proofs.DeliveryLemmas.{sends-push}
 use Rattle.nm_history.proofs.OutgoingLemmas.{packets-push}
-use Rattle.nm_history.proofs.RankRunLemmas.{ran_lines-push, since-push}
+use Rattle.nm_history.proofs.RankRunLemmas.{ran_lines-push}
 use Rattle.nm_outcomes.proofs.HappenedLemmas.{history_induction}
 use Rattle.nm_listed.proofs.SteadyLemmas.{ran_same, starts_more}
 
@@ -85,7 +85,8 @@ module _ (shape : Sizes) (commands : List Numbered) where
           one_more true = refl
           one_more false = refl
       by_event h stamp (event.Ran line a) true answer was start =
-          let many = count_push (λ (e : Event). is_start e.what) h (record { stamp = stamp; what = event.Ran line a }) in
+          let many = count_push (λ (e : Event). is_start e.what) h (record { stamp = stamp; what = event.Ran line a })
+          in
           let ran = ap (λ (ls : List ℕ). length ls)
           (ran_lines-push h (record { stamp = stamp; what = event.Ran line a }))
           ∙ length-append (ran_lines h) (line ∷ []) in

@@ -194,7 +194,8 @@ module _ (shape : Sizes) (lines : List Line) (commands : AreCommands shape.ranks
     -- the command asks for the live request
     asked_is : request_asked lines i spot x.line ≡ live mine h q
     asked_is =
-        ap (λ (o : Option Command). option_and_then (λ c. option_and_then (live_in lines i spot.deeds) (name_asked c)) o)
+        ap (λ (o : Option Command). option_and_then (λ c. option_and_then (live_in lines i spot.deeds) (name_asked c))
+        o)
         (commands.stand i (length (ran_lines h)) x next)
         ∙ by_command asks ∙ (say_log log reached.told).live i q
       where

@@ -1,7 +1,7 @@
 -- At rest, what is left of the messages is put behind the log.
 use Rattle.std.proofs.Common.{◌≡◌, ℕ, zero, suc, ◌<◌, ◌≤◌, ◌==◌, ◌&&◌, ◌||◌, not, Bool}
 use Rattle.std.proofs.Common.{true, false, cond}
-use Rattle.std.proofs.Common.{ltb, Option, Some, None, List, [], ◌∷◌, ◌++◌, length, refl, sym, ◌∙◌, ap, subst, arith}
+use Rattle.std.proofs.Common.{ltb, Option, Some, None, List, [], ◌∷◌, length, refl, sym, ◌∙◌, ap, subst, arith}
 use Rattle.std.specs.Prelude.{if◌then◌else◌, count_by, option_and_then}
 use Rattle.std.specs.List.{filter, list_any, slice_get}
 use Rattle.std.specs.Option.{option_map_or}
@@ -431,7 +431,8 @@ module _ (shape : Sizes) (lines : List Line) (commands : AreCommands shape.ranks
 
           said_left : (later : List Step) → IsTold shape lines later states →
               may_leave spot other i j n ≡ may_have_left (history_in later i) (history_in later j) i j n
-          said_left later told2 = left_said shape lines commands script states i low spot here j n below other there later
+          said_left later told2 = left_said shape lines commands script states i low spot here j n below other there
+              later
               told2
 
           by_left : (b : Bool) → may_leave spot other i j n ≡ b → Then log (if b then three else one) IsEnded

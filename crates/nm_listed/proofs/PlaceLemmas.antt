@@ -62,7 +62,8 @@ front_shared [] behind others = omega arith
 front_shared (x ∷ front) behind others =
     let same : shared (x ∷ (front ++ behind)) (x ∷ (front ++ others))
     ≡ cond (nat_eq x 10) 1 0 + shared (front ++ behind) (front ++ others) =
-    ap (λ (b : Bool). cond b (cond (nat_eq x 10) 1 0 + shared (front ++ behind) (front ++ others)) 0) (eq-eqb x x refl) in
+    ap (λ (b : Bool). cond b (cond (nat_eq x 10) 1 0 + shared (front ++ behind) (front ++ others)) 0)
+    (eq-eqb x x refl) in
     omega (arith, same, lines_more x front, front_shared front behind others)
 
 pub most : (xs ys : List ℕ) (count : ℕ) → ShareLines xs ys count → count ≤ shared xs ys
@@ -131,7 +132,8 @@ shared_over xs ys n over = ap (λ (zs : List ℕ). shared zs ys) (drop_of_length
 pub shared_apart : (text other : List ℕ) (n d e : ℕ) → n < length text → n < length other →
     (get_or text n d ≡ get_or other n e → ⊥) → shared (drop n text) (drop n other) ≡ 0
 shared_apart text other n d e below under apart =
-    let is : nat_eq (get_or text n d) (get_or other n e) ≡ false = not_same (get_or text n d) (get_or other n e) apart in
+    let is : nat_eq (get_or text n d) (get_or other n e) ≡ false = not_same (get_or text n d) (get_or other n e) apart
+    in
     ap (λ (xs : List ℕ). shared xs (drop n other)) (drop-cons text n d below)
     ∙ ap (shared (get_or text n d ∷ drop (suc n) text)) (drop-cons other n e under)
     ∙ ap (λ (b : Bool). cond b (cond (nat_eq (get_or text n d) 10) 1 0

@@ -108,7 +108,8 @@ module _ (shape : Sizes) (lines : List Line) (commands : AreCommands shape.ranks
       let at = is_at log states told i low spot here in
       reached_on log states (slice_set states i (spot_after spot d)) reached i (happening lines d) low may quiet
       unmarked
-      (moved_spots shape lines log (step_at i (clock log) (happening lines d)) states (spot_after spot d) low told.stands
+      (moved_spots shape lines log (step_at i (clock log) (happening lines d)) states
+      (spot_after spot d) low told.stands
       (acts lines (history_in log i) spot at.is (clock log) d
       (is_proper log states told i (happening lines d) low may)))
       steady

@@ -1,5 +1,5 @@
 -- The record of a log, one entry, one rank and one count after another.
-use Rattle.std.proofs.Common.{◌≡◌, ℕ, zero, suc, ◌+◌, ◌<◌, ◌≤◌, ◌==◌, ◌&&◌, Bool, true, false, Option, Some, None}
+use Rattle.std.proofs.Common.{◌≡◌, ℕ, zero, suc, ◌+◌, ◌<◌, ◌≤◌, ◌&&◌, Bool, Option, Some, None}
 use Rattle.std.proofs.Common.{List, [], ◌∷◌, ◌++◌, length, get_or, refl, sym, ◌∙◌, ap, subst, arith, append_assoc, zero-add}
 use Rattle.std.specs.Prelude.{filter_map, is_none, option_map}
 use Rattle.std.specs.List.{cons_option, list_all, range_with_len, slice_get}
@@ -7,7 +7,7 @@ use Rattle.std.proofs.lemmas.List.{length-map, map-append}
 use Rattle.std.proofs.lemmas.Option.{slice_get-get_or, slice_get-map}
 use Rattle.nm_types.specs.declared.scripts.Line.{Line}
 use Rattle.nm_types.specs.Sizes.{Sizes}
-use Rattle.nm_types.proofs.OptionLemmas.{mapped_some, no_some, same_some}
+use Rattle.nm_types.proofs.OptionLemmas.{mapped_some, no_some}
 use Rattle.nm_history.specs.declared.events.Event.{Event}
 use Rattle.nm_history.specs.Outgoing.{packets_to}
 use Rattle.nm_history.specs.Quiescence.{Ended}

@@ -5,7 +5,7 @@ use Rattle.std.proofs.Common.{Option, Some, None, List, [], ◌∷◌, ◌++◌,
 use Rattle.std.proofs.Common.{arith, append_assoc}
 use Rattle.std.specs.Prelude.{if◌then◌else◌, IsTrue, MatchOption, count_by, filter_map, is_some}
 use Rattle.std.specs.Prelude.{option_and_then, option_map}
-use Rattle.std.specs.List.{AllByRecursion, cons_option, find, list_any, range_with_len, slice_get}
+use Rattle.std.specs.List.{find, list_any, range_with_len, slice_get}
 use Rattle.std.specs.Bool.{OnTrue}
 use Rattle.std.specs.Option.{option_map_or}
 use Rattle.std.proofs.lemmas.Bool.{false≢true}
@@ -44,7 +44,7 @@ use Rattle.nm_history.specs.Quiescence.{Packets, RecallsAnswered, is_kept_back, 
 use Rattle.nm_history.specs.Run.{IsRunOf}
 use Rattle.nm_history.specs.RankRun.{EndAt, IsRankRun, NumberAt, WholeAt, is_asking, ran_lines}
 use Rattle.nm_history.specs.Sends.{Arrived, Sent, arrivals, is_ask, sends, sent_bytes}
-use Rattle.nm_history.specs.Underway.{MayFollow, is_of_packet}
+use Rattle.nm_history.specs.Underway.{MayFollow}
 use Rattle.nm_history.proofs.AppendLemmas.{arrivals-append, sends-append}
 use Rattle.nm_history.proofs.AtEachLemmas.{AtEach-split}
 use Rattle.nm_history.proofs.Basic.{on_test}
@@ -63,7 +63,6 @@ use Rattle.nm_outcomes.specs.Logs.{Step, history_in}
 use Rattle.nm_outcomes.specs.Paths.{AreCommands}
 use Rattle.nm_outcomes.specs.RankStates.{Spot, free_lem, is_that}
 use Rattle.nm_outcomes.specs.Results.{is_past_recall, is_unasked, may_end_with, may_have_left}
-use Rattle.nm_outcomes.specs.declared.spots.deeds.Deed.{Deed}
 use Rattle.nm_outcomes.specs.declared.spots.deeds.Reply.TheVariants as reply
 use Rattle.nm_outcomes.specs.Deeds.{happening}
 use Rattle.nm_outcomes.specs.Looks.{IsSaid, is_answer_by, is_recall_by}
@@ -774,7 +773,8 @@ ends_are_runs stand shape lines state script met rest =
       shaped = refl;
       ranks = same;
       pairs = map_twice (λ (p : Packets). record { from = p.from; to = p.to; packets = p.count })
-          (λ (pair : PairCount). record { from = pair.from; to = pair.to; count = pair.packets }) (packets_due lines ends)
+          (λ (pair : PairCount). record { from = pair.from; to = pair.to; count = pair.packets })
+          (packets_due lines ends)
           ∙ map_same (λ (p : Packets). p) (λ p. refl) (packets_due lines ends)
           ∙ ap (λ (es : List Ended). packets_due lines es) (sym same);
       cells = refl;

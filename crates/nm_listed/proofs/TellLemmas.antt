@@ -30,7 +30,7 @@ use Rattle.nm_outcomes.proofs.LogLemmas.{grown_here, grown_other, log-push}
 use Rattle.nm_outcomes.proofs.PathLemmas.{history_split}
 use Rattle.nm_explored.specs.Moves.{AreSpots}
 use Rattle.nm_explored.proofs.WalkLemmas.{quiet_spot}
-use Rattle.nm_listed.specs.Tellings.{clock, pushed}
+use Rattle.nm_listed.specs.Tellings.{clock}
 use Rattle.nm_listed.proofs.SteadyLemmas.{IsSteady, steady_packet}
 
 -- all events are earlier than a clock

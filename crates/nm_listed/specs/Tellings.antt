@@ -8,7 +8,6 @@ use Rattle.nm_types.specs.declared.scripts.Command.{Command}
 use Rattle.nm_types.specs.declared.scripts.Command.TheVariants as command
 use Rattle.nm_types.specs.declared.scripts.Line.{Line}
 use Rattle.nm_types.specs.Commands.{command_at, commands_of}
-use Rattle.nm_history.specs.declared.events.Event.{Event}
 use Rattle.nm_history.specs.declared.events.Happened.{Happened}
 use Rattle.nm_history.specs.declared.events.Happened.TheVariants as event
 use Rattle.nm_history.specs.Answers.{is_result}
@@ -98,7 +97,8 @@ request_asked lines i spot line =
 -- what the answer of a line needs: only results need anything
 abbrev pub before_answer : List Line → List Step → ℕ → Spot → ℕ → Reply → List Step
 before_answer lines log i spot line r =
-    if is_result (answer_meant lines r) then option_map_or (before_result log i spot) (request_asked lines i spot line) log
+    if is_result (answer_meant lines r) then option_map_or (before_result log i spot)
+    (request_asked lines i spot line) log
     else log
 
 -- what a move needs

@@ -1,6 +1,9 @@
 //! A log of events, and what is put into it that is no move.
 
-ghost use Rattle.std.specs.Prelude.{◌≡◌, ◌||◌, [], List, OnOk, true, false, count_by, find, option_and_then, option_map};
+ghost use Rattle.std.specs.Prelude.{◌≡◌, ℕ, ◌<◌, ◌++◌, ◌∷◌, ◌||◌, [], List, OnOk, true, false, count_by, find};
+ghost use Rattle.std.specs.Prelude.{option_and_then, option_map};
+ghost use Rattle.indexmap.specs.IndexSet.{spare};
+ghost use Rattle.nm_history.specs.declared.events.Happened as happening;
 ghost use Rattle.nm_history.specs.Answers.{is_result as is_result_lem};
 ghost use Rattle.nm_history.specs.Happens.{happened, is_undone as is_undone_lem};
 ghost use Rattle.nm_history.specs.Happens.{is_withdraw as is_withdraw_lem};
@@ -8,17 +11,18 @@ ghost use Rattle.nm_history.specs.Matching.{is_of_receive};
 ghost use Rattle.nm_lookups.specs.AskedFor.{meant_by};
 ghost use Rattle.nm_types.specs.declared.scripts.Line as script_line;
 ghost use Rattle.nm_outcomes.specs.Deeds.{answer_meant};
+ghost use Rattle.nm_outcomes.specs.Logs as logs;
 ghost use Rattle.nm_outcomes.specs.Logs.{history_in};
 ghost use Rattle.nm_outcomes.specs.Looks.{is_send_by, live_in};
-ghost use Rattle.std.specs.List.{list_any};
-ghost use Rattle.nm_listed.specs.Marks.{is_marked as is_marked_lem, is_marked_at as is_marked_at_lem};
+ghost use Rattle.nm_listed.specs.Marks.{AreSaid, is_marked as is_marked_lem, said_by as said_by_lem};
 ghost use Rattle.nm_listed.specs.Tellings.{answered, before_answer, before_got, before_move, before_result};
 ghost use Rattle.nm_listed.specs.Tellings.{before_sent, each_below, may_leave as may_leave_lem};
 ghost use Rattle.nm_listed.specs.Tellings.{name_asked as name_asked_lem, over, pushed};
 ghost use Rattle.nm_listed.specs.Tellings.{request_asked as request_asked_lem, with_answer, with_late};
 ghost use Rattle.nm_listed.specs.Tellings.{with_out, with_undone, with_whole};
 
-use crate::retold::marks::{Mark, is_marked};
+use crate::retold::marks::{Mark, Said, said_by};
+use indexmap::IndexSet;
 use nm_explored::choices::moves::Move;
 use nm_history::plain::Pair;
 use nm_history::{Event, Happened};
@@ -71,35 +75,41 @@ impl Entry {
 /// The events of all ranks, in the order in which they came.
 pub struct Log {
     entries: Vec<Entry>,
+    /// What they said of messages.
+    said: IndexSet<Said>,
 }
 
 impl Drop for Log {
     fn drop(self) {
-        let Log { entries: _ } = self;
+        let Log {
+            entries: _,
+            said: _,
+        } = self;
     }
 }
 
 impl Model for Log {
     ghost use Rattle.std.specs.Prelude.{List};
     ghost use Rattle.nm_outcomes.specs.Logs.{Step};
+    ghost use Rattle.nm_listed.specs.Marks.{AreSaid};
 
     ghost Value = { List Step };
 
     ghost view = { λ a. a.entries.items };
+
+    ghost invariant = { λ a. AreSaid a.said a.entries.items };
 }
 
-/// Whether an entry of rank i says this.
-fn is_marked_at(entry: &Entry, i: u8, mark: Mark) -> bool
-    ensures { result ≡ is_marked_at_lem i mark entry.now }
+/// Adds what an event said, if it said such a thing.
+fn note(said: &mut IndexSet<Said>, new: Option<Said>)
+    requires { 0 < spare said.old }
+    ensures { (log : List logs.Step) (rank stamp : ℕ) (what : happening.Happened) →
+        new ≡ said_by_lem rank what → AreSaid said.old log →
+        AreSaid said.new (log ++ record { rank = rank; event = record { stamp = stamp; what = what } } ∷ []) }
 {
-    entry.rank == i && is_marked(mark, &entry.event.what)
-}
-
-/// Whether one of the entries does.
-fn is_any_marked(entries: &[Entry], i: u8, mark: Mark) -> bool
-    ensures { result ≡ list_any (is_marked_at_lem i mark) entries.now }
-{
-    entries.iter().any(|entry| is_marked_at(entry, i, mark))
+    if let Some(one) = new {
+        said.insert(one).unwrap();
+    }
 }
 
 /// Whether a request ends with a reply.
@@ -165,6 +175,7 @@ impl Log {
     {
         Log {
             entries: Vec::new(alloc),
+            said: IndexSet::new(alloc),
         }
     }
 
@@ -172,9 +183,12 @@ impl Log {
     pub fn push(&mut self, rank: u8, what: Happened) -> Result<(), Memory>
         ensures { OnOk result (self.new ≡ pushed self.old rank what) }
     {
+        self.said.reserve(1)?;
+        let new = said_by(rank, &what);
         let stamp = self.entries.len() as u64 + 1;
         let event = Event { stamp, what };
         self.entries.push(Entry::new(rank, event))?;
+        note(&mut self.said, new);
         Ok(())
     }
 
@@ -182,7 +196,7 @@ impl Log {
     fn has(&self, i: u8, mark: Mark) -> bool
         ensures { result ≡ happened (is_marked_lem mark) (history_in self.now i) }
     {
-        is_any_marked(self.entries.as_slice(), i, mark)
+        self.said.contains(&Said { rank: i, mark })
     }
 
     /// Whether message n of rank i to a rank was withdrawn, or was to be.
@@ -375,7 +389,7 @@ impl Log {
     pub(crate) fn into_vec(self) -> Vec<Entry>
         ensures { result.items ≡ self }
     {
-        let Log { entries } = self;
+        let Log { entries, said: _ } = self;
         entries
     }
 }

@@ -9,7 +9,7 @@ ghost use Rattle.nm_listed.specs.Tellings.{over_rank, told_next, told_way};
 
 use crate::retold::events::event_of_move;
 use crate::retold::logs::Log;
-use nm_explored::choices::moves::{Turn, moved};
+use nm_explored::choices::moves::{Turn, make};
 use nm_outcomes::spots::ranks::Rank;
 use nm_types::{Line, Memory};
 use std::alloc::Global;
@@ -64,20 +64,20 @@ fn tell(alloc: Global, lines: &[Line], log: &mut Log, rank: &Rank, turn: Turn) -
     log.push(turn.rank, what)
 }
 
-/// .. and the state of the rank after it.
+/// .. and the rank's own move.
 fn tell_at(
     alloc: Global,
     lines: &[Line],
     log: &mut Log,
-    rank: &Rank,
+    rank: &mut Rank,
     turn: Turn,
-) -> Result<Rank, Memory>
+) -> Result<(), Memory>
     requires { AreShort lines.now }
-    ensures { IfOk result (λ after. (log.new ≡ after_move lines.now log.old turn.rank rank.now turn.by)
-        × (after ≡ moved_at rank.now turn.by)) }
+    ensures log { OnOk result (log.new ≡ after_move lines.now log.old turn.rank rank.old turn.by) }
+    ensures rank { OnOk result (rank.new ≡ moved_at rank.old turn.by) }
 {
     tell(alloc, lines, log, rank, turn)?;
-    moved(rank, turn.by)
+    make(rank, turn.by)
 }
 
 /// What is left of the messages of rank i to rank j, if both are there.
@@ -130,13 +130,10 @@ impl Telling {
         requires { AreShort lines.now }
         ensures { OnOk result (self.new ≡ told_next lines.now self.old turn) }
     {
-        let at = usize::from(turn.rank);
-        let after = match self.states.get(at) {
-            Some(rank) => tell_at(alloc, lines, &mut self.log, rank, turn)?,
-            None => return Ok(()),
-        };
-        self.states[at] = after;
-        Ok(())
+        match self.states.get_mut(usize::from(turn.rank)) {
+            Some(rank) => tell_at(alloc, lines, &mut self.log, rank, turn),
+            None => Ok(()),
+        }
     }
 
     /// The turns of a way, the newest first.

@@ -15,7 +15,8 @@ loop-other-preserved c =
             next_text bytes_of c.args.texts.now c.loop-other.other-index c.other-item.result c.args.text.now
                 c.as_slice.result.now c.loop-other.most c.shared_lines-lines.result c.shared_lines-lines.result
                 c.loop-other-test.true c.other-item.is c.as_slice.ensures.value c.loop-other.invariant.0
-                c.shared_lines-lines.ensures.share c.shared_lines-lines.ensures.most (omega (arith, w.if-lines-most.true))
+                c.shared_lines-lines.ensures.share c.shared_lines-lines.ensures.most
+                (omega (arith, w.if-lines-most.true))
                 (omega arith) (inr refl),
             c.shared_lines-lines.ensures.bound,
           )

@@ -1,6 +1,5 @@
 -- The record of an end's way has the end's report.
-use Rattle.std.proofs.Common.{◌≡◌, ℕ, List, map, ap, subst, sym, ◌∙◌}
-use Rattle.nm_report.specs.declared.records.RunRecord.{RunRecord}
+use Rattle.std.proofs.Common.{◌≡◌, List, map, ap, subst, sym, ◌∙◌}
 use Rattle.nm_report.specs.Lawful.{IsRunIn}
 use Rattle.nm_report.specs.Told.{RankTold, told_of, told_of_rank}
 use Rattle.nm_explored.specs.declared.choices.moves.Turn.{Turn}

@@ -12,7 +12,8 @@ pub returns-then-eq-clause-some : goal.returns-then-eq-clause-some
 returns-then-eq-clause-some c =
     let there = text_there bytes_of c.args.texts.now (map bytes_of c.args.texts.now) c.loop-at.at
     c.index-texts-at.result refl c.loop-at-test.true c.index-texts-at.is in
-    let same = sym c.as_slice.ensures.value ∙ (bytes_eq-Decides c.as_slice.result.now c.args.text.now).0 (sym c.eq.ensures ∙ c.if-eq.true) in
+    let same = sym c.as_slice.ensures.value ∙ (bytes_eq-Decides c.as_slice.result.now c.args.text.now).0
+    (sym c.eq.ensures ∙ c.if-eq.true) in
     let place : c.loop-at.at ≡ c.loop-at.at + 1 - 1 = omega arith in (
       omega arith,
       subst (λ (k : ℕ). slice_get (map bytes_of c.args.texts.now) k ≡ Some c.args.text.now) place

@@ -1,7 +1,6 @@
 -- One run more.
-use Rattle.std.proofs.Common.{◌≡◌, suc, List, [], ◌∷◌, ◌++◌, ap, ◌∙◌}
+use Rattle.std.proofs.Common.{suc, List, [], ◌∷◌, ◌++◌, ap, ◌∙◌}
 use Rattle.std.specs.List.{slice_get}
-use Rattle.std.specs.Vec.Iter.{into_iter_items}
 use Rattle.nm_explored.specs.declared.ends.End.{End}
 use Rattle.nm_listed.proofs.TraceLemmas.{runs_more}
 use Rattle.nm_listed.proofs.tracing.end_runs.Goals as goal

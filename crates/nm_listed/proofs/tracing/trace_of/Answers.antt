@@ -33,7 +33,8 @@ returns-then-is_within c =
     c.as_slice.ensures.value ∙ ap (λ p. p.1.items) c.into_parts-texts.ensures in
     ok_weaker _ _
     (λ t chosen. traced c.args.shape c.args.script.now.lines c.put_in_order.new.self c.as_slice.result.now
-    c.args.number t (subst (All (IsRunIn c.args.shape c.args.script.now.lines)) (sym runs) c.in_ok-end_runs.ensures.lawful) (found at)
+    c.args.number t (subst (All (IsRunIn c.args.shape c.args.script.now.lines))
+    (sym runs) c.in_ok-end_runs.ensures.lawful) (found at)
     chosen) c.chosen.result c.chosen.ensures
 
 pub returns : goal.returns

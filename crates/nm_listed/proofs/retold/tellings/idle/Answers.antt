@@ -1,5 +1,5 @@
 -- One rank more.
-use Rattle.std.proofs.Common.{◌≡◌, ◌+◌, replicate, arith}
+use Rattle.std.proofs.Common.{arith}
 use Rattle.nm_listed.proofs.TurnLemmas.{replicate_next}
 use Rattle.nm_listed.proofs.retold.tellings.idle.Goals as goal
 

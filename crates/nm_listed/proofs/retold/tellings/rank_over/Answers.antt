@@ -1,7 +1,7 @@
 -- One rank more.
-use Rattle.std.proofs.Common.{◌≡◌, ◌+◌, ◌∙◌, List, ap, sym}
+use Rattle.std.proofs.Common.{◌∙◌, List, ap, sym}
 use Rattle.nm_outcomes.specs.Logs.{Step}
-use Rattle.nm_listed.specs.Tellings.{each_below, over_pair}
+use Rattle.nm_listed.specs.Tellings.{over_pair}
 use Rattle.nm_listed.proofs.TurnLemmas.{below_next}
 use Rattle.nm_listed.proofs.retold.tellings.rank_over.Goals as goal
 

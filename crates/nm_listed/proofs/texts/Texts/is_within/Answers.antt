@@ -9,4 +9,5 @@ pub returns : goal.returns
 returns c =
     subst (λ n. IsTrue c.are_within.result ↔ (n ≤ c.args.most))
     (ap (sum_by (λ text. length (bytes_of text))) c.as_slice.ensures.value
-    ∙ sym (length_of_images (bytes_of {A = Global}) c.self.inside.items.items) ∙ ap total_length c.self.view_is) c.are_within.ensures
+    ∙ sym (length_of_images (bytes_of {A = Global}) c.self.inside.items.items) ∙ ap total_length c.self.view_is)
+    c.are_within.ensures

@@ -1,5 +1,5 @@
 -- One turn more.
-use Rattle.std.proofs.Common.{◌≡◌, ◌+◌, ◌∙◌, ap, sym}
+use Rattle.std.proofs.Common.{◌∙◌, ap, sym}
 use Rattle.nm_listed.specs.Tellings.{Telling, told_next}
 use Rattle.nm_listed.proofs.TurnLemmas.{way_all, way_next, way_none}
 use Rattle.nm_listed.proofs.retold.tellings.Telling.of.Goals as goal
