@@ -8,3 +8,4 @@ mod Turning
 mod Whole
 mod Countable
 mod BegunLemmas
+mod GoingOn

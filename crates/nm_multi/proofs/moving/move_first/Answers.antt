@@ -1,4 +1,4 @@
-use Rattle.std.proofs.Common.{[], ◌∙◌, sym, ap, refl, inl, inr, true, false, arith, List, length-append, true≢false}
+use Rattle.std.proofs.Common.{[], ◌∙◌, sym, ap, refl, inl, inr, arith, List, length-append, true≢false}
 use Rattle.std.specs.Prelude.{length}
 use Rattle.nm_multi.proofs.Alone.{begins, moved_one, moves_of}
 use Rattle.nm_multi.proofs.moving.move_first.Goals as goal
