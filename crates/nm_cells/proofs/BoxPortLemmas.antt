@@ -13,6 +13,7 @@ use Rattle.nm_chain.specs.Plays as plays
 use Rattle.nm_chain.specs.Plays.{Knowing, mine, Took}
 use Rattle.nm_cells.specs.Carried.{times}
 use Rattle.nm_chain.specs.NextBox.{to_fill, next_box, work, BoxesApart}
+use Rattle.nm_chain.specs.OwnQueues.{OwnQueue, receive_queue, free_queue}
 use Rattle.nm_cells.specs.AtWork.{one_at, HoldsBoxes}
 use Rattle.nm_cells.proofs.CountedLemmas.{lids_new}
 use Rattle.nm_cells.proofs.NumberLemmas.{put_other, from_other}
@@ -200,21 +201,21 @@ module _ {A : Type 0} (e : Entry A) (left : List (ℕ × Load A)) where
 
 module _ {A : Type 0} where
   -- the first cell of an own queue is in hand
-  pub boxes_took : (me after : Knowing A) (b : Bool) (c shadow : ℕ) → HoldsBoxes (mine me) me.1
+  pub boxes_took : (me after : Knowing A) (b : OwnQueue) (c shadow : ℕ) → HoldsBoxes (mine me) me.1
       → length (mine me).hands ≡ (mine me).ranks * (mine me).each → Took b c shadow me after
       → HoldsBoxes (mine after) after.1
-  boxes_took me after true c shadow h long t = subst (λ (k : Knowing A). HoldsBoxes (mine k) k.1)
+  boxes_took me after receive_queue c shadow h long t = subst (λ (k : Knowing A). HoldsBoxes (mine k) k.1)
       (sym t.after_is)
       (boxes_pushed (mine me) me.1 h c t.load (subst (λ k. c < k) long t.low))
-  boxes_took me after false c shadow h long t = subst (λ (k : Knowing A). HoldsBoxes (mine k) k.1)
+  boxes_took me after free_queue c shadow h long t = subst (λ (k : Knowing A). HoldsBoxes (mine k) k.1)
       (sym t.after_is)
       (boxes_pushed (mine me) me.1 h c t.load (subst (λ k. c < k) long t.low))
 
   -- what a consumer knows of a queue changes
-  pub boxes_heads : (b : Bool) (x : Heads) (e : Entry A) (hs : List (ℕ × Load A)) → HoldsBoxes e hs
+  pub boxes_heads : (b : OwnQueue) (x : Heads) (e : Entry A) (hs : List (ℕ × Load A)) → HoldsBoxes e hs
       → HoldsBoxes (plays.with_heads b x e) hs
-  boxes_heads true x e hs h = h
-  boxes_heads false x e hs h = h
+  boxes_heads receive_queue x e hs h = h
+  boxes_heads free_queue x e hs h = h
 
 -- at the start
 module _ (A : Type 0) (n each r : ℕ) where

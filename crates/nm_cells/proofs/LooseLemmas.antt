@@ -9,6 +9,7 @@ use Rattle.nm_chain.specs.declared.table.table.Entry.{Entry}
 use Rattle.nm_chain.specs.Rule.{Load, hand}
 use Rattle.nm_chain.specs.Plays as plays
 use Rattle.nm_chain.specs.Plays.{Knowing, mine, with_hand, Took}
+use Rattle.nm_chain.specs.OwnQueues.{OwnQueue, receive_queue, free_queue}
 use Rattle.nm_cells.specs.Carried.{times}
 use Rattle.nm_cells.specs.declared.loose.LooseCells.{LooseCells}
 use Rattle.nm_cells.specs.LooseCells.{IsAmong, AreKept}
@@ -65,9 +66,9 @@ module _ {A : Type 0} (x : LooseCells) (e : Entry A) (slots : List (ℕ × Load 
   kept_turned j low once d i = let k = h d i in
       (k.0, k.1, load_by slots d j low (once d k.0) ∙ k.2, k.3)
 
-  pub kept_heads : (b : Bool) (s : Heads) → AreKept x (plays.with_heads b s e) slots
-  kept_heads true s = h
-  kept_heads false s = h
+  pub kept_heads : (b : OwnQueue) (s : Heads) → AreKept x (plays.with_heads b s e) slots
+  kept_heads receive_queue s = h
+  kept_heads free_queue s = h
 
 module _ {A : Type 0} where
   -- another slot is given back
@@ -82,15 +83,15 @@ module _ {A : Type 0} where
       )
 
   -- a cell of an own queue is taken
-  pub kept_took : (x : LooseCells) (me after : Knowing A) (b : Bool) (c shadow : ℕ)
+  pub kept_took : (x : LooseCells) (me after : Knowing A) (b : OwnQueue) (c shadow : ℕ)
       → Took b c shadow me after → AreKept x (mine me) me.1 → AreKept x (mine after) after.1
   kept_took x me after b c shadow t h = let out = away_apart x (mine me) me.1 h c t.away in
       subst (λ (m : Knowing A). AreKept x (mine m) m.1) (sym t.after_is)
       (by_queue b out (kept_push x (mine me) me.1 h c t.load out)) where
-        by_queue : (k : Bool) → ¬ IsAmong x c → AreKept x (mine me) ((c, t.load) ∷ me.1)
+        by_queue : (k : OwnQueue) → ¬ IsAmong x c → AreKept x (mine me) ((c, t.load) ∷ me.1)
             → AreKept x (plays.taken k c t.load shadow (mine me)) ((c, t.load) ∷ me.1)
-        by_queue true out kept = kept_hand x (mine me) ((c, t.load) ∷ me.1) kept c Held out
-        by_queue false out kept = kept_hand x (mine me) ((c, t.load) ∷ me.1) kept c Held out
+        by_queue receive_queue out kept = kept_hand x (mine me) ((c, t.load) ∷ me.1) kept c Held out
+        by_queue free_queue out kept = kept_hand x (mine me) ((c, t.load) ∷ me.1) kept c Held out
 
 module _ {A : Type 0} (x : LooseCells) (me after : Knowing A) (h : AreKept x (mine me) me.1) where
   -- a box's slot is taken, to fill it

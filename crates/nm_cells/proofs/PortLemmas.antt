@@ -1,6 +1,6 @@
 -- What each kind of step does to what a port carries and counts.
-use Rattle.std.proofs.Common.{◌≡◌, ℕ, suc, ◌+◌, ◌*◌, ◌/◌, ◌<◌, ◌≤◌, Bool, true}
-use Rattle.std.proofs.Common.{false, Option, Some, None, List, [], ◌∷◌, ◌++◌, length, map, set, sym}
+use Rattle.std.proofs.Common.{◌≡◌, ℕ, suc, ◌+◌, ◌*◌, ◌/◌, ◌<◌, ◌≤◌}
+use Rattle.std.proofs.Common.{Option, Some, None, List, [], ◌∷◌, ◌++◌, length, map, set, sym}
 use Rattle.std.proofs.Common.{refl, ap, ◌∙◌, subst, arith, length-set, append-nil, IsSome}
 use Rattle.std.proofs.Common.{get_or-set_same}
 use Rattle.std.proofs.Math.Logic.{∥∥₁_map, ∥∥₁_elim}
@@ -35,6 +35,7 @@ use Rattle.nm_cells.specs.Counted.{Counts, with_peer, one_sent, one_arrived, IsU
 use Rattle.nm_chain.specs.declared.table.table.Entry.{Entry}
 use mathlib.Core.Logic.{dite}
 use Rattle.nm_chain.proofs.QueueLemmas.{below_yes, below_no}
+use Rattle.nm_chain.specs.OwnQueues.{OwnQueue, receive_queue, free_queue}
 use Rattle.nm_cells.proofs.CarriedLemmas.{none_in_hand, within, count_within, hand_changes}
 use Rattle.nm_cells.proofs.CarriedLemmas.{cell_taken, cell_given, in_hand_one, in_hand_below}
 use Rattle.nm_cells.proofs.CarriedLemmas.{first_removed, roomier}
@@ -117,39 +118,39 @@ module _ {A : Type 0} (me after : Knowing A) (carried : List ℕ) (room count : 
       (ap (times c) h.order ∙ h.cells c low ∙ ap slots_with was)
 
   -- the first cell of an own queue is in hand
-  pub took_carries : (b : Bool) (c shadow room' count' : ℕ) → Took b c shadow me after
+  pub took_carries : (b : OwnQueue) (c shadow room' count' : ℕ) → Took b c shadow me after
       → room ≤ room' → count' ≡ count + 1 → CarriesFor after (c ∷ carried) room' count'
-  took_carries true c shadow room' count' t more less = let e = mine me in
+  took_carries receive_queue c shadow room' count' t more less = let e = mine me in
       subst (λ m. CarriesFor m (c ∷ carried) room' count') (sym t.after_is)
       (roomier ((c, t.load) ∷ me.1) (set e.hands c Held) e.filling e.emptying
       (c ∷ carried) room room' count' more
       (cell_taken me.1 e.hands e.filling e.emptying carried room count h c Held t.low t.load
       t.away refl refl count' less))
-  took_carries false c shadow room' count' t more less = let e = mine me in
+  took_carries free_queue c shadow room' count' t more less = let e = mine me in
       subst (λ m. CarriesFor m (c ∷ carried) room' count') (sym t.after_is)
       (roomier ((c, t.load) ∷ me.1) (set e.hands c Held) e.filling e.emptying
       (c ∷ carried) room room' count' more
       (cell_taken me.1 e.hands e.filling e.emptying carried room count h c Held t.low t.load
       t.away refl refl count' less))
 
-  pub took_holds : (b : Bool) (c shadow : ℕ) → (t : Took b c shadow me after)
+  pub took_holds : (b : OwnQueue) (c shadow : ℕ) → (t : Took b c shadow me after)
       → held_in (length (mine after).hands) after.1 ≡ update
       (held_in (length (mine me).hands) me.1) c t.load
-  took_holds true c shadow t = let e = mine me in
+  took_holds receive_queue c shadow t = let e = mine me in
       ap (λ m. held_in (length (mine m).hands) m.1) t.after_is
       ∙ ap (λ k. held_in k ((c, t.load) ∷ me.1)) (length-set e.hands c Held)
       ∙ held_taken (length e.hands) c t.load me.1 t.low
-  took_holds false c shadow t = let e = mine me in
+  took_holds free_queue c shadow t = let e = mine me in
       ap (λ m. held_in (length (mine m).hands) m.1) t.after_is
       ∙ ap (λ k. held_in k ((c, t.load) ∷ me.1)) (length-set e.hands c Held)
       ∙ held_taken (length e.hands) c t.load me.1 t.low
 
 module _ {A : Type 0} (me after : Knowing A) (peers : List Tally) (held : Option (Parcel A))
     (low : (mine me).rank < (mine me).ranks) where
-  pub took_counts : (b : Bool) (c shadow i : ℕ) → i ≡ c / (mine me).each → i < (mine me).ranks
+  pub took_counts : (b : OwnQueue) (c shadow i : ℕ) → i ≡ c / (mine me).each → i < (mine me).ranks
       → Took b c shadow me after → ∥ CountsFor (mine me) peers held ∥₁
       → ∥ CountsFor (mine after) (counted_after b i peers) held ∥₁
-  took_counts true c shadow i is li t h = let e = mine me in let y = t.load in
+  took_counts receive_queue c shadow i is li t h = let e = mine me in let y = t.load in
       ∥∥₁_map h (λ n. subst (λ m. CountsFor (mine m) (with_peer one_arrived i peers) held)
       (sym t.after_is)
       (subst (λ g. Counts e.put g e.put_box e.got_box e.box_full e.box_miss e.filling e.emptying
@@ -160,7 +161,7 @@ module _ {A : Type 0} (me after : Knowing A) (peers : List Tally) (held : Option
       (packet_arrived e.put e.got e.put_box e.got_box e.box_full e.box_miss e.filling e.emptying
       e.ranks peers held n (c / e.each) y (subst (λ k. k < e.ranks) is li)
       (t.suits.0 low) t.news.0 t.news.1))))
-  took_counts false c shadow i is li t h = let e = mine me in let y = t.load in
+  took_counts free_queue c shadow i is li t h = let e = mine me in let y = t.load in
       ∥∥₁_map h (λ n. subst (λ m. CountsFor (mine m) peers held) (sym t.after_is)
       (subst (λ g. Counts e.put g e.put_box e.got_box e.box_full e.box_miss e.filling e.emptying
       e.ranks peers held) (sym
@@ -232,15 +233,15 @@ module _ {A : Type 0} where
   may_low f p (Free j) c y may = may.0
 
   -- what a consumer loaded is a cell of the fabric, or 0
-  pub end_below : (b : Bool) (p : Port A)
+  pub end_below : (b : OwnQueue) (p : Port A)
       → ((plays.heads_of b (mine p.seat.me)).shadow ≤ length (mine p.seat.me).hands)
       × ((plays.heads_of b (mine p.seat.me)).seen ≤ length (mine p.seat.me).hands)
-  end_below true p = subst (λ (x : Heads). (x.shadow ≤ length (mine p.seat.me).hands)
+  end_below receive_queue p = subst (λ (x : Heads). (x.shadow ≤ length (mine p.seat.me).hands)
       × (x.seen ≤ length (mine p.seat.me).hands)) (sym p.ends.0) (p.small.0, p.small.1)
-  end_below false p = subst (λ (x : Heads). (x.shadow ≤ length (mine p.seat.me).hands)
+  end_below free_queue p = subst (λ (x : Heads). (x.shadow ≤ length (mine p.seat.me).hands)
       × (x.seen ≤ length (mine p.seat.me).hands)) (sym p.ends.1) (p.small.2, p.small.3)
 
-  pub shadow_below : (b : Bool) (p : Port A) (x : Heads) → x ≡ plays.heads_of b (mine p.seat.me)
+  pub shadow_below : (b : OwnQueue) (p : Port A) (x : Heads) → x ≡ plays.heads_of b (mine p.seat.me)
       → x.shadow ≤ length (mine p.seat.me).hands
   shadow_below b p x is = subst (λ (u : Heads). u.shadow ≤ length (mine p.seat.me).hands) (sym is)
       (end_below b p).0
@@ -252,7 +253,7 @@ module _ {A : Type 0} where
       (λ less. absurd (new ((n.each i li).came k less))) (λ far. omega arith)
 
 -- what is known once a cell of an own queue was taken
-module _ {A : Type 0} (b : Bool) (f : Fabric A) (p : Port A) (d c shadow : ℕ) (after : Knowing A) (owns : Owns f p)
+module _ {A : Type 0} (b : OwnQueue) (f : Fabric A) (p : Port A) (d c shadow : ℕ) (after : Knowing A) (owns : Owns f p)
     (told : Took b d shadow p.seat.me after) (is_cell : d ≡ c) where
   abbrev t : Took b c shadow p.seat.me after
   t = subst (λ k. Took b k shadow p.seat.me after) is_cell told
@@ -278,13 +279,13 @@ module _ {A : Type 0} (b : Bool) (f : Fabric A) (p : Port A) (d c shadow : ℕ) 
   takes_carries carried room hands is more one = subst (λ l. CarriesFor after l room hands) (sym is)
       (subst (λ k. CarriesFor after (c ∷ p.carried.items) room k) (sym one) (new_carries room more))
 
-  same_lengths : (k : Bool) → Took k c shadow p.seat.me after
+  same_lengths : (k : OwnQueue) → Took k c shadow p.seat.me after
       → (length (mine after).hands ≡ length (mine p.seat.me).hands)
       × (length (mine after).filling ≡ length (mine p.seat.me).filling)
       × (length (mine after).emptying ≡ length (mine p.seat.me).emptying)
       × ((mine after).ranks ≡ (mine p.seat.me).ranks) × ((mine after).each ≡ (mine p.seat.me).each)
       × ((plays.heads_of k (mine after)).shadow ≡ shadow)
-  same_lengths true u = (
+  same_lengths receive_queue u = (
     ap (λ m. length (mine m).hands) u.after_is ∙ length-set (mine p.seat.me).hands c Held,
     ap (λ m. length (mine m).filling) u.after_is,
     ap (λ m. length (mine m).emptying) u.after_is,
@@ -292,7 +293,7 @@ module _ {A : Type 0} (b : Bool) (f : Fabric A) (p : Port A) (d c shadow : ℕ) 
     ap (λ m. (mine m).each) u.after_is,
     ap (λ m. (mine m).receive.shadow) u.after_is,
   )
-  same_lengths false u = (
+  same_lengths free_queue u = (
     ap (λ m. length (mine m).hands) u.after_is ∙ length-set (mine p.seat.me).hands c Held,
     ap (λ m. length (mine m).filling) u.after_is,
     ap (λ m. length (mine m).emptying) u.after_is,
@@ -315,9 +316,9 @@ module _ {A : Type 0} (b : Bool) (f : Fabric A) (p : Port A) (d c shadow : ℕ) 
   pub takes_owner : c / f.each < 256
   takes_owner = let l = owner_low in let s = f.small.0 in omega arith
 
-  pub takes_count : b ≡ true → (c / f.each < length p.peers.items)
+  pub takes_count : (c / f.each < length p.peers.items)
       × ((peer_in p.peers.items (c / f.each)).unpassed < 2305843009213693952)
-  takes_count _ = let e = mine p.seat.me in (
+  takes_count = let e = mine p.seat.me in (
     ∥∥₁_elim p.counts (search props) (λ n. let l = n.count in let o = owns.2 in
         let low = owner_low in omega arith),
     ∥∥₁_elim p.counts (search props) (λ n. let s =
@@ -344,26 +345,26 @@ module _ {A : Type 0} (b : Bool) (f : Fabric A) (p : Port A) (d c shadow : ℕ) 
       (ap (λ m. c / m) (sym owns.3)) (subst (λ k. c / f.each < k) (sym owns.2) owner_low) t
       p.counts)
 
-  taken_same : (k : Bool) (peers : List Tally) → peers ≡ counted_after k (c / f.each) p.peers.items
+  taken_same : (k : OwnQueue) (peers : List Tally) → peers ≡ counted_after k (c / f.each) p.peers.items
       → c / f.each < length p.peers.items
       → ((i : ℕ) → (peer_in peers i).taken ≡ (peer_in p.peers.items i).taken)
       × (all_unpassed peers ≡ all_unpassed p.peers.items + arrivals k)
-  taken_same true peers is low = (
+  taken_same receive_queue peers is low = (
     (λ i. ap (λ l. (peer_in l i).taken) is ∙ peer_same (λ (u : Tally). u.taken) one_arrived
         (c / f.each) p.peers.items low (λ u. refl) i),
     ap all_unpassed is ∙ (let s = sum_by-set (λ (u : Tally). u.unpassed) p.peers.items (c / f.each)
         (one_arrived (peer_in p.peers.items (c / f.each))) new_tally low in omega arith),
   )
-  taken_same false peers is low = (
+  taken_same free_queue peers is low = (
     (λ i. ap (λ l. (peer_in l i).taken) is),
     ap all_unpassed is ∙ (let z : all_unpassed p.peers.items ≡ all_unpassed p.peers.items + 0 =
         omega arith in z),
   )
 
-  held_now : (k : Bool) → Took k c shadow p.seat.me after → hand (mine after) c ≡ Held
-  held_now true u = ap (λ m. hand (mine m) c) u.after_is
+  held_now : (k : OwnQueue) → Took k c shadow p.seat.me after → hand (mine after) c ≡ Held
+  held_now receive_queue u = ap (λ m. hand (mine m) c) u.after_is
       ∙ get_or-set_same (mine p.seat.me).hands c Held Away u.low
-  held_now false u = ap (λ m. hand (mine m) c) u.after_is
+  held_now free_queue u = ap (λ m. hand (mine m) c) u.after_is
       ∙ get_or-set_same (mine p.seat.me).hands c Held Away u.low
 
   some_sent : (y : Load A) (i : ℕ) → sender y ≡ suc i → IsSome y
@@ -371,42 +372,42 @@ module _ {A : Type 0} (b : Bool) (f : Fabric A) (p : Port A) (d c shadow : ℕ) 
   some_sent None i e = absurd (let z : 0 ≡ suc i = e in omega arith)
 
   -- what the cell of either queue holds
-  by_receive : (k : Bool) (d : ℕ) → (u : Took k d shadow p.seat.me after) → k ≡ true
+  by_receive : (k : OwnQueue) (d : ℕ) → (u : Took k d shadow p.seat.me after) → k ≡ receive_queue
       → sender u.load ≡ suc (d / f.each)
-  by_receive true d u r = u.suits.0 own_low ∙ (λ i. suc (d / owns.3 i))
-  by_receive false d u r = absurd (let z = r in cc)
+  by_receive receive_queue d u r = u.suits.0 own_low ∙ (λ i. suc (d / owns.3 i))
+  by_receive free_queue d u r = absurd (let z = r in cc)
 
-  by_free : (k : Bool) (d : ℕ) → (u : Took k d shadow p.seat.me after) → k ≡ false
+  by_free : (k : OwnQueue) (d : ℕ) → (u : Took k d shadow p.seat.me after) → k ≡ free_queue
       → (u.load ≡ None) × (d / f.each ≡ p.rank)
-  by_free false d u r = let e = mine p.seat.me in let s = u.suits.1 (omega arith) in let whose = s.1 in (
+  by_free free_queue d u r = let e = mine p.seat.me in let s = u.suits.1 (omega arith) in let whose = s.1 in (
     s.0,
     (let same : d / e.each ≡ e.rank = omega arith in (λ i. d / sym owns.3 i) ∙ same ∙ p.named),
   )
-  by_free true d u r = absurd (let z = r in cc)
+  by_free receive_queue d u r = absurd (let z = r in cc)
 
   -- a cell of the free queue is the rank's own
-  pub takes_own : b ≡ false → c / f.each ≡ p.rank
+  pub takes_own : b ≡ free_queue → c / f.each ≡ p.rank
   takes_own r = (by_free b c t r).1
 
   -- a parcel that was taken from the receive queue is to be passed on
-  by_arrival : (k : Bool) (t : Took k c shadow p.seat.me after) → (peers : List Tally)
+  by_arrival : (k : OwnQueue) (t : Took k c shadow p.seat.me after) → (peers : List Tally)
       → peers ≡ counted_after k (c / f.each) p.peers.items → c / f.each < length p.peers.items
-      → (x : Parcel A) → k ≡ true → t.load ≡ Some x
+      → (x : Parcel A) → k ≡ receive_queue → t.load ≡ Some x
       → IsUnpassedOf (mine after).ranks (mine after).got peers x
-  by_arrival false u peers is low x r loaded = absurd (let z = r in cc)
-  by_arrival true u peers is low x r loaded = let e = mine p.seat.me in let y = u.load in
+  by_arrival free_queue u peers is low x r loaded = absurd (let z = r in cc)
+  by_arrival receive_queue u peers is low x r loaded = let e = mine p.seat.me in let y = u.load in
       let i : ℕ = c / f.each in
-      let whose = by_receive true c u r in let of_x : suc x.from ≡ suc i = ap sender (sym loaded)
+      let whose = by_receive receive_queue c u r in let of_x : suc x.from ≡ suc i = ap sender (sym loaded)
       ∙ whose in let from_x : x.from ≡ i = omega arith in
       let got_is : (mine after).got ≡ e.got ++ y ∷ [] = ap (λ m. (mine m).got) u.after_is
       ∙ ap (λ l. e.got ++ l) (below_yes (dec_le (suc e.rank) e.ranks) (y ∷ []) [] own_low) in
-      let ranks_is : (mine after).ranks ≡ f.ranks = (same_lengths true u).3 ∙ owns.2 in
+      let ranks_is : (mine after).ranks ≡ f.ranks = (same_lengths receive_queue u).3 ∙ owns.2 in
       let whole : from x.from (mine after).got ≡ from x.from e.got ++ y ∷ [] =
       ap (from x.from) got_is ∙ from_here x.from y e.got (whose ∙ ap suc (sym from_x)) in
       let there = subst (λ l. IsOneOf (Some x) l) (sym whole)
       (subst (λ z. IsOneOf z (from x.from e.got ++ y ∷ [])) loaded
       (one_of_last y (from x.from e.got))) in
-      let same = (taken_same true peers is low).0 x.from in
+      let same = (taken_same receive_queue peers is low).0 x.from in
       let late : (peer_in p.peers.items x.from).taken ≤ number y =
       ∥∥₁_elim p.counts (search props) (λ n. not_before e p.peers.items p.held n x.from
       (number y) (subst (λ k. x.from < k) (sym owns.2) (subst (λ k. k < f.ranks) (sym from_x)

@@ -1,9 +1,10 @@
 -- What a step on the head of an own queue leaves of a port.
-use Rattle.std.proofs.Common.{◌≡◌, ◌*◌, ◌<◌, Bool, true, false, [], ◌∷◌, length, ap, ◌∙◌}
+use Rattle.std.proofs.Common.{◌≡◌, ◌*◌, ◌<◌, [], ◌∷◌, length, ap, ◌∙◌}
 use Rattle.nm_chain.specs.Spoken.{view}
 use Rattle.nm_chain.specs.declared.table.table.Heads.{Heads}
 use Rattle.nm_chain.specs.declared.table.table.Misses.{Misses}
 use Rattle.nm_chain.specs.Plays.{Knowing, mine, with_heads, with_missed}
+use Rattle.nm_chain.specs.OwnQueues.{OwnQueue, receive_queue, free_queue}
 use Rattle.nm_cells.specs.declared.port.Port.{Port}
 use Rattle.nm_cells.specs.declared.port.Fabric.{Fabric}
 use Rattle.nm_cells.specs.Carried.{held_in}
@@ -11,12 +12,12 @@ use Rattle.nm_cells.specs.Ports.{Owns, holding, knows}
 
 module _ {A : Type 0} (f : Fabric A) (p : Port A) (owns : Owns f p) (after : Knowing A) where
   -- the port is the fabric's still
-  pub heads_owns : {A : Type 0} {t u : A} → t ≡ u → (b : Bool) (x : Heads)
+  pub heads_owns : {A : Type 0} {t u : A} → t ≡ u → (b : OwnQueue) (x : Heads)
       → after ≡ (view (with_heads b x (knows p) ∷ []), p.seat.me.1)
       → (t ≡ u) × (p.rank < f.ranks) × ((mine after).ranks ≡ f.ranks)
       × ((mine after).each ≡ f.each) × (length (mine after).hands ≡ f.ranks * f.each)
       × (length (mine after).filling ≡ f.ranks) × (length (mine after).emptying ≡ f.ranks)
-  heads_owns table true x is = (
+  heads_owns table receive_queue x is = (
     table,
     owns.1,
     ap (λ m. (mine m).ranks) is ∙ owns.2,
@@ -25,7 +26,7 @@ module _ {A : Type 0} (f : Fabric A) (p : Port A) (owns : Owns f p) (after : Kno
     ap (λ m. length (mine m).filling) is ∙ owns.5,
     ap (λ m. length (mine m).emptying) is ∙ owns.6,
   )
-  heads_owns table false x is = (
+  heads_owns table free_queue x is = (
     table,
     owns.1,
     ap (λ m. (mine m).ranks) is ∙ owns.2,
@@ -36,19 +37,19 @@ module _ {A : Type 0} (f : Fabric A) (p : Port A) (owns : Owns f p) (after : Kno
   )
 
   -- the cells in hand hold the same
-  pub heads_holds : (b : Bool) (x : Heads)
+  pub heads_holds : (b : OwnQueue) (x : Heads)
       → after ≡ (view (with_heads b x (knows p) ∷ []), p.seat.me.1)
       → held_in (length (mine after).hands) after.1 ≡ holding p
-  heads_holds true x is = ap (λ (m : Knowing A). held_in (length (mine m).hands) m.1) is
-  heads_holds false x is = ap (λ (m : Knowing A). held_in (length (mine m).hands) m.1) is
+  heads_holds receive_queue x is = ap (λ (m : Knowing A). held_in (length (mine m).hands) m.1) is
+  heads_holds free_queue x is = ap (λ (m : Knowing A). held_in (length (mine m).hands) m.1) is
 
   -- the same where a miss was counted too
-  pub missed_owns : {A : Type 0} {t u : A} → t ≡ u → (b : Bool) (g : Misses → Misses) (x : Heads)
+  pub missed_owns : {A : Type 0} {t u : A} → t ≡ u → (b : OwnQueue) (g : Misses → Misses) (x : Heads)
       → after ≡ (view (with_missed b g (with_heads b x (knows p)) ∷ []), p.seat.me.1)
       → (t ≡ u) × (p.rank < f.ranks) × ((mine after).ranks ≡ f.ranks)
       × ((mine after).each ≡ f.each) × (length (mine after).hands ≡ f.ranks * f.each)
       × (length (mine after).filling ≡ f.ranks) × (length (mine after).emptying ≡ f.ranks)
-  missed_owns table true g x is = (
+  missed_owns table receive_queue g x is = (
     table,
     owns.1,
     ap (λ m. (mine m).ranks) is ∙ owns.2,
@@ -57,7 +58,7 @@ module _ {A : Type 0} (f : Fabric A) (p : Port A) (owns : Owns f p) (after : Kno
     ap (λ m. length (mine m).filling) is ∙ owns.5,
     ap (λ m. length (mine m).emptying) is ∙ owns.6,
   )
-  missed_owns table false g x is = (
+  missed_owns table free_queue g x is = (
     table,
     owns.1,
     ap (λ m. (mine m).ranks) is ∙ owns.2,
@@ -67,8 +68,8 @@ module _ {A : Type 0} (f : Fabric A) (p : Port A) (owns : Owns f p) (after : Kno
     ap (λ m. length (mine m).emptying) is ∙ owns.6,
   )
 
-  pub missed_holds : (b : Bool) (g : Misses → Misses) (x : Heads)
+  pub missed_holds : (b : OwnQueue) (g : Misses → Misses) (x : Heads)
       → after ≡ (view (with_missed b g (with_heads b x (knows p)) ∷ []), p.seat.me.1)
       → held_in (length (mine after).hands) after.1 ≡ holding p
-  missed_holds true g x is = ap (λ (m : Knowing A). held_in (length (mine m).hands) m.1) is
-  missed_holds false g x is = ap (λ (m : Knowing A). held_in (length (mine m).hands) m.1) is
+  missed_holds receive_queue g x is = ap (λ (m : Knowing A). held_in (length (mine m).hands) m.1) is
+  missed_holds free_queue g x is = ap (λ (m : Knowing A). held_in (length (mine m).hands) m.1) is

@@ -11,6 +11,7 @@ use Rattle.nm_cells.specs.declared.tallies.Tally.{Tally}
 use Rattle.nm_chain.specs.declared.table.table.Entry.{Entry}
 use Rattle.nm_chain.specs.Rule.{Load, put_to, from, number, sent_to, if_below}
 use Rattle.nm_chain.specs.Plays.{raised}
+use Rattle.nm_chain.specs.OwnQueues.{OwnQueue, receive_queue, free_queue}
 
 -- a rank of which nothing came and to which nothing went
 abbrev pub new_tally : Tally
@@ -129,6 +130,6 @@ abbrev pub one_passed : Tally → Tally
 one_passed p = record p { taken = p.taken + 1; unpassed = p.unpassed - 1 }
 
 -- what is counted once a cell of an own queue was taken, from the receive queue with a parcel of the rank i
-abbrev pub counted_after : Bool → ℕ → List Tally → List Tally
-counted_after true i peers = with_peer one_arrived i peers
-counted_after false i peers = peers
+abbrev pub counted_after : OwnQueue → ℕ → List Tally → List Tally
+counted_after receive_queue i peers = with_peer one_arrived i peers
+counted_after free_queue i peers = peers

@@ -18,6 +18,7 @@ use Rattle.nm_chain.specs.Rule.{emptying_of}
 use Rattle.nm_chain.specs.Rule.{newcomer}
 use Rattle.nm_chain.specs.Plays.{mine, InHand, heads_of, taken, box_load}
 use Rattle.nm_chain.specs.Looks.{look_in}
+use Rattle.nm_chain.specs.OwnQueues.{OwnQueue, receive_queue, free_queue}
 use Rattle.nm_cells.specs.Carried.{held_in}
 use Rattle.nm_cells.specs.LooseCells.{IsAmong}
 use Rattle.nm_cells.specs.declared.tallies.Tally.{Tally}
@@ -65,7 +66,7 @@ module _ {A : Type 0} where
       × (unpassed_by new ≡ unpassed_by old)
 
   -- what the last steps on an own queue told of its first cell
-  abbrev pub look_of : Bool → Port A → Look
+  abbrev pub look_of : OwnQueue → Port A → Look
   look_of b p = look_in b (knows p).looks
 
   -- the cell is one of the port's loose ones
@@ -103,10 +104,10 @@ abbrev pub rank_of_queue : queues.Queue → ℕ
 rank_of_queue (Receive r) = r
 rank_of_queue (Free r) = r
 
--- it is a receive queue
-abbrev pub is_receive : queues.Queue → Bool
-is_receive (Receive r) = true
-is_receive (Free r) = false
+-- which one of its rank's two queues it is
+abbrev pub own_of : queues.Queue → OwnQueue
+own_of (Receive r) = receive_queue
+own_of (Free r) = free_queue
 
 module _ {A : Type 0} where
   -- the queue is the port's own
@@ -132,23 +133,23 @@ module _ {A : Type 0} where
   posted_in (Free j) y = []
 
 -- 1 where a dequeue of the queue takes a parcel
-abbrev pub arrivals : Bool → ℕ
-arrivals true = 1
-arrivals false = 0
+abbrev pub arrivals : OwnQueue → ℕ
+arrivals receive_queue = 1
+arrivals free_queue = 0
 
 module _ {A : Type 0} where
   -- The first cell of an own queue is in hand, with what it holds: a parcel of its owner, or from the
   -- free queue none
-  pub record Takes (b : Bool) (f : Fabric A) (old new : Port A) (c : Cell) : Type 0 where
+  pub record Takes (b : OwnQueue) (f : Fabric A) (old new : Port A) (c : Cell) : Type 0 where
     pub has : HasCell f new c
     pub of_rank : c.owner < f.ranks
     pub first : 0 < (heads_of b (knows old)).shadow
         → c.number + 1 ≡ (heads_of b (knows old)).shadow
     pub fresh : hand (knows old) c.number ≡ Away
-    pub full : b ≡ true → (sender (holding new c.number) ≡ suc c.owner)
+    pub full : b ≡ receive_queue → (sender (holding new c.number) ≡ suc c.owner)
         × IsSome (holding new c.number)
-    pub arrived : b ≡ true → (x : Parcel A) → holding new c.number ≡ Some x → IsUnpassed new x
-    pub vacant : b ≡ false → (holding new c.number ≡ None) × (c.owner ≡ old.rank)
+    pub arrived : b ≡ receive_queue → (x : Parcel A) → holding new c.number ≡ Some x → IsUnpassed new x
+    pub vacant : b ≡ free_queue → (holding new c.number ≡ None) × (c.owner ≡ old.rank)
     pub knows : knows new ≡ taken b c.number (holding new c.number) (heads_of b (knows new)).shadow
         (knows old)
     pub holding : holding new ≡ update (holding old) c.number (holding new c.number)

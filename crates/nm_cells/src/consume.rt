@@ -9,10 +9,11 @@ ghost use Rattle.std.specs.Prelude.{◌↔◌, IsTrue, IfSome, IfNone, length, v
 ghost use Rattle.nm_chain.specs.Plays.{queue, heads_of, with_heads, heads_at, with_missed};
 ghost use Rattle.nm_chain.specs.Plays.{with_look, with_link_empty};
 ghost use Rattle.nm_chain.specs.Looks.{IsLinkEmpty};
+ghost use Rattle.nm_chain.specs.OwnQueues.{own};
 ghost use Rattle.nm_cells.specs.Counted.{peer_in, counted_after};
 ghost use Rattle.nm_chain.specs.Plays.{head_miss, link_miss};
 ghost use Rattle.nm_cells.specs.Ports.{Owns, Stays, knows, holding, Takes, Leaves, look_of};
-ghost use Rattle.nm_cells.specs.Ports.{IsOwn, is_receive};
+ghost use Rattle.nm_cells.specs.Ports.{IsOwn, own_of};
 ghost use Rattle.nm_chain.specs.declared.table.table.Look.TheVariants.{LinkEmpty, TailElsewhere};
 
 use crate::cell::{Cell, Queue};
@@ -27,7 +28,7 @@ use std::sync::ledger::Ledger;
 
 fn own_queue<I: Item, const B: bool>(f: &Fabric<I>, port: &Port<I>) -> u64
     requires { port.now.rank < f.now.ranks }
-    ensures own { result ≡ queue f.now.ranks port.now.rank B }
+    ensures own { result ≡ queue f.now.ranks port.now.rank (own B) }
     ensures fits { result < 2 * f.now.ranks }
 {
     let rank = u64::from(port.rank);
@@ -36,7 +37,7 @@ fn own_queue<I: Item, const B: bool>(f: &Fabric<I>, port: &Port<I>) -> u64
 
 impl<I: Item> Port<I> {
     fn heads<const B: bool>(&self) -> Heads
-        ensures { result ≡ heads_of B (knows self.now) }
+        ensures { result ≡ heads_of (own B) (knows self.now) }
     {
         if B { self.receive } else { self.free }
     }
@@ -48,14 +49,14 @@ fn load_head_of<L: Ledger, I: Item, const B: bool>(
     steps: &mut Steps<L>,
 ) -> bool
     requires owns { Owns f.now port.old }
-    requires no_shadow { (heads_of B (knows port.old)).shadow ≡ 0 }
+    requires no_shadow { (heads_of (own B) (knows port.old)).shadow ≡ 0 }
     ensures stays { Stays f.now port.old port.new }
-    ensures told { IsTrue result ↔ (0 < (heads_of B (knows port.new)).seen) }
-    ensures found { result ≡ true → knows port.new ≡ with_heads B
-        (heads_at 0 (heads_of B (knows port.new)).seen)
+    ensures told { IsTrue result ↔ (0 < (heads_of (own B) (knows port.new)).seen) }
+    ensures found { result ≡ true → knows port.new ≡ with_heads (own B)
+        (heads_at 0 (heads_of (own B) (knows port.new)).seen)
         (knows port.old) }
-    ensures empty { result ≡ false → knows port.new ≡ with_missed B head_miss
-        (with_heads B (heads_at 0 0) (knows port.old)) }
+    ensures empty { result ≡ false → knows port.new ≡ with_missed (own B) head_miss
+        (with_heads (own B) (heads_at 0 0) (knows port.old)) }
     ensures hands { (port.new.hands ≡ port.old.hands) × (holding port.new ≡ holding port.old) }
     ensures cost { steps.new ≡ steps.old + 1 }
 {
@@ -85,10 +86,10 @@ fn clear_head_of<L: Ledger, I: Item, const B: bool>(
     steps: &mut Steps<L>,
 )
     requires owns { Owns f.now port.old }
-    requires loaded { 0 < (heads_of B (knows port.old)).seen }
+    requires loaded { 0 < (heads_of (own B) (knows port.old)).seen }
     ensures stays { Stays f.now port.old port.new }
     ensures hidden { knows port.new
-        ≡ with_heads B (heads_at (heads_of B (knows port.old)).seen 0) (knows port.old) }
+        ≡ with_heads (own B) (heads_at (heads_of (own B) (knows port.old)).seen 0) (knows port.old) }
     ensures hands { (port.new.hands ≡ port.old.hands) × (holding port.new ≡ holding port.old) }
     ensures cost { steps.new ≡ steps.old + 1 }
 {
@@ -109,7 +110,7 @@ fn clear_head_of<L: Ledger, I: Item, const B: bool>(
 fn count_taken<const B: bool>(peers: &mut Vec<Tally>, owner: usize)
     requires { B ≡ true → (owner < length peers.old.items)
         × ((peer_in peers.old.items owner).unpassed < 2 ^ 61) }
-    ensures { peers.new.items ≡ counted_after B owner peers.old.items }
+    ensures { peers.new.items ≡ counted_after (own B) owner peers.old.items }
 {
     if B {
         count_arrived(peers, owner);
@@ -132,7 +133,7 @@ fn first_taken<const B: bool>(
     requires few { hands.old + 1 ≤ 4294967295 }
     requires own { B ≡ false → number / each ≡ rank }
     requires low { (0 < each) × (number / each < 256) }
-    ensures peers { peers.new.items ≡ counted_after B (number / each) peers.old.items }
+    ensures peers { peers.new.items ≡ counted_after (own B) (number / each) peers.old.items }
     ensures items { carried.new.items ≡ number ∷ carried.old.items }
     ensures capacity { vec_capacity carried.old ≤ vec_capacity carried.new }
     ensures hands { hands.new ≡ hands.old + 1 }
@@ -154,12 +155,12 @@ fn load_link_of<L: Ledger, I: Item, const B: bool>(
     steps: &mut Steps<L>,
 ) -> Option<Cell>
     requires owns { Owns f.now port.old }
-    requires first { 0 < (heads_of B (knows port.old)).shadow }
+    requires first { 0 < (heads_of (own B) (knows port.old)).shadow }
     ensures owns { Owns f.now port.new × (port.new.rank ≡ port.old.rank) }
-    ensures none { IfNone result ((knows port.new ≡ with_link_empty B (knows port.old))
+    ensures none { IfNone result ((knows port.new ≡ with_link_empty (own B) (knows port.old))
         × Leaves port.old port.new) }
-    ensures some { IfSome result (Takes B f.now port.old port.new) }
-    ensures next { IfSome result (λ _. 0 < (heads_of B (knows port.new)).shadow) }
+    ensures some { IfSome result (Takes (own B) f.now port.old port.new) }
+    ensures next { IfSome result (λ _. 0 < (heads_of (own B) (knows port.new)).shadow) }
     ensures cost { steps.new ≡ steps.old + 1 }
 {
     steps.tick();
@@ -197,14 +198,14 @@ fn reload_link_of<L: Ledger, I: Item, const B: bool>(
     steps: &mut Steps<L>,
 ) -> Option<Cell>
     requires owns { Owns f.now port.old }
-    requires first { 0 < (heads_of B (knows port.old)).shadow }
-    requires look { look_of B port.old ≡ TailElsewhere }
+    requires first { 0 < (heads_of (own B) (knows port.old)).shadow }
+    requires look { look_of (own B) port.old ≡ TailElsewhere }
     ensures owns { Owns f.now port.new × (port.new.rank ≡ port.old.rank) }
     ensures none { IfNone result ((knows port.new
-        ≡ with_look B (LinkEmpty 0) (with_missed B link_miss (knows port.old)))
+        ≡ with_look (own B) (LinkEmpty 0) (with_missed (own B) link_miss (knows port.old)))
         × Leaves port.old port.new) }
-    ensures some { IfSome result (Takes B f.now port.old port.new) }
-    ensures next { IfSome result (λ _. 0 < (heads_of B (knows port.new)).shadow) }
+    ensures some { IfSome result (Takes (own B) f.now port.old port.new) }
+    ensures next { IfSome result (λ _. 0 < (heads_of (own B) (knows port.new)).shadow) }
     ensures cost { steps.new ≡ steps.old + 1 }
 {
     steps.tick();
@@ -247,13 +248,13 @@ fn drop_tail_of<L: Ledger, I: Item, const B: bool>(
     steps: &mut Steps<L>,
 ) -> Option<Cell>
     requires owns { Owns f.now port.old }
-    requires first { 0 < (heads_of B (knows port.old)).shadow }
-    requires look { IsLinkEmpty (look_of B port.old) }
+    requires first { 0 < (heads_of (own B) (knows port.old)).shadow }
+    requires look { IsLinkEmpty (look_of (own B) port.old) }
     ensures owns { Owns f.now port.new × (port.new.rank ≡ port.old.rank) }
-    ensures none { IfNone result ((knows port.new ≡ with_look B TailElsewhere (knows port.old))
+    ensures none { IfNone result ((knows port.new ≡ with_look (own B) TailElsewhere (knows port.old))
         × Leaves port.old port.new) }
-    ensures some { IfSome result (Takes B f.now port.old port.new) }
-    ensures next { IfSome result (λ _. (heads_of B (knows port.new)).shadow ≡ 0) }
+    ensures some { IfSome result (Takes (own B) f.now port.old port.new) }
+    ensures next { IfSome result (λ _. (heads_of (own B) (knows port.new)).shadow ≡ 0) }
     ensures cost { steps.new ≡ steps.old + 1 }
 {
     steps.tick();
@@ -295,13 +296,13 @@ pub fn load_head<L: Ledger, I: Item>(
 ) -> bool
     requires owns { Owns f.now port.old }
     requires own { IsOwn port.old q }
-    requires no_shadow { (heads_of (is_receive q) (knows port.old)).shadow ≡ 0 }
+    requires no_shadow { (heads_of (own_of q) (knows port.old)).shadow ≡ 0 }
     ensures stays { Stays f.now port.old port.new }
-    ensures found { result ≡ true → knows port.new ≡ with_heads (is_receive q)
-        (heads_at 0 (heads_of (is_receive q) (knows port.new)).seen) (knows port.old)
-        × (0 < (heads_of (is_receive q) (knows port.new)).seen) }
-    ensures empty { result ≡ false → knows port.new ≡ with_missed (is_receive q) head_miss
-        (with_heads (is_receive q) (heads_at 0 0) (knows port.old)) }
+    ensures found { result ≡ true → knows port.new ≡ with_heads (own_of q)
+        (heads_at 0 (heads_of (own_of q) (knows port.new)).seen) (knows port.old)
+        × (0 < (heads_of (own_of q) (knows port.new)).seen) }
+    ensures empty { result ≡ false → knows port.new ≡ with_missed (own_of q) head_miss
+        (with_heads (own_of q) (heads_at 0 0) (knows port.old)) }
     ensures hands { (port.new.hands ≡ port.old.hands) × (holding port.new ≡ holding port.old) }
     ensures cost { steps.new ≡ steps.old + 1 }
 {
@@ -320,10 +321,10 @@ pub fn clear_head<L: Ledger, I: Item>(
 )
     requires owns { Owns f.now port.old }
     requires own { IsOwn port.old q }
-    requires loaded { 0 < (heads_of (is_receive q) (knows port.old)).seen }
+    requires loaded { 0 < (heads_of (own_of q) (knows port.old)).seen }
     ensures stays { Stays f.now port.old port.new }
-    ensures hidden { knows port.new ≡ with_heads (is_receive q)
-        (heads_at (heads_of (is_receive q) (knows port.old)).seen 0) (knows port.old) }
+    ensures hidden { knows port.new ≡ with_heads (own_of q)
+        (heads_at (heads_of (own_of q) (knows port.old)).seen 0) (knows port.old) }
     ensures hands { (port.new.hands ≡ port.old.hands) × (holding port.new ≡ holding port.old) }
     ensures cost { steps.new ≡ steps.old + 1 }
 {
@@ -343,13 +344,13 @@ pub fn load_link<L: Ledger, I: Item>(
 ) -> Option<Cell>
     requires owns { Owns f.now port.old }
     requires own { IsOwn port.old q }
-    requires first { 0 < (heads_of (is_receive q) (knows port.old)).shadow }
+    requires first { 0 < (heads_of (own_of q) (knows port.old)).shadow }
     ensures owns { Owns f.now port.new × (port.new.rank ≡ port.old.rank) }
     ensures none { IfNone result ((knows port.new
-        ≡ with_link_empty (is_receive q) (knows port.old))
+        ≡ with_link_empty (own_of q) (knows port.old))
         × Leaves port.old port.new) }
-    ensures some { IfSome result (Takes (is_receive q) f.now port.old port.new) }
-    ensures next { IfSome result (λ _. 0 < (heads_of (is_receive q) (knows port.new)).shadow) }
+    ensures some { IfSome result (Takes (own_of q) f.now port.old port.new) }
+    ensures next { IfSome result (λ _. 0 < (heads_of (own_of q) (knows port.new)).shadow) }
     ensures cost { steps.new ≡ steps.old + 1 }
 {
     match q {
@@ -369,14 +370,14 @@ pub fn drop_tail<L: Ledger, I: Item>(
 ) -> Option<Cell>
     requires owns { Owns f.now port.old }
     requires own { IsOwn port.old q }
-    requires first { 0 < (heads_of (is_receive q) (knows port.old)).shadow }
-    requires look { IsLinkEmpty (look_of (is_receive q) port.old) }
+    requires first { 0 < (heads_of (own_of q) (knows port.old)).shadow }
+    requires look { IsLinkEmpty (look_of (own_of q) port.old) }
     ensures owns { Owns f.now port.new × (port.new.rank ≡ port.old.rank) }
     ensures none { IfNone result ((knows port.new
-        ≡ with_look (is_receive q) TailElsewhere (knows port.old))
+        ≡ with_look (own_of q) TailElsewhere (knows port.old))
         × Leaves port.old port.new) }
-    ensures some { IfSome result (Takes (is_receive q) f.now port.old port.new) }
-    ensures next { IfSome result (λ _. (heads_of (is_receive q) (knows port.new)).shadow ≡ 0) }
+    ensures some { IfSome result (Takes (own_of q) f.now port.old port.new) }
+    ensures next { IfSome result (λ _. (heads_of (own_of q) (knows port.new)).shadow ≡ 0) }
     ensures cost { steps.new ≡ steps.old + 1 }
 {
     match q {
@@ -396,15 +397,15 @@ pub fn reload_link<L: Ledger, I: Item>(
 ) -> Option<Cell>
     requires owns { Owns f.now port.old }
     requires own { IsOwn port.old q }
-    requires first { 0 < (heads_of (is_receive q) (knows port.old)).shadow }
-    requires look { look_of (is_receive q) port.old ≡ TailElsewhere }
+    requires first { 0 < (heads_of (own_of q) (knows port.old)).shadow }
+    requires look { look_of (own_of q) port.old ≡ TailElsewhere }
     ensures owns { Owns f.now port.new × (port.new.rank ≡ port.old.rank) }
     ensures none { IfNone result ((knows port.new
-        ≡ with_look (is_receive q) (LinkEmpty 0) (with_missed (is_receive q) link_miss
+        ≡ with_look (own_of q) (LinkEmpty 0) (with_missed (own_of q) link_miss
         (knows port.old)))
         × Leaves port.old port.new) }
-    ensures some { IfSome result (Takes (is_receive q) f.now port.old port.new) }
-    ensures next { IfSome result (λ _. 0 < (heads_of (is_receive q) (knows port.new)).shadow) }
+    ensures some { IfSome result (Takes (own_of q) f.now port.old port.new) }
+    ensures next { IfSome result (λ _. 0 < (heads_of (own_of q) (knows port.new)).shadow) }
     ensures cost { steps.new ≡ steps.old + 1 }
 {
     match q {

@@ -7,7 +7,7 @@ ghost use Rattle.nm_cells.specs.Counted.{peer_in};
 ghost use Rattle.nm_chain.specs.Rule.{put_to, from as from_rank};
 ghost use Rattle.nm_chain.specs.Plays.{heads_of, missed_of, capped};
 ghost use Rattle.nm_cells.specs.Ports.{knows, sent_by, taken_by, unpassed_by, IsOwn, IsUnpassed};
-ghost use Rattle.nm_cells.specs.Ports.{is_receive};
+ghost use Rattle.nm_cells.specs.Ports.{own_of};
 
 use crate::cell::Queue;
 use crate::port::Port;
@@ -94,7 +94,7 @@ impl<I: Item> Port<I> {
     /// How often the head of an own queue was loaded as 0.
     pub fn head_empty(&self, q: Queue) -> u64
         requires { IsOwn self.now q }
-        ensures { result ≡ (missed_of (is_receive q) (knows self.now)).head_empty }
+        ensures { result ≡ (missed_of (own_of q) (knows self.now)).head_empty }
     {
         match q {
             Queue::Receive(_) => self.receive_missed.head_empty,
@@ -106,7 +106,7 @@ impl<I: Item> Port<I> {
     /// last.
     pub fn link_missing(&self, q: Queue) -> u64
         requires { IsOwn self.now q }
-        ensures { result ≡ (missed_of (is_receive q) (knows self.now)).link_missing }
+        ensures { result ≡ (missed_of (own_of q) (knows self.now)).link_missing }
     {
         match q {
             Queue::Receive(_) => self.receive_missed.link_missing,
@@ -117,7 +117,7 @@ impl<I: Item> Port<I> {
     /// Whether an own queue has a shadow head.
     pub fn has_shadow(&self, q: Queue) -> bool
         requires { IsOwn self.now q }
-        ensures { IsTrue result ↔ (0 < (heads_of (is_receive q) (knows self.now)).shadow) }
+        ensures { IsTrue result ↔ (0 < (heads_of (own_of q) (knows self.now)).shadow) }
     {
         match q {
             Queue::Receive(_) => self.receive.shadow != 0,

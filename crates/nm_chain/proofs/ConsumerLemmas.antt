@@ -26,6 +26,7 @@ use Rattle.nm_chain.specs.Rule.{QueuesHold, Rule, Shows, Suits, World, fetched, 
 use Rattle.nm_chain.specs.Rule.{LooksHold, tail}
 use Rattle.nm_chain.specs.declared.table.table.Look.TheVariants.{Fresh, LinkEmpty, TailElsewhere}
 use Rattle.nm_chain.specs.Looks.{link_empty, look_in}
+use Rattle.nm_chain.specs.OwnQueues.{OwnQueue}
 use Rattle.nm_chain.specs.Plays as plays
 use Rattle.nm_chain.proofs.DequeueLemmas as dequeue
 use Rattle.nm_chain.proofs.BoxLemmas as box_laws
@@ -39,7 +40,7 @@ use Rattle.nm_chain.proofs.HeadLemmas.{told_heads, told_link, told_tail, told_ta
 use Rattle.nm_chain.proofs.HeadLemmas.{knows_end, away_in_queue, news}
 
 module _ {A : Type 0} (boxable : A → Bool) (key : Sizes) (slots id : ℕ) (e : Entry A)
-    (low : e.rank < key.ranks) (b : Bool) where
+    (low : e.rank < key.ranks) (b : OwnQueue) where
   abbrev q : ℕ
   q = plays.queue key.ranks e.rank b
 
@@ -372,7 +373,7 @@ module _ {A : Type 0} (boxable : A → Bool) (key : Sizes) (slots id : ℕ) (e :
 module _ {A : Type 0} (boxable : A → Bool) (key : Sizes) (n slots id : ℕ) (me : plays.Knowing A)
     (alone : plays.Alone me)
     (ranks : key.ranks ≡ n) (rank : ℕ) (named : (plays.mine me).rank ≡ rank) (low : rank < n)
-    (b : Bool) where
+    (b : OwnQueue) where
   here : (plays.mine me).rank < key.ranks
   here = rw (ranks, named) low
 

@@ -2,6 +2,7 @@ pub mod Chain
 pub mod Items
 pub mod Looks
 pub mod NextBox
+pub mod OwnQueues
 pub mod Plays
 pub mod Rule
 pub mod Sequence

@@ -1,27 +1,23 @@
 -- What the last steps on an own queue told, by queue.
-use Rattle.std.specs.Prelude.{Bool, true, false, ◌≡◌, ◌≢◌, ℕ, suc, ◌<◌}
+use Rattle.std.specs.Prelude.{◌≡◌, ◌≢◌, ℕ, suc, ◌<◌}
+use Rattle.nm_chain.specs.OwnQueues.{OwnQueue, receive_queue, free_queue}
 use Rattle.nm_chain.specs.declared.table.table.Look.{Look}
 use Rattle.nm_chain.specs.declared.table.table.Look.TheVariants.{Fresh, LinkEmpty, TailElsewhere}
 use Rattle.nm_chain.specs.declared.table.table.Looks.{Looks}
 
--- of the receive queue, or else of the free queue
-abbrev pub look_in : Bool → Looks → Look
-look_in true x = x.receive
-look_in false x = x.free
-
--- the other of a rank's two queues
-abbrev pub other : Bool → Bool
-other true = false
-other false = true
+-- of an own queue
+abbrev pub look_in : OwnQueue → Looks → Look
+look_in receive_queue x = x.receive
+look_in free_queue x = x.free
 
 -- no step was made
 abbrev pub no_looks : Looks
 no_looks = record { receive = Fresh; free = Fresh }
 
 -- the last step on that queue told this
-abbrev pub set_look : Bool → Look → Looks → Looks
-set_look true l x = record x { receive = l }
-set_look false l x = record x { free = l }
+abbrev pub set_look : OwnQueue → Look → Looks → Looks
+set_look receive_queue l x = record x { receive = l }
+set_look free_queue l x = record x { free = l }
 
 -- the link of the first cell was loaded as 0, once more where it was before
 abbrev pub link_empty : Look → Look

@@ -19,7 +19,8 @@ use Rattle.nm_chain.specs.Rule.{head_word, tail_word, link_word, flag_word}
 use Rattle.nm_chain.specs.NextBox.{BoxesApart, next_box}
 use Rattle.nm_chain.specs.declared.table.table.Look.{Look}
 use Rattle.nm_chain.specs.declared.table.table.Look.TheVariants.{Fresh, LinkEmpty, TailElsewhere}
-use Rattle.nm_chain.specs.Looks.{no_looks, other, set_look, look_in, link_empty}
+use Rattle.nm_chain.specs.Looks.{no_looks, set_look, look_in, link_empty}
+use Rattle.nm_chain.specs.OwnQueues.{OwnQueue, receive_queue, free_queue, other}
 use Rattle.nm_chain.specs.Update.{pick}
 
 -- what a seat knows: its view, and the slots that it has taken with what they hold
@@ -126,27 +127,27 @@ module _ {A : Type 0} where
   InHand (Entering q t) = ⊥
 
 -- a rank's own queues: the receive queue, or the free queue
-abbrev pub queue : ℕ → ℕ → Bool → ℕ
-queue n r true = r
-queue n r false = n + r
+abbrev pub queue : ℕ → ℕ → OwnQueue → ℕ
+queue n r receive_queue = r
+queue n r free_queue = n + r
 
 module _ {A : Type 0} where
   -- the shadow head and the head of the receive queue, or else of the free queue
-  abbrev pub heads_of : Bool → Entry A → Heads
-  heads_of true e = e.receive
-  heads_of false e = e.free
+  abbrev pub heads_of : OwnQueue → Entry A → Heads
+  heads_of receive_queue e = e.receive
+  heads_of free_queue e = e.free
 
   -- those of a queue change
-  abbrev pub with_heads : Bool → Heads → Entry A → Entry A
-  with_heads true x e = record e { receive = x }
-  with_heads false x e = record e { free = x }
+  abbrev pub with_heads : OwnQueue → Heads → Entry A → Entry A
+  with_heads receive_queue x e = record e { receive = x }
+  with_heads free_queue x e = record e { free = x }
 
   -- the last step on the queue told this
-  abbrev pub with_look : Bool → Look → Entry A → Entry A
+  abbrev pub with_look : OwnQueue → Look → Entry A → Entry A
   with_look b l e = record e { looks = set_look b l e.looks }
 
   -- the link of the queue's first cell was loaded as 0
-  abbrev pub with_link_empty : Bool → Entry A → Entry A
+  abbrev pub with_link_empty : OwnQueue → Entry A → Entry A
   with_link_empty b e = with_look b (link_empty (look_in b e.looks)) e
 
 -- this shadow head, and this head as it was last loaded
@@ -159,7 +160,7 @@ module _ {A : Type 0} where
   with_got ys e = record e { got = e.got ++ ys }
 
   -- the cell c, which holds y, is in hand, and the queue's shadow head is this, of which nothing was told
-  abbrev pub taken : Bool → ℕ → Load A → ℕ → Entry A → Entry A
+  abbrev pub taken : OwnQueue → ℕ → Load A → ℕ → Entry A → Entry A
   taken b c y shadow e = with_got (fetched e.ranks (queue e.ranks e.rank b) y)
       (with_hand c Held (with_look b Fresh (with_heads b (heads_at shadow 0) e)))
 
@@ -172,13 +173,13 @@ abbrev pub capped : ℕ → ℕ
 capped k = min k 18446744073709551615
 
 -- changed where it is so, and else the same
-abbrev pub on : Bool → (Misses → Misses) → Misses → Misses
-on true f x = f x
-on false f x = x
+abbrev pub on : OwnQueue → (Misses → Misses) → Misses → Misses
+on receive_queue f x = f x
+on free_queue f x = x
 
 module _ {A : Type 0} where
   -- the misses of a queue change
-  abbrev pub with_missed : Bool → (Misses → Misses) → Entry A → Entry A
+  abbrev pub with_missed : OwnQueue → (Misses → Misses) → Entry A → Entry A
   with_missed b f e = record e {
     receive_missed = on b f e.receive_missed;
     free_missed =
@@ -186,9 +187,9 @@ module _ {A : Type 0} where
   }
 
   -- the misses of the receive queue, or else of the free queue
-  abbrev pub missed_of : Bool → Entry A → Misses
-  missed_of true e = e.receive_missed
-  missed_of false e = e.free_missed
+  abbrev pub missed_of : OwnQueue → Entry A → Misses
+  missed_of receive_queue e = e.receive_missed
+  missed_of free_queue e = e.free_missed
 
 -- the head was loaded as 0 once more
 abbrev pub head_miss : Misses → Misses
@@ -200,15 +201,15 @@ link_miss x = record x { link_missing = raised x.link_missing }
 
 module _ {A : Type 0} where
   -- the word is the head of an own queue
-  abbrev pub IsHead : Bool → Entry A → ℕ → Type 0
+  abbrev pub IsHead : OwnQueue → Entry A → ℕ → Type 0
   IsHead b e word = word ≡ head_word (queue e.ranks e.rank b)
 
   -- the word is the tail of an own queue
-  abbrev pub IsTail : Bool → Entry A → ℕ → Type 0
+  abbrev pub IsTail : OwnQueue → Entry A → ℕ → Type 0
   IsTail b e word = word ≡ tail_word e.ranks (queue e.ranks e.rank b)
 
   -- the word is the link of the first cell of an own queue
-  abbrev pub IsFirstLink : Bool → Entry A → ℕ → Type 0
+  abbrev pub IsFirstLink : OwnQueue → Entry A → ℕ → Type 0
   IsFirstLink b e word = word ≡ link_word e.ranks ((heads_of b e).shadow - 1)
 
   -- the word is the flag of the next box for the rank j, or else of the next box of the rank j
@@ -216,7 +217,7 @@ module _ {A : Type 0} where
   IsFlag b j e word = word ≡ flag_word e.ranks (next_box e b j)
 
   -- the head was loaded, and 0 is a miss
-  abbrev pub loaded_head : Bool → Step (Load A) → Knowing A → ℕ → Knowing A → Type 0
+  abbrev pub loaded_head : OwnQueue → Step (Load A) → Knowing A → ℕ → Knowing A → Type 0
   loaded_head b s me found after = IsHead b (mine me) s.word × (found ≤ length (mine me).hands)
       × (found ≡ 0 → after ≡ (
         view
@@ -231,7 +232,7 @@ module _ {A : Type 0} where
       ))
 
   -- the head is 0, and what was loaded from it is the shadow head
-  abbrev pub cleared_head : Bool → Step (Load A) → Knowing A → ℕ → Knowing A → Type 0
+  abbrev pub cleared_head : OwnQueue → Step (Load A) → Knowing A → ℕ → Knowing A → Type 0
   cleared_head b s me found after = IsHead b (mine me) s.word
       × (after ≡ (view (with_heads b (heads_at (heads_of b (mine me)).seen 0) (mine me) ∷ []), me.1))
 
@@ -244,12 +245,12 @@ module _ {A : Type 0} where
   IsNews e i k = (¬ Came e i k) × Each (λ j. j < k) (map number (from i e.got))
 
   -- a cell of the receive queue holds a new parcel of its owner
-  abbrev pub HoldsNews : Bool → ℕ → Entry A → Load A → Type 0
-  HoldsNews true c e y = IsNews e (c / e.each) (number y)
-  HoldsNews false c e y = Unit {0}
+  abbrev pub HoldsNews : OwnQueue → ℕ → Entry A → Load A → Type 0
+  HoldsNews receive_queue c e y = IsNews e (c / e.each) (number y)
+  HoldsNews free_queue c e y = Unit {0}
 
   -- the cell c was in nobody's hand, and is in this one's, with what it holds in its slot
-  pub record Took (b : Bool) (c shadow : ℕ) (me after : Knowing A) : Type 0 where
+  pub record Took (b : OwnQueue) (c shadow : ℕ) (me after : Knowing A) : Type 0 where
     pub low : c < length (mine me).hands
     pub fits : shadow ≤ length (mine me).hands
     pub away : hand (mine me) c ≡ Away
@@ -260,23 +261,23 @@ module _ {A : Type 0} where
     pub after_is : after ≡ (view (taken b c load shadow (mine me) ∷ []), (c, load) ∷ me.1)
 
   -- the link of the shadow head was loaded: where it leads on, its cell is in hand, and else the entry becomes this
-  abbrev pub passed_or : ((Entry A) → Entry A) → Bool → Step (Load A) → Knowing A → ℕ → Knowing A → Type 0
+  abbrev pub passed_or : ((Entry A) → Entry A) → OwnQueue → Step (Load A) → Knowing A → ℕ → Knowing A → Type 0
   passed_or f b s me found after = IsFirstLink b (mine me) s.word
       × (found ≡ 0 → after ≡ (view (f (mine me) ∷ []), me.1))
       × (0 < found → Took b (s.word - 4 * (mine me).ranks) found me after)
 
   -- a link that was loaded as 0 is what the step told
-  abbrev pub passed : Bool → Step (Load A) → Knowing A → ℕ → Knowing A → Type 0
+  abbrev pub passed : OwnQueue → Step (Load A) → Knowing A → ℕ → Knowing A → Type 0
   passed b s me found after = passed_or (with_link_empty b) b s me found after
 
   -- the same after the tail was found not to be this cell: 0 is a miss
-  abbrev pub reloaded : Bool → Step (Load A) → Knowing A → ℕ → Knowing A → Type 0
+  abbrev pub reloaded : OwnQueue → Step (Load A) → Knowing A → ℕ → Knowing A → Type 0
   reloaded b s me found after =
       passed_or (λ e. with_look b (LinkEmpty 0) (with_missed b link_miss e)) b s me found after
 
   -- the tail was exchanged for 0 where it was the shadow head, whose cell is then in hand. Else the step told that it
   -- is elsewhere
-  abbrev pub drained : Bool → Step (Load A) → Knowing A → ℕ → Knowing A → Type 0
+  abbrev pub drained : OwnQueue → Step (Load A) → Knowing A → ℕ → Knowing A → Type 0
   drained b s me found after = IsTail b (mine me) s.word × (s.first ≡ (heads_of b (mine me)).shadow)
       × (found ≢ s.first
       → after ≡ (view (with_look b TailElsewhere (mine me) ∷ []), me.1))

@@ -1,6 +1,6 @@
 -- What a poll changes, step by step.
-use Rattle.std.proofs.Common.{◌≡◌, ◌≢◌, ℕ, zero, suc, ◌+◌, ◌<◌, ◌≤◌, ◌⊎◌, Option, Some, None}
-use Rattle.std.proofs.Common.{true, is_some, List, [], ◌∷◌, ◌++◌, length, map}
+use Rattle.std.proofs.Common.{◌≡◌, ℕ, zero, suc, ◌+◌, ◌<◌, ◌≤◌, ◌⊎◌, Some, None}
+use Rattle.std.proofs.Common.{is_some, List, [], ◌∷◌, ◌++◌, length, map}
 use Rattle.std.proofs.Common.{sym, refl, ap, ◌∙◌, inl, inr, subst, arith, set, append-nil, ⊎_elim}
 use Rattle.std.proofs.Math.Logic.{∥∥₁_elim}
 use Rattle.std.proofs.Props.{props}
@@ -17,6 +17,7 @@ use Rattle.nm_cells.specs.declared.port.Port.{Port}
 use Rattle.nm_cells.specs.declared.port.Fabric.{Fabric}
 use Rattle.nm_chain.specs.Rule.{Load, from, emptying_of, if_below}
 use Rattle.nm_chain.specs.Plays.{mine, raised, with_box_miss, with_emptying, with_got_box, Overtaken}
+use Rattle.nm_chain.specs.OwnQueues.{receive_queue}
 use Rattle.nm_cells.specs.Counted.{IsOneOf, peer_in, all_unpassed}
 use Rattle.nm_cells.specs.Carried.{held_in}
 use Rattle.nm_cells.specs.Ports.{Owns, knows, holding, taken_by, unpassed_by, IsUnpassed, opens}
@@ -219,7 +220,7 @@ module _ {A : Type 0} where
 -- A parcel x came by cell, and then y is passed on: the same, or the next one of its sender by box
 module _ {A : Type 0} (old now new : Port A) (x y : Parcel A) (end : Heads) (none : old.held ≡ None)
     (came : knows now ≡ with_got (Some x ∷ [])
-    (with_look true Fresh (with_heads true end (knows old)))) where
+    (with_look receive_queue Fresh (with_heads receive_queue end (knows old)))) where
   abbrev InTurn : Type 0
   InTurn = (y ≡ x) × (new.held ≡ None) × (knows new ≡ knows now)
 
@@ -281,7 +282,7 @@ module _ {A : Type 0} where
       (sym (same ∙ ap (λ (x : Entry A). x.box_miss) seen)) (first_later k e.box_miss i)
 
   -- a miss of the receive queue is none of a box
-  pub queue_misses : (e e' : Entry A) → HadMiss true e e' → e'.box_miss ≡ e.box_miss
+  pub queue_misses : (e e' : Entry A) → HadMiss receive_queue e e' → e'.box_miss ≡ e.box_miss
   queue_misses e e' = ⊎_elim (λ h. ap (λ (x : Entry A). x.box_miss) h) (λ h. ap (λ (x : Entry A). x.box_miss) h.1)
 
   -- nor is what came by the receive queue, or behind it by a box

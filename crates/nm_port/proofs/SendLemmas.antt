@@ -12,48 +12,49 @@ use Rattle.nm_chain.specs.declared.table.table.Entry.{Entry}
 use Rattle.nm_chain.specs.Rule.{Load, hand, sent_to, fetched}
 use Rattle.nm_chain.specs.declared.table.table.Heads.{Heads}
 use Rattle.nm_chain.specs.Plays.{InHand, with_hand, heads_of, with_heads, heads_at, with_got, with_put}
-use Rattle.nm_chain.specs.Plays.{taken, queue, with_box_full, with_look}
+use Rattle.nm_chain.specs.Plays.{taken, queue, with_look}
 use Rattle.nm_chain.specs.declared.table.table.Look.TheVariants.{Fresh}
 use Rattle.nm_chain.specs.declared.table.parcels.Parcel.{Parcel}
 use Rattle.nm_cells.specs.declared.cell.Cell.{Cell}
 use Rattle.nm_cells.specs.declared.cell.Queue.{Queue}
 use Rattle.nm_cells.specs.declared.port.Fabric.{Fabric}
 use Rattle.nm_cells.specs.declared.port.Port.{Port}
-use Rattle.nm_cells.specs.Ports.{knows, holding, is_receive, opens, sent_by, Leaves, Owns}
+use Rattle.nm_cells.specs.Ports.{knows, holding, own_of, opens, sent_by, Leaves, Owns}
 use Rattle.nm_fastbox.specs.Boxes.{FindsFull}
-use Rattle.nm_port.specs.Keeps.{HoldSame, KeepsPort}
-use Rattle.nm_port.specs.Sends.{tried, HadMiss, HasNoWay, SendsByCell}
+use Rattle.nm_port.specs.Keeps.{KeepsPort}
+use Rattle.nm_port.specs.Sends.{HadMiss, HasNoWay, SendsByCell}
 use Rattle.std.specs.Prelude.{Result, Ok, Err, IfOk, IfErr, Some, ⊤}
 use Rattle.nm_queue.specs.Moves.{Misses}
 use Rattle.nm_queue.specs.declared.moves.Miss.{Miss}
 use Rattle.nm_queue.specs.declared.moves.Miss.TheVariants.{HeadEmpty, LinkMissing}
 use Rattle.nm_chain.proofs.QueueLemmas.{below_yes, below_no}
+use Rattle.nm_chain.specs.OwnQueues.{OwnQueue, receive_queue, free_queue}
 
 module _ {A : Type 0} where
   set_away : (xs : List (Hand A)) (k : ℕ) → get_or xs k Away ≡ Away → set xs k Away ≡ xs
   set_away xs k away = ap (set xs k) (sym away) ∙ set-get_or xs k Away
 
   -- a cell that was taken from an own queue is in no hand again
-  pub cell_cycled : (b : Bool) (e : Entry A) (k shadow : ℕ) (y : Load A) → hand e k ≡ Away
+  pub cell_cycled : (b : OwnQueue) (e : Entry A) (k shadow : ℕ) (y : Load A) → hand e k ≡ Away
       → with_hand k Away (taken b k y shadow e)
       ≡ with_got (fetched e.ranks (queue e.ranks e.rank b) y)
       (with_look b Fresh (with_heads b (heads_at shadow 0) e))
-  cell_cycled true e k shadow y away =
-      λ i. with_got (fetched e.ranks (queue e.ranks e.rank true) y)
-      (record (with_look true Fresh (with_heads true (heads_at shadow 0) e)) {
+  cell_cycled receive_queue e k shadow y away =
+      λ i. with_got (fetched e.ranks (queue e.ranks e.rank receive_queue) y)
+      (record (with_look receive_queue Fresh (with_heads receive_queue (heads_at shadow 0) e)) {
         hands = (set-set e.hands k Held Away ∙ set_away e.hands k away) i;
       })
-  cell_cycled false e k shadow y away =
-      λ i. with_got (fetched e.ranks (queue e.ranks e.rank false) y)
-      (record (with_look false Fresh (with_heads false (heads_at shadow 0) e)) {
+  cell_cycled free_queue e k shadow y away =
+      λ i. with_got (fetched e.ranks (queue e.ranks e.rank free_queue) y)
+      (record (with_look free_queue Fresh (with_heads free_queue (heads_at shadow 0) e)) {
         hands = (set-set e.hands k Held Away ∙ set_away e.hands k away) i;
       })
 
   -- nothing is got from the free queue, and one parcel from the receive queue
-  pub none_fetched : (n r : ℕ) (y : Load A) → fetched n (queue n r false) y ≡ []
+  pub none_fetched : (n r : ℕ) (y : Load A) → fetched n (queue n r free_queue) y ≡ []
   none_fetched n r y = below_no (dec_le (suc (n + r)) n) (y ∷ []) [] (λ low. omega arith)
 
-  pub one_fetched : (n r : ℕ) (y : Load A) → r < n → fetched n (queue n r true) y ≡ y ∷ []
+  pub one_fetched : (n r : ℕ) (y : Load A) → r < n → fetched n (queue n r receive_queue) y ≡ y ∷ []
   one_fetched n r y low = below_yes (dec_le (suc r) n) (y ∷ []) [] low
 
   pub nothing_got : (e : Entry A) → with_got [] e ≡ e
@@ -75,35 +76,35 @@ module _ {A : Type 0} where
 -- emptied and sent home
 module _ {A : Type 0} (e new : Entry A) (k shadow : ℕ) (y : Load A) (away : hand e k ≡ Away) where
   pub cell_sent : (xs : List (ℕ × Load A))
-      → new ≡ with_put xs (with_hand k Away (taken false k y shadow e))
-      → new ≡ with_put xs (with_look false Fresh (with_heads false (heads_of false new) e))
+      → new ≡ with_put xs (with_hand k Away (taken free_queue k y shadow e))
+      → new ≡ with_put xs (with_look free_queue Fresh (with_heads free_queue (heads_of free_queue new) e))
   cell_sent xs is = let at : Heads → Entry A = λ u. with_put xs
-      (with_look false Fresh (with_heads false u e)) in
-      let then = with_look false Fresh (with_heads false (heads_at shadow 0) e) in
+      (with_look free_queue Fresh (with_heads free_queue u e)) in
+      let then = with_look free_queue Fresh (with_heads free_queue (heads_at shadow 0) e) in
       let h : new ≡ at (heads_at shadow 0) =
-      is ∙ (λ i. with_put xs (cell_cycled false e k shadow y away i))
+      is ∙ (λ i. with_put xs (cell_cycled free_queue e k shadow y away i))
       ∙ (λ i. with_put xs (with_got (none_fetched e.ranks e.rank y i) then))
-      ∙ (λ i. with_put xs (nothing_got then i)) in h ∙ (λ i. at (heads_of false (sym h i)))
+      ∙ (λ i. with_put xs (nothing_got then i)) in h ∙ (λ i. at (heads_of free_queue (sym h i)))
 
   pub cell_received : (z : Load A) → y ≡ z → e.rank < e.ranks
-      → new ≡ with_put [] (with_hand k Away (taken true k y shadow e))
-      → new ≡ with_got (z ∷ []) (with_look true Fresh (with_heads true (heads_of true new) e))
+      → new ≡ with_put [] (with_hand k Away (taken receive_queue k y shadow e))
+      → new ≡ with_got (z ∷ []) (with_look receive_queue Fresh (with_heads receive_queue (heads_of receive_queue new) e))
   cell_received z same low is = let at : Heads → Entry A = λ u. with_got (z ∷ [])
-      (with_look true Fresh (with_heads true u e)) in
-      let then = with_look true Fresh (with_heads true (heads_at shadow 0) e) in
+      (with_look receive_queue Fresh (with_heads receive_queue u e)) in
+      let then = with_look receive_queue Fresh (with_heads receive_queue (heads_at shadow 0) e) in
       let h : new ≡ at (heads_at shadow 0) =
-      is ∙ (λ i. with_put [] (cell_cycled true e k shadow y away i))
+      is ∙ (λ i. with_put [] (cell_cycled receive_queue e k shadow y away i))
       ∙ (λ i. with_put [] (with_got (one_fetched e.ranks e.rank y low i) then))
       ∙ (λ i. with_put [] (with_got (same i ∷ []) then))
-      ∙ nothing_put (with_got (z ∷ []) then) in h ∙ (λ i. at (heads_of true (sym h i)))
+      ∙ nothing_put (with_got (z ∷ []) then) in h ∙ (λ i. at (heads_of receive_queue (sym h i)))
 
 module _ {A : Type 0} where
   -- where a queue gave no cell, it had one of two misses
   pub had_miss : (q : Queue) (old new : Port A) (r : Result Cell Miss) (m : Miss) → r ≡ Err m
       → IfErr r (λ why. Misses q why old new)
-      → HadMiss (is_receive q) (knows old) (knows new) × Leaves old new
+      → HadMiss (own_of q) (knows old) (knows new) × Leaves old new
   had_miss q old new r m is miss = by m (subst (λ x. IfErr x (λ why. Misses q why old new)) is miss) where
-    by : (m : Miss) → Misses q m old new → HadMiss (is_receive q) (knows old) (knows new) × Leaves old new
+    by : (m : Miss) → Misses q m old new → HadMiss (own_of q) (knows old) (knows new) × Leaves old new
     by HeadEmpty h = (inl h.knows, h.leaves)
     by LinkMissing h = (inr (h.some, h.knows), h.leaves)
 
@@ -182,7 +183,7 @@ module _ {A : Type 0} where
       → SendsByCell false to x mid new → SendsByCell true to x old new
   cell_after_full to x old mid new full s = let same = full_sent to old mid full in record {
     put = s.put ∙ (λ i. with_put ((to, Some x) ∷ [])
-        (with_look false Fresh (with_heads false (heads_of false (knows new)) (full.counted i))));
+        (with_look free_queue Fresh (with_heads free_queue (heads_of free_queue (knows new)) (full.counted i))));
     sent = s.sent ∙ (λ i. update (same i) to (same i to + 1));
   }
 
@@ -190,11 +191,11 @@ module _ {A : Type 0} where
       → HasNoWay false to mid new → HasNoWay true to old new
   no_way_after_full to old mid new full s = record {
     sent = s.sent ∙ full_sent to old mid full;
-    miss = subst (λ e. HadMiss false e (knows new)) full.counted s.miss;
+    miss = subst (λ e. HadMiss free_queue e (knows new)) full.counted s.miss;
   }
 
   -- no parcel was sent where the own free queue had a miss
-  pub miss_sent : (e new : Entry A) → HadMiss false e new
+  pub miss_sent : (e new : Entry A) → HadMiss free_queue e new
       → (i : ℕ) → sent_to i new.put_box new.put ≡ sent_to i e.put_box e.put
   miss_sent e new miss i = ⊎_elim (λ head. ap (λ (x : Entry A). sent_to i x.put_box x.put) head)
       (λ link. ap (λ (x : Entry A). sent_to i x.put_box x.put) link.1) miss

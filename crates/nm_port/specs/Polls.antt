@@ -1,5 +1,5 @@
 -- What a poll gives, and what it leaves behind.
-use Rattle.std.specs.Prelude.{◌≡◌, ◌≢◌, ℕ, zero, suc, ◌+◌, ◌<◌, ◌≤◌, ◌⊎◌, Option, Some, None, true}
+use Rattle.std.specs.Prelude.{◌≡◌, ◌≢◌, ℕ, zero, suc, ◌+◌, ◌<◌, ◌≤◌, ◌⊎◌, Option, Some, None}
 use Rattle.std.specs.Prelude.{List, [], ◌∷◌, ◌++◌, map, slice_index}
 use Rattle.nm_chain.specs.declared.table.parcels.Parcel.{Parcel}
 use Rattle.nm_chain.specs.Update.{update}
@@ -9,6 +9,7 @@ use Rattle.nm_cells.specs.declared.port.Fabric.{Fabric}
 use Rattle.nm_chain.specs.Rule.{Load, from, emptying_of}
 use Rattle.nm_chain.specs.Plays.{raised, heads_of, with_got, with_heads, with_look, Overtaken}
 use Rattle.nm_chain.specs.declared.table.table.Look.TheVariants.{Fresh}
+use Rattle.nm_chain.specs.OwnQueues.{receive_queue}
 use Rattle.nm_cells.specs.Counted.{IsOneOf}
 use Rattle.nm_cells.specs.Ports.{knows, holding, taken_by, unpassed_by, IsUnpassed}
 use Rattle.nm_port.specs.Sends.{HadMiss}
@@ -109,7 +110,7 @@ module _ {A : Type 0} where
   pub record PollsNone (old new : Port A) : Type 0 where
     pub nothing : old.held ≡ None
     pub held : new.held ≡ None
-    pub miss : HadMiss true (with_all_missed (knows old)) (knows new)
+    pub miss : HadMiss receive_queue (with_all_missed (knows old)) (knows new)
     pub taken : taken_by new ≡ taken_by old
 
   -- no parcel is held whose turn has come
@@ -127,9 +128,9 @@ module _ {A : Type 0} where
     pub unpassed : IsUnpassed new p
     pub one_more : unpassed_by new ≡ unpassed_by old + 1
     pub got : knows new ≡ with_got (Some p ∷ [])
-        (with_look true Fresh (with_heads true (heads_of true (knows new)) (knows old)))
+        (with_look receive_queue Fresh (with_heads receive_queue (heads_of receive_queue (knows new)) (knows old)))
 
   -- The receive queue had a miss, and no parcel came
   pub record ReceivesNone (old new : Port A) : Type 0 where
-    pub miss : HadMiss true (knows old) (knows new)
+    pub miss : HadMiss receive_queue (knows old) (knows new)
     pub unpassed : unpassed_by new ≡ unpassed_by old

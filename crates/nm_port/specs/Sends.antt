@@ -9,6 +9,7 @@ use Rattle.nm_cells.specs.declared.port.Port.{Port}
 use Rattle.nm_chain.specs.Plays.{with_box_full, heads_of, with_heads, heads_at, with_missed}
 use Rattle.nm_chain.specs.Plays.{head_miss, link_miss, with_look, with_put}
 use Rattle.nm_chain.specs.declared.table.table.Look.TheVariants.{Fresh, LinkEmpty}
+use Rattle.nm_chain.specs.OwnQueues.{OwnQueue, free_queue}
 use Rattle.nm_cells.specs.Ports.{knows, sent_by}
 use Rattle.nm_fastbox.specs.Boxes.{PutsInBox}
 
@@ -20,7 +21,7 @@ module _ {A : Type 0} where
 
   -- An own queue had a miss: its head was loaded as 0, or the tail was not its first cell and the link of
   -- that one was loaded as 0
-  abbrev pub HadMiss : Bool → Entry A → Entry A → Type 0
+  abbrev pub HadMiss : OwnQueue → Entry A → Entry A → Type 0
   HadMiss b old new = (new ≡ with_missed b head_miss (with_heads b (heads_at 0 0) old))
       ⊎ ((0 < (heads_of b new).shadow)
       × (new ≡ with_look b (LinkEmpty 0) (with_missed b link_miss (with_heads b (heads_of b new) old))))
@@ -34,7 +35,7 @@ module _ {A : Type 0} where
   -- item fits one
   pub record SendsByCell (fits : Bool) (to : ℕ) (x : Parcel A) (old new : Port A) : Type 0 where
     pub put : knows new ≡ with_put ((to, Some x) ∷ [])
-        (with_look false Fresh (with_heads false (heads_of false (knows new)) (tried fits to (knows old))))
+        (with_look free_queue Fresh (with_heads free_queue (heads_of free_queue (knows new)) (tried fits to (knows old))))
     pub sent : sent_by new ≡ update (sent_by old) to (sent_by old to + 1)
 
   -- the parcel went by this way
@@ -46,4 +47,4 @@ module _ {A : Type 0} where
   -- a miss
   pub record HasNoWay (fits : Bool) (to : ℕ) (old new : Port A) : Type 0 where
     pub sent : sent_by new ≡ sent_by old
-    pub miss : HadMiss false (tried fits to (knows old)) (knows new)
+    pub miss : HadMiss free_queue (tried fits to (knows old)) (knows new)

@@ -1,7 +1,7 @@
 //! The first cell of an own queue.
 
 ghost use Rattle.std.specs.Prelude.{◌≡◌, ◌+◌, ◌≤◌, IfSome, IfNone};
-ghost use Rattle.nm_cells.specs.Ports.{Owns, Leaves, knows, IsOwn, is_receive};
+ghost use Rattle.nm_cells.specs.Ports.{Owns, Leaves, knows, IsOwn, own_of};
 ghost use Rattle.nm_queue.specs.Moves.{TakesFirst};
 ghost use Rattle.nm_port.specs.Sends.{HadMiss};
 
@@ -22,7 +22,7 @@ pub(crate) fn take_cell<L: Ledger, I: Item>(
     requires own { IsOwn port.old q }
     ensures owns { Owns f.now port.new × (port.new.rank ≡ port.old.rank) }
     ensures took { IfSome result (TakesFirst q f.now port.old port.new) }
-    ensures none { IfNone result (HadMiss (is_receive q) (knows port.old) (knows port.new)
+    ensures none { IfNone result (HadMiss (own_of q) (knows port.old) (knows port.new)
         × Leaves port.old port.new) }
     ensures bound { steps.new ≤ steps.old + 5 }
 {

@@ -1,5 +1,5 @@
 -- What stays of a port's conditions between the steps of a move.
-use Rattle.std.proofs.Common.{◌≡◌, ℕ, zero, suc, ◌+◌, Bool, true, false, sym, refl}
+use Rattle.std.proofs.Common.{◌≡◌, ℕ, zero, suc, ◌+◌, sym, refl}
 use Rattle.std.proofs.Common.{ap, ◌∙◌, ◌<◌, ◌≤◌, ◌⊎◌, set, subst, arith}
 use Rattle.std.specs.Prelude.{slice_index_or, None, Ok}
 use Rattle.nm_types.proofs.ListLemmas.{set_twice}
@@ -13,8 +13,9 @@ use Rattle.nm_chain.specs.declared.table.table.Look.TheVariants.{LinkEmpty}
 use Rattle.nm_chain.specs.Plays.{taken, heads_of, with_heads, with_look, with_missed, link_miss}
 use Rattle.nm_chain.specs.Plays.{with_hand, with_put}
 use Rattle.nm_cells.specs.declared.cell.Cell.{Cell}
-use Rattle.nm_cells.specs.Ports.{knows, holding, SameTaken, Leaves, Takes, arrivals, is_receive}
+use Rattle.nm_cells.specs.Ports.{knows, holding, SameTaken, Leaves, Takes, arrivals, own_of}
 use Rattle.nm_chain.specs.Rule.{Load, sender, number}
+use Rattle.nm_chain.specs.OwnQueues.{OwnQueue, receive_queue, free_queue}
 use Rattle.nm_cells.specs.declared.port.Port.{Port}
 use Rattle.nm_cells.specs.declared.port.Fabric.{Fabric}
 use Rattle.nm_cells.specs.declared.cell.Queue as queues
@@ -62,7 +63,7 @@ module _ {A : Type 0} where
       }
 
   -- what a later take tells of the earlier port too: only what was told of the queue's first cell and its heads differ
-  pub record Unmoved (b : Bool) (old mid : Port A) : Type 0 where
+  pub record Unmoved (b : OwnQueue) (old mid : Port A) : Type 0 where
     pub cells : (knows mid).hands ≡ (knows old).hands
     pub rank : mid.rank ≡ old.rank
     pub takes : (n : ℕ) (y : Load A) (s : ℕ) → taken b n y s (knows mid) ≡ taken b n y s (knows old)
@@ -73,7 +74,7 @@ module _ {A : Type 0} where
     pub first : 0 < (heads_of b (knows old)).shadow
         → (heads_of b (knows mid)).shadow ≡ (heads_of b (knows old)).shadow
 
-  pub takes_since : (b : Bool) (f : Fabric A) (old mid new : Port A) (c : Cell) → Unmoved b old mid
+  pub takes_since : (b : OwnQueue) (f : Fabric A) (old mid new : Port A) (c : Cell) → Unmoved b old mid
       → Takes b f mid new c → Takes b f old new c
   takes_since b f old mid new c u t = record {
     has = t.has;
@@ -92,26 +93,26 @@ module _ {A : Type 0} where
     loose = t.loose ∙ u.loose;
   }
 
-  look_lost : (b : Bool) (l : Look) (n : ℕ) (y : Load A) (s : ℕ) (e : Entry A)
+  look_lost : (b : OwnQueue) (l : Look) (n : ℕ) (y : Load A) (s : ℕ) (e : Entry A)
       → taken b n y s (with_look b l e) ≡ taken b n y s e
-  look_lost true l n y s e = refl
-  look_lost false l n y s e = refl
+  look_lost receive_queue l n y s e = refl
+  look_lost free_queue l n y s e = refl
 
-  heads_lost : (b : Bool) (x : Heads) (n : ℕ) (y : Load A) (s : ℕ) (e : Entry A)
+  heads_lost : (b : OwnQueue) (x : Heads) (n : ℕ) (y : Load A) (s : ℕ) (e : Entry A)
       → taken b n y s (with_heads b x e) ≡ taken b n y s e
-  heads_lost true x n y s e = refl
-  heads_lost false x n y s e = refl
+  heads_lost receive_queue x n y s e = refl
+  heads_lost free_queue x n y s e = refl
 
-  look_heads : (b : Bool) (l : Look) (e : Entry A) → heads_of b (with_look b l e) ≡ heads_of b e
-  look_heads true l e = refl
-  look_heads false l e = refl
+  look_heads : (b : OwnQueue) (l : Look) (e : Entry A) → heads_of b (with_look b l e) ≡ heads_of b e
+  look_heads receive_queue l e = refl
+  look_heads free_queue l e = refl
 
-  hands_same : (b : Bool) (x : Heads) (e : Entry A) → (with_heads b x e).hands ≡ e.hands
-  hands_same true x e = refl
-  hands_same false x e = refl
+  hands_same : (b : OwnQueue) (x : Heads) (e : Entry A) → (with_heads b x e).hands ≡ e.hands
+  hands_same receive_queue x e = refl
+  hands_same free_queue x e = refl
 
   -- a step told something of the first cell and took none
-  pub unmoved_look : (b : Bool) (l : Look) (old mid new : Port A) → Unmoved b old mid
+  pub unmoved_look : (b : OwnQueue) (l : Look) (old mid new : Port A) → Unmoved b old mid
       → knows new ≡ with_look b l (knows mid) → new.rank ≡ mid.rank → Leaves mid new
       → Unmoved b old new
   unmoved_look b l old mid new u is rank v = record {
@@ -128,8 +129,8 @@ module _ {A : Type 0} where
 
   -- the first cell was found, and none was taken
   pub unmoved_first : (q : queues.Queue) (old mid : Port A) → mid.rank ≡ old.rank → FindsFirst q old mid
-      → Unmoved (is_receive q) old mid
-  unmoved_first q old mid rank u = let b = is_receive q in let x = heads_of b (knows mid) in record {
+      → Unmoved (own_of q) old mid
+  unmoved_first q old mid rank u = let b = own_of q in let x = heads_of b (knows mid) in record {
     cells = ap (λ (e : Entry A). e.hands) u.knows ∙ hands_same b x (knows old);
     rank = rank;
     takes = λ n y s. ap (taken b n y s) u.knows ∙ heads_lost b x n y s (knows old);
@@ -141,7 +142,7 @@ module _ {A : Type 0} where
   }
 
   -- so what has no cell leaves the cells of the earlier port too
-  pub leaves_since : (b : Bool) (old mid new : Port A) → Unmoved b old mid → Leaves mid new
+  pub leaves_since : (b : OwnQueue) (old mid new : Port A) → Unmoved b old mid → Leaves mid new
       → Leaves old new
   leaves_since b old mid new u v = record {
     hands = v.hands ∙ u.hands;
@@ -151,44 +152,44 @@ module _ {A : Type 0} where
   }
 
   -- the heads of a queue once they changed, and changed twice
-  pub heads_kept : (b : Bool) (e : Entry A) → e ≡ with_heads b (heads_of b e) e
-  heads_kept true e = refl
-  heads_kept false e = refl
+  pub heads_kept : (b : OwnQueue) (e : Entry A) → e ≡ with_heads b (heads_of b e) e
+  heads_kept receive_queue e = refl
+  heads_kept free_queue e = refl
 
-  heads_twice : (b : Bool) (x y : Heads) (e : Entry A)
+  heads_twice : (b : OwnQueue) (x y : Heads) (e : Entry A)
       → with_heads b y (with_heads b x e) ≡ with_heads b y e
-  heads_twice true x y e = refl
-  heads_twice false x y e = refl
+  heads_twice receive_queue x y e = refl
+  heads_twice free_queue x y e = refl
 
-  heads_there : (b : Bool) (x : Heads) (e : Entry A) → heads_of b (with_heads b x e) ≡ x
-  heads_there true x e = refl
-  heads_there false x e = refl
+  heads_there : (b : OwnQueue) (x : Heads) (e : Entry A) → heads_of b (with_heads b x e) ≡ x
+  heads_there receive_queue x e = refl
+  heads_there free_queue x e = refl
 
-  pub heads_changed : (b : Bool) (x : Heads) (old new : Entry A) → new ≡ with_heads b x old
+  pub heads_changed : (b : OwnQueue) (x : Heads) (old new : Entry A) → new ≡ with_heads b x old
       → heads_of b new ≡ x
   heads_changed b x old new is = ap (heads_of b) is ∙ heads_there b x old
 
-  pub heads_anew : (b : Bool) (x y : Heads) (old loaded new : Entry A) → loaded ≡ with_heads b x old
+  pub heads_anew : (b : OwnQueue) (x y : Heads) (old loaded new : Entry A) → loaded ≡ with_heads b x old
       → new ≡ with_heads b y loaded → new ≡ with_heads b (heads_of b new) old
   heads_anew b x y old loaded new found hidden =
       let is = hidden ∙ ap (with_heads b y) found ∙ heads_twice b x y old in
       is ∙ ap (λ z. with_heads b z old) (sym (heads_changed b y loaded new hidden))
 
-  abbrev missing : Bool → Entry A → Entry A
+  abbrev missing : OwnQueue → Entry A → Entry A
   missing b e = with_look b (LinkEmpty 0) (with_missed b link_miss e)
 
-  missing_heads : (b : Bool) (x : Heads) (l k : Look) (e : Entry A)
+  missing_heads : (b : OwnQueue) (x : Heads) (l k : Look) (e : Entry A)
       → heads_of b (missing b (with_look b k (with_look b l (with_heads b x e)))) ≡ x
-  missing_heads true x l k e = refl
-  missing_heads false x l k e = refl
+  missing_heads receive_queue x l k e = refl
+  missing_heads free_queue x l k e = refl
 
-  missing_is : (b : Bool) (x : Heads) (l k : Look) (e : Entry A)
+  missing_is : (b : OwnQueue) (x : Heads) (l k : Look) (e : Entry A)
       → missing b (with_look b k (with_look b l (with_heads b x e))) ≡ missing b (with_heads b x e)
-  missing_is true x l k e = refl
-  missing_is false x l k e = refl
+  missing_is receive_queue x l k e = refl
+  missing_is free_queue x l k e = refl
 
 -- the link of the first cell was 0 twice, although another cell was the tail
-module _ {A : Type 0} (b : Bool) (l k : Look) (heads : Heads) (old mid linked tailed last : Entry A)
+module _ {A : Type 0} (b : OwnQueue) (l k : Look) (heads : Heads) (old mid linked tailed last : Entry A)
     (found : mid ≡ with_heads b heads old)
     (look : linked ≡ with_look b l mid) (tail : tailed ≡ with_look b k linked)
     (again : last ≡ with_look b (LinkEmpty 0) (with_missed b link_miss tailed)) where

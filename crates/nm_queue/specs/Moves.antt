@@ -9,14 +9,14 @@ use Rattle.nm_cells.specs.declared.port.Port.{Port}
 use Rattle.nm_cells.specs.declared.port.Fabric.{Fabric}
 use Rattle.nm_cells.specs.declared.cell.Cell.{Cell}
 use Rattle.nm_cells.specs.declared.cell.Queue.{Queue}
-use Rattle.nm_cells.specs.Ports.{Stays, Leaves, Takes, knows, holding, posted_in, is_receive}
+use Rattle.nm_cells.specs.Ports.{Stays, Leaves, Takes, knows, holding, posted_in, own_of}
 use Rattle.nm_queue.specs.declared.moves.Miss.{Miss}
 use Rattle.nm_queue.specs.declared.moves.Miss.TheVariants.{HeadEmpty, LinkMissing}
 
 module _ {A : Type 0} where
   -- the shadow head of an own queue, or 0
   abbrev pub shadow_of : Queue → Port A → ℕ
-  shadow_of q p = (heads_of (is_receive q) (knows p)).shadow
+  shadow_of q p = (heads_of (own_of q) (knows p)).shadow
 
   -- The cell c went with what it held to the end of a queue
   pub record Enqueues (q : Queue) (c : ℕ) (f : Fabric A) (old new : Port A) : Type 0 where
@@ -27,31 +27,31 @@ module _ {A : Type 0} where
 
   -- the first cell of an own queue is in hand
   abbrev pub TakesFirst : Queue → Fabric A → Port A → Port A → Cell → Type 0
-  TakesFirst q f old new c = Takes (is_receive q) f old new c
+  TakesFirst q f old new c = Takes (own_of q) f old new c
 
   -- The first cell of an own queue is the shadow head, as it was where there was one
   pub record FindsFirst (q : Queue) (old new : Port A) : Type 0 where
     pub some : 0 < shadow_of q new
     pub same : 0 < shadow_of q old
-        → heads_of (is_receive q) (knows new) ≡ heads_of (is_receive q) (knows old)
+        → heads_of (own_of q) (knows new) ≡ heads_of (own_of q) (knows old)
     pub knows : knows new
-        ≡ with_heads (is_receive q) (heads_of (is_receive q) (knows new)) (knows old)
+        ≡ with_heads (own_of q) (heads_of (own_of q) (knows new)) (knows old)
     pub leaves : Leaves old new
 
   -- There was no shadow head, and the head was loaded as 0
   pub record MissesHead (q : Queue) (old new : Port A) : Type 0 where
     pub no_shadow : shadow_of q old ≡ 0
-    pub knows : knows new ≡ with_missed (is_receive q) head_miss
-        (with_heads (is_receive q) (heads_at 0 0) (knows old))
+    pub knows : knows new ≡ with_missed (own_of q) head_miss
+        (with_heads (own_of q) (heads_at 0 0) (knows old))
     pub leaves : Leaves old new
 
   -- The tail was another cell than the first one, whose link was loaded as 0. It stays first
   pub record MissesLink (q : Queue) (old new : Port A) : Type 0 where
     pub some : 0 < shadow_of q new
     pub same : 0 < shadow_of q old
-        → heads_of (is_receive q) (knows new) ≡ heads_of (is_receive q) (knows old)
-    pub knows : knows new ≡ with_look (is_receive q) (LinkEmpty 0) (with_missed (is_receive q) link_miss
-        (with_heads (is_receive q) (heads_of (is_receive q) (knows new)) (knows old)))
+        → heads_of (own_of q) (knows new) ≡ heads_of (own_of q) (knows old)
+    pub knows : knows new ≡ with_look (own_of q) (LinkEmpty 0) (with_missed (own_of q) link_miss
+        (with_heads (own_of q) (heads_of (own_of q) (knows new)) (knows old)))
     pub leaves : Leaves old new
 
   -- why there was no cell to take

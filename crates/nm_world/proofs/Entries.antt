@@ -13,6 +13,7 @@ use Rattle.nm_chain.specs.Rule.{Load, if_below, put_to, sent_to}
 use Rattle.nm_chain.specs.Plays.{missed_of, raised, with_box_full, with_filling, with_heads, with_put, with_put_box}
 use Rattle.nm_chain.specs.Plays.{heads_at, heads_of, head_miss, link_miss, with_look, with_missed}
 use Rattle.nm_chain.specs.declared.table.table.Look.TheVariants.{Fresh, LinkEmpty}
+use Rattle.nm_chain.specs.OwnQueues.{OwnQueue, receive_queue, free_queue}
 use Rattle.nm_chain.proofs.QueueLemmas.{put_append}
 use Rattle.nm_port.proofs.PollLemmas.{map_later}
 use Rattle.nm_port.specs.Polls.{polled, with_all_missed}
@@ -29,7 +30,7 @@ pub record EntryGrows (e e' : Entry Packet) : Type 0 where
   pub sent : (j : ℕ) → sent_to j e.put_box e.put ≤ sent_to j e'.put_box e'.put
   pub full : (j : ℕ) → slice_index e.box_full j ≤ slice_index e'.box_full j
   pub missed : (i : ℕ) → slice_index e.box_miss i ≤ slice_index e'.box_miss i
-  pub queues : (b : Bool) → MissesGrow (missed_of b e) (missed_of b e')
+  pub queues : (b : OwnQueue) → MissesGrow (missed_of b e) (missed_of b e')
 
 pub misses_same : (x : Misses) → MissesGrow x x
 misses_same x = record { head = omega arith; link = omega arith }
@@ -70,9 +71,9 @@ set_up (x ∷ xs) (suc j) zero = omega arith
 set_up (x ∷ xs) (suc j) (suc i) = set_up xs j i
 
 by_queue : (e e' : Entry Packet) → MissesGrow e.receive_missed e'.receive_missed →
-    MissesGrow e.free_missed e'.free_missed → (b : Bool) → MissesGrow (missed_of b e) (missed_of b e')
-by_queue e e' one two true = one
-by_queue e e' one two false = two
+    MissesGrow e.free_missed e'.free_missed → (b : OwnQueue) → MissesGrow (missed_of b e) (missed_of b e')
+by_queue e e' one two receive_queue = one
+by_queue e e' one two free_queue = two
 
 -- a try by box
 pub tried_up : (fits : Bool) (to : ℕ) (e : Entry Packet) → EntryGrows e (tried fits to e)
@@ -93,44 +94,45 @@ all_missed_up e = record {
 }
 
 -- a miss of an own queue
-head_up : (b : Bool) (h : Heads) (e : Entry Packet) → EntryGrows e (with_missed b head_miss (with_heads b h e))
-head_up true h e = record {
+head_up : (b : OwnQueue) (h : Heads) (e : Entry Packet) → EntryGrows e (with_missed b head_miss (with_heads b h e))
+head_up receive_queue h e = record {
   sent = λ j. omega arith;
   full = λ j. omega arith;
   missed = λ j. omega arith;
-  queues = by_queue e (with_missed true head_miss (with_heads true h e))
+  queues = by_queue e (with_missed receive_queue head_miss (with_heads receive_queue h e))
       (record { head = raised_up e.receive_missed.head_empty; link = omega arith })
       (misses_same e.free_missed);
 }
-head_up false h e = record {
+head_up free_queue h e = record {
   sent = λ j. omega arith;
   full = λ j. omega arith;
   missed = λ j. omega arith;
-  queues = by_queue e (with_missed false head_miss (with_heads false h e))
+  queues = by_queue e (with_missed free_queue head_miss (with_heads free_queue h e))
       (misses_same e.receive_missed)
       (record { head = raised_up e.free_missed.head_empty; link = omega arith });
 }
 
-link_up : (b : Bool) (h : Heads) (e : Entry Packet) →
+link_up : (b : OwnQueue) (h : Heads) (e : Entry Packet) →
     EntryGrows e (with_look b (LinkEmpty 0) (with_missed b link_miss (with_heads b h e)))
-link_up true h e = record {
+link_up receive_queue h e = record {
   sent = λ j. omega arith;
   full = λ j. omega arith;
   missed = λ j. omega arith;
-  queues = by_queue e (with_look true (LinkEmpty 0) (with_missed true link_miss (with_heads true h e)))
+  queues = by_queue e
+      (with_look receive_queue (LinkEmpty 0) (with_missed receive_queue link_miss (with_heads receive_queue h e)))
       (record { head = omega arith; link = raised_up e.receive_missed.link_missing })
       (misses_same e.free_missed);
 }
-link_up false h e = record {
+link_up free_queue h e = record {
   sent = λ j. omega arith;
   full = λ j. omega arith;
   missed = λ j. omega arith;
-  queues = by_queue e (with_look false (LinkEmpty 0) (with_missed false link_miss (with_heads false h e)))
+  queues = by_queue e (with_look free_queue (LinkEmpty 0) (with_missed free_queue link_miss (with_heads free_queue h e)))
       (misses_same e.receive_missed)
       (record { head = omega arith; link = raised_up e.free_missed.link_missing });
 }
 
-pub miss_up : (b : Bool) (e e' : Entry Packet) → HadMiss b e e' → EntryGrows e e'
+pub miss_up : (b : OwnQueue) (e e' : Entry Packet) → HadMiss b e e' → EntryGrows e e'
 miss_up b e e' = ⊎_elim
     (λ h. subst (λ (x : Entry Packet). EntryGrows e x) (sym h) (head_up b (heads_at 0 0) e))
     (λ h. subst (λ (x : Entry Packet). EntryGrows e x) (sym h.1) (link_up b (heads_of b e') e))
@@ -151,12 +153,12 @@ box_up to xs e = record {
 }
 
 pub cell_up : (xs : List (ℕ × Load Packet)) (h : Heads) (e : Entry Packet) →
-    EntryGrows e (with_put xs (with_look false Fresh (with_heads false h e)))
+    EntryGrows e (with_put xs (with_look free_queue Fresh (with_heads free_queue h e)))
 cell_up xs h e = record {
   sent = λ j. let more = put_more j e.put xs in omega (arith, more);
   full = λ j. omega arith;
   missed = λ j. omega arith;
-  queues = by_queue e (with_put xs (with_look false Fresh (with_heads false h e)))
+  queues = by_queue e (with_put xs (with_look free_queue Fresh (with_heads free_queue h e)))
       (misses_same e.receive_missed) (misses_same e.free_missed);
 }
 
@@ -175,7 +177,7 @@ module _ (fits : Bool) (to : ℕ) (x : Parcel Packet) (old new : Port Packet) wh
       (box_up to ((to, Some x) ∷ []) (knows old))
   sends_up Cell by = subst (λ (z : Entry Packet). EntryGrows (knows old) z) (sym by.put)
       (entry_on (knows old) (tried fits to (knows old)) _ (tried_up fits to (knows old))
-      (cell_up ((to, Some x) ∷ []) (heads_of false (knows new)) (tried fits to (knows old))))
+      (cell_up ((to, Some x) ∷ []) (heads_of free_queue (knows new)) (tried fits to (knows old))))
 
 -- a poll
 pub polled_up : (e e' : Entry Packet) → e' ≡ polled e' e →

@@ -23,6 +23,7 @@ use Rattle.nm_cells.specs.declared.port.Port.{Port}
 use Rattle.nm_cells.specs.Ports.{knows}
 use Rattle.nm_port.specs.Polls.{with_all_missed}
 use Rattle.nm_chain.specs.Items.{answer, is_short}
+use Rattle.nm_chain.specs.OwnQueues.{OwnQueue, receive_queue, free_queue}
 use Rattle.nm_port.specs.Sends.{HadMiss, tried}
 use Rattle.nm_copyring.specs.declared.table.Entry as ring_entry
 use Rattle.nm_copyring.specs.declared.table.Lane.{Lane}
@@ -64,26 +65,26 @@ map_rose (x ∷ xs) zero low = raised_rose x
 map_rose (x ∷ xs) (suc i) low = map_rose xs i (omega (arith, low))
 
 -- a miss of an own queue
-abbrev MissRose : Bool → Entry Packet → Entry Packet → Type 0
+abbrev MissRose : OwnQueue → Entry Packet → Entry Packet → Type 0
 MissRose b e e' =
     Rose (missed_of b e).head_empty (missed_of b e').head_empty
     ⊎ Rose (missed_of b e).link_missing (missed_of b e').link_missing
 
-head_rose : (b : Bool) (h : Heads) (e : Entry Packet) → MissRose b e (with_missed b head_miss (with_heads b h e))
-head_rose true h e = inl (raised_rose e.receive_missed.head_empty)
-head_rose false h e = inl (raised_rose e.free_missed.head_empty)
+head_rose : (b : OwnQueue) (h : Heads) (e : Entry Packet) → MissRose b e (with_missed b head_miss (with_heads b h e))
+head_rose receive_queue h e = inl (raised_rose e.receive_missed.head_empty)
+head_rose free_queue h e = inl (raised_rose e.free_missed.head_empty)
 
-link_rose : (b : Bool) (h : Heads) (e : Entry Packet) →
+link_rose : (b : OwnQueue) (h : Heads) (e : Entry Packet) →
     MissRose b e (with_look b (LinkEmpty 0) (with_missed b link_miss (with_heads b h e)))
-link_rose true h e = inr (raised_rose e.receive_missed.link_missing)
-link_rose false h e = inr (raised_rose e.free_missed.link_missing)
+link_rose receive_queue h e = inr (raised_rose e.receive_missed.link_missing)
+link_rose free_queue h e = inr (raised_rose e.free_missed.link_missing)
 
-pub miss_rose : (b : Bool) (e e' : Entry Packet) → HadMiss b e e' → MissRose b e e'
+pub miss_rose : (b : OwnQueue) (e e' : Entry Packet) → HadMiss b e e' → MissRose b e e'
 miss_rose b e e' = ⊎_elim
     (λ h. subst (λ (x : Entry Packet). MissRose b e x) (sym h) (head_rose b (heads_at 0 0) e))
     (λ h. subst (λ (x : Entry Packet). MissRose b e x) (sym h.1) (link_rose b (heads_of b e') e))
 
-fulls_kept : (e e' : Entry Packet) → HadMiss false e e' → e'.box_full ≡ e.box_full
+fulls_kept : (e e' : Entry Packet) → HadMiss free_queue e e' → e'.box_full ≡ e.box_full
 fulls_kept e e' = ⊎_elim (λ h. ap (λ (x : Entry Packet). x.box_full) h) (λ h. ap (λ (x : Entry Packet). x.box_full) h.1)
 
 fulls_long : (p : Port Packet) → length (knows p).box_full ≡ (knows p).ranks
@@ -91,16 +92,16 @@ fulls_long p = ∥∥₁_elim p.counts (search props) (λ n. n.fulls)
 
 -- a poll that gave none
 pub gave_none : (n : ℕ) (p q : Port Packet) → (knows p).ranks ≡ n →
-    HadMiss true (with_all_missed (knows p)) (knows q) → GaveNone n p q
+    HadMiss receive_queue (with_all_missed (knows p)) (knows q) → GaveNone n p q
 gave_none n p q ranks miss = record {
   boxes = λ i low. let long = misses_long p in
       subst (λ (xs : List ℕ). Rose (slice_index (knows p).box_miss i) (slice_index xs i))
       (sym (queue_misses (with_all_missed (knows p)) (knows q) miss))
       (map_rose (knows p).box_miss i (omega (arith, low, ranks, long)));
-  queue = miss_rose true (with_all_missed (knows p)) (knows q) miss;
+  queue = miss_rose receive_queue (with_all_missed (knows p)) (knows q) miss;
 }
 
-queue_within : (b : Bool) (p p' q' q : Port Packet) → PortGrows p p' → QueueMissed b p' q' → PortGrows q' q →
+queue_within : (b : OwnQueue) (p p' q' q : Port Packet) → PortGrows p p' → QueueMissed b p' q' → PortGrows q' q →
     QueueMissed b p q
 queue_within b p p' q' q up missed on =
     ⊎_elim (λ h. inl (rose_within _ _ _ _ (up.queues b).head h (on.queues b).head))
@@ -109,7 +110,7 @@ queue_within b p p' q' q up missed on =
 pub none_within : (n : ℕ) (p p' q' q : Port Packet) → PortGrows p p' → GaveNone n p' q' → PortGrows q' q → GaveNone n p q
 none_within n p p' q' q up none on = record {
   boxes = λ i low. rose_within _ _ _ _ (up.missed i) (none.boxes i low) (on.missed i);
-  queue = queue_within true p p' q' q up none.queue on;
+  queue = queue_within receive_queue p p' q' q up none.queue on;
 }
 
 -- a letter that came back
@@ -121,12 +122,13 @@ tried_box len to e low = by (dec_le len 64) where
   by (yes h) = inr (set_rose e.box_full to low)
   by (no h) = inl (omega (arith, h))
 
-tried_queue : (fits : Bool) (to : ℕ) (e e' : Entry Packet) → MissRose false (tried fits to e) e' → MissRose false e e'
+tried_queue : (fits : Bool) (to : ℕ) (e e' : Entry Packet) → MissRose free_queue (tried fits to e) e' →
+    MissRose free_queue e e'
 tried_queue true to e e' rose = rose
 tried_queue false to e e' rose = rose
 
 pub came_back : (p q : Port Packet) (l : Letter) (len : ℕ) → len ≡ length l.packet.payload → l.to < (knows p).ranks →
-    HadMiss false (tried (is_short len) l.to (knows p)) (knows q) → NotSent p q l
+    HadMiss free_queue (tried (is_short len) l.to (knows p)) (knows q) → NotSent p q l
 came_back p q l len same low miss =
     let e = knows p in
     let long = fulls_long p in
@@ -134,7 +136,8 @@ came_back p q l len same low miss =
       box = ⊎_elim (λ h. inl (omega (arith, h, same)))
           (λ h. inr (subst (λ (xs : List ℕ). Rose (slice_index e.box_full l.to) (slice_index xs l.to)) (sym kept) h))
           (tried_box len l.to e (omega (arith, low, long)));
-      queue = tried_queue (is_short len) l.to e (knows q) (miss_rose false (tried (is_short len) l.to e) (knows q) miss);
+      queue = tried_queue (is_short len) l.to e (knows q)
+          (miss_rose free_queue (tried (is_short len) l.to e) (knows q) miss);
     }
 
 pub back_within : (a a' b' b : Actor) → PortGrows a.port a'.port → a'.process ≡ a.process → FirstNotSent a' b' →
@@ -147,7 +150,7 @@ back_within a a' b' b up same back on =
       by None back = tt
       by (Some l) back = record {
         box = ⊎_elim (λ h. inl h) (λ h. inr (rose_within _ _ _ _ (up.full l.to) h (on.full l.to))) back.box;
-        queue = queue_within false a.port a'.port b'.port b.port up back.queue on;
+        queue = queue_within free_queue a.port a'.port b'.port b.port up back.queue on;
       }
 
 -- a piece that was not pushed, and one that did not come

@@ -34,18 +34,19 @@ use Rattle.nm_world.proofs.Loops.{HasLooped}
 use Rattle.nm_world.proofs.Results.{clash}
 use Rattle.nm_types.proofs.ListLemmas.{take_more}
 use Rattle.nm_types.specs.declared.packets.Packet.{Packet}
+use Rattle.nm_chain.specs.OwnQueues.{receive_queue}
 
 -- ports
 polls_up : (n : ℕ) (p q : Port Packet) → PortGrows p q → polls_of n p ≤ polls_of n q
 polls_up n p q up =
     let x = sum_up n (λ i. taken_by p i) (λ i. taken_by q i) up.taken in
-    let y = (up.queues true).head in
-    let z = (up.queues true).link in omega (arith, x, y, z)
+    let y = (up.queues receive_queue).head in
+    let z = (up.queues receive_queue).link in omega (arith, x, y, z)
 
 last_on : (p q : Port Packet) → PortGrows p q → IsAtLast p → IsAtLast q
 last_on p q up = ⊎_elim
-    (λ h. let y = (up.queues true).head in inl (omega (arith, h, y)))
-    (λ h. let z = (up.queues true).link in inr (omega (arith, h, z)))
+    (λ h. let y = (up.queues receive_queue).head in inl (omega (arith, h, y)))
+    (λ h. let z = (up.queues receive_queue).link in inr (omega (arith, h, z)))
 
 pub polled_none : (n : ℕ) (p q : Port Packet) → PortGrows p q → Polled n 0 p q
 polled_none n p q up = let x = polls_up n p q up in inl (omega (arith, x))
@@ -66,14 +67,14 @@ polled_within n k p p' q' q up polled on =
 pub polled_some : (n k : ℕ) (p q : Port Packet) → PortGrows p q → k < n → taken_by p k < taken_by q k → Polled n 1 p q
 polled_some n k p q up low more =
     let x = sum_more n k (λ i. taken_by p i) (λ i. taken_by q i) up.taken low more in
-    let y = (up.queues true).head in
-    let z = (up.queues true).link in inl (omega (arith, x, y, z))
+    let y = (up.queues receive_queue).head in
+    let z = (up.queues receive_queue).link in inl (omega (arith, x, y, z))
 
-pub polled_miss : (n : ℕ) (p q : Port Packet) → PortGrows p q → QueueMissed true p q → Polled n 1 p q
+pub polled_miss : (n : ℕ) (p q : Port Packet) → PortGrows p q → QueueMissed receive_queue p q → Polled n 1 p q
 polled_miss n p q up =
     let x = sum_up n (λ i. taken_by p i) (λ i. taken_by q i) up.taken in
-    let y = (up.queues true).head in
-    let z = (up.queues true).link in ⊎_elim
+    let y = (up.queues receive_queue).head in
+    let z = (up.queues receive_queue).link in ⊎_elim
     (⊎_elim (λ h. inl (omega (arith, x, h, z))) (λ h. inr (inl h)))
     (⊎_elim (λ h. inl (omega (arith, x, y, h))) (λ h. inr (inr h)))
 

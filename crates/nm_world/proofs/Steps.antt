@@ -12,6 +12,7 @@ use Rattle.nm_history.specs.Known.{Taken}
 use Rattle.nm_history.specs.Pieces.{Pulled}
 use Rattle.nm_chain.specs.declared.table.table.Entry.{Entry}
 use Rattle.nm_chain.specs.declared.table.parcels.Parcel.{Parcel}
+use Rattle.nm_chain.specs.OwnQueues.{OwnQueue, receive_queue, free_queue}
 use Rattle.nm_cells.specs.declared.port.Fabric.{Fabric}
 use Rattle.nm_cells.specs.declared.port.Port.{Port}
 use Rattle.nm_cells.specs.Ports.{knows, taken_by}
@@ -74,41 +75,41 @@ pub tried_got : (fits : Bool) (to : ℕ) (e : Entry Packet) → SameGot e (tried
 tried_got true to e = record { box = refl; cell = refl }
 tried_got false to e = record { box = refl; cell = refl }
 
-missed_sent : (b : Bool) (e e' : Entry Packet) → HadMiss b e e' → SameSent e e'
-missed_sent true e e' miss = ⊎_elim
+missed_sent : (b : OwnQueue) (e e' : Entry Packet) → HadMiss b e e' → SameSent e e'
+missed_sent receive_queue e e' miss = ⊎_elim
     (λ h. record { box = ap (λ (x : Entry Packet). x.put_box) h; cell = ap (λ (x : Entry Packet). x.put) h })
     (λ h. record { box = ap (λ (x : Entry Packet). x.put_box) h.1; cell = ap (λ (x : Entry Packet). x.put) h.1 }) miss
-missed_sent false e e' miss = ⊎_elim
+missed_sent free_queue e e' miss = ⊎_elim
     (λ h. record { box = ap (λ (x : Entry Packet). x.put_box) h; cell = ap (λ (x : Entry Packet). x.put) h })
     (λ h. record { box = ap (λ (x : Entry Packet). x.put_box) h.1; cell = ap (λ (x : Entry Packet). x.put) h.1 }) miss
 
-missed_got : (b : Bool) (e e' : Entry Packet) → HadMiss b e e' → SameGot e e'
-missed_got true e e' miss = ⊎_elim
+missed_got : (b : OwnQueue) (e e' : Entry Packet) → HadMiss b e e' → SameGot e e'
+missed_got receive_queue e e' miss = ⊎_elim
     (λ h. record { box = ap (λ (x : Entry Packet). x.got_box) h; cell = ap (λ (x : Entry Packet). x.got) h })
     (λ h. record { box = ap (λ (x : Entry Packet). x.got_box) h.1; cell = ap (λ (x : Entry Packet). x.got) h.1 }) miss
-missed_got false e e' miss = ⊎_elim
+missed_got free_queue e e' miss = ⊎_elim
     (λ h. record { box = ap (λ (x : Entry Packet). x.got_box) h; cell = ap (λ (x : Entry Packet). x.got) h })
     (λ h. record { box = ap (λ (x : Entry Packet). x.got_box) h.1; cell = ap (λ (x : Entry Packet). x.got) h.1 }) miss
 
-pub back_sent : (fits : Bool) (to : ℕ) (e e' : Entry Packet) → HadMiss false (tried fits to e) e' → SameSent e e'
+pub back_sent : (fits : Bool) (to : ℕ) (e e' : Entry Packet) → HadMiss free_queue (tried fits to e) e' → SameSent e e'
 back_sent fits to e e' miss =
     let one = tried_sent fits to e in
-    let two = missed_sent false (tried fits to e) e' miss in
+    let two = missed_sent free_queue (tried fits to e) e' miss in
     record { box = two.box ∙ one.box; cell = two.cell ∙ one.cell }
 
-pub back_got : (fits : Bool) (to : ℕ) (e e' : Entry Packet) → HadMiss false (tried fits to e) e' → SameGot e e'
+pub back_got : (fits : Bool) (to : ℕ) (e e' : Entry Packet) → HadMiss free_queue (tried fits to e) e' → SameGot e e'
 back_got fits to e e' miss =
     let one = tried_got fits to e in
-    let two = missed_got false (tried fits to e) e' miss in
+    let two = missed_got free_queue (tried fits to e) e' miss in
     record { box = two.box ∙ one.box; cell = two.cell ∙ one.cell }
 
-pub none_sent : (e e' : Entry Packet) → HadMiss true (with_all_missed e) e' → SameSent e e'
+pub none_sent : (e e' : Entry Packet) → HadMiss receive_queue (with_all_missed e) e' → SameSent e e'
 none_sent e e' miss =
-    let two = missed_sent true (with_all_missed e) e' miss in record { box = two.box; cell = two.cell }
+    let two = missed_sent receive_queue (with_all_missed e) e' miss in record { box = two.box; cell = two.cell }
 
-pub none_got : (e e' : Entry Packet) → HadMiss true (with_all_missed e) e' → SameGot e e'
+pub none_got : (e e' : Entry Packet) → HadMiss receive_queue (with_all_missed e) e' → SameGot e e'
 none_got e e' miss =
-    let two = missed_got true (with_all_missed e) e' miss in record { box = two.box; cell = two.cell }
+    let two = missed_got receive_queue (with_all_missed e) e' miss in record { box = two.box; cell = two.cell }
 
 -- a port that passed nothing on and sent nothing
 pub nothing_carried : (lines : List Line) (f : Fabric Packet) (r : Rings) (a : Actor) (port : Port Packet)

@@ -8,6 +8,7 @@ use Rattle.nm_channels.specs.Moments.{pulled_from as pulled_in, taken_from as ta
 use Rattle.nm_history.specs.declared.events.Event.{Event}
 use Rattle.nm_chain.specs.declared.table.table.Misses.{Misses}
 use Rattle.nm_chain.specs.Plays.{missed_of}
+use Rattle.nm_chain.specs.OwnQueues.{OwnQueue}
 use Rattle.nm_cells.specs.declared.port.Fabric.{Fabric}
 use Rattle.nm_cells.specs.declared.port.Port.{Port}
 use Rattle.nm_cells.specs.Ports.{Owns, knows, sent_by, taken_by}
@@ -59,7 +60,7 @@ pub record PortGrows (p q : Port Packet) : Type 0 where
   pub taken : (i : ℕ) → taken_by p i ≤ taken_by q i
   pub full : (j : ℕ) → slice_index (knows p).box_full j ≤ slice_index (knows q).box_full j
   pub missed : (i : ℕ) → slice_index (knows p).box_miss i ≤ slice_index (knows q).box_miss i
-  pub queues : (b : Bool) → MissesGrow (missed_of b (knows p)) (missed_of b (knows q))
+  pub queues : (b : OwnQueue) → MissesGrow (missed_of b (knows p)) (missed_of b (knows q))
 
 -- so it is with what a ring port has of another rank
 pub record LaneGrows (x y : Lane) : Type 0 where

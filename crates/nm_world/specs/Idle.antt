@@ -9,6 +9,7 @@ use Rattle.nm_rndv.specs.Offers.{next_offered}
 use Rattle.nm_receiving.specs.Receipts.{drawn_from}
 use Rattle.nm_rank.specs.Ranks.{IsFresh, RankView}
 use Rattle.nm_chain.specs.Plays.{missed_of}
+use Rattle.nm_chain.specs.OwnQueues.{OwnQueue, receive_queue, free_queue}
 use Rattle.nm_cells.specs.declared.port.Port.{Port}
 use Rattle.nm_cells.specs.Ports.{knows}
 use Rattle.nm_copyring.specs.Ports.{empty_from, full_to}
@@ -21,8 +22,8 @@ use Rattle.nm_types.specs.declared.packets.Packet.{Packet}
 abbrev pub Rose : ℕ → ℕ → Type 0
 Rose x y = (x < y) ⊎ (18446744073709551615 ≤ y)
 
--- the port's own receive queue (`true`) or free queue had a miss: it was empty, or a link of it was missing
-abbrev pub QueueMissed : Bool → Port Packet → Port Packet → Type 0
+-- an own queue of the port had a miss: it was empty, or a link of it was missing
+abbrev pub QueueMissed : OwnQueue → Port Packet → Port Packet → Type 0
 QueueMissed b p q =
     Rose (missed_of b (knows p)).head_empty (missed_of b (knows q)).head_empty
     ⊎ Rose (missed_of b (knows p)).link_missing (missed_of b (knows q)).link_missing
@@ -32,7 +33,7 @@ QueueMissed b p q =
 pub record GaveNone (n : ℕ) (p q : Port Packet) : Type 0 where
   pub boxes :
       (i : ℕ) → i < n → Rose (slice_index (knows p).box_miss i) (slice_index (knows q).box_miss i)
-  pub queue : QueueMissed true p q
+  pub queue : QueueMissed receive_queue p q
 
 -- `send` handed a letter back: it fits no box, or the next one was found full, and the free queue had
 -- a miss.
@@ -40,7 +41,7 @@ pub record NotSent (p q : Port Packet) (l : Letter) : Type 0 where
   pub box :
       (64 < length l.packet.payload)
       ⊎ Rose (slice_index (knows p).box_full l.to) (slice_index (knows q).box_full l.to)
-  pub queue : QueueMissed false p q
+  pub queue : QueueMissed free_queue p q
 
 -- `send` handed the first letter back, if there is one
 abbrev pub FirstNotSent : Actor → Actor → Type 0

@@ -10,6 +10,7 @@ use Rattle.nm_chain.specs.Rule.{Load, fetched, from, if_below, put_to}
 use Rattle.nm_chain.specs.Plays.{head_miss, heads_at, link_miss, with_heads, with_look, with_missed}
 use Rattle.nm_chain.specs.declared.table.table.Heads.{Heads}
 use Rattle.nm_chain.specs.declared.table.table.Look.TheVariants.{LinkEmpty}
+use Rattle.nm_chain.specs.OwnQueues.{OwnQueue, receive_queue, free_queue}
 use Rattle.nm_chain.proofs.QueueLemmas.{put_append}
 use Rattle.nm_cells.proofs.NumberLemmas.{from_here, from_other}
 use Rattle.uses.specs.QueueCrossings.{Gets, IsFront, Puts, SameLists, bytes_in, bytes_of}
@@ -73,12 +74,12 @@ got_front e g left text bytes split puts gets =
           ∙ append_assoc bytes (bytes_in left) (drop n text);
     }
 
-headed : (b : Bool) (x : Heads) (e : Entry Letter) → SameLists e (with_heads b x e)
-headed true x e = (refl, refl, refl)
-headed false x e = (refl, refl, refl)
+headed : (b : OwnQueue) (x : Heads) (e : Entry Letter) → SameLists e (with_heads b x e)
+headed receive_queue x e = (refl, refl, refl)
+headed free_queue x e = (refl, refl, refl)
 
 -- neither of them changes the lists
-pub lists_missed : (b : Bool) (e e' : Entry Letter) →
+pub lists_missed : (b : OwnQueue) (e e' : Entry Letter) →
     e' ≡ with_missed b head_miss (with_heads b (heads_at 0 0) e) → SameLists e e'
 lists_missed b e e' is = let same = headed b (heads_at 0 0) e in (
   ap (λ (x : Entry Letter). x.put) is ∙ same.0,
@@ -86,7 +87,7 @@ lists_missed b e e' is = let same = headed b (heads_at 0 0) e in (
   ap (λ (x : Entry Letter). x.got) is ∙ same.2,
 )
 
-pub lists_late : (b : Bool) (x : Heads) (e e' : Entry Letter) →
+pub lists_late : (b : OwnQueue) (x : Heads) (e e' : Entry Letter) →
     e' ≡ with_look b (LinkEmpty 0) (with_missed b link_miss (with_heads b x e)) → SameLists e e'
 lists_late b x e e' is = let same = headed b x e in (
   ap (λ (y : Entry Letter). y.put) is ∙ same.0,

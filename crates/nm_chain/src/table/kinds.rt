@@ -13,45 +13,50 @@ use std::marker::{Brand, PhantomData};
 pub struct LoadsHead<const B: bool>;
 
 impl<I, const B: bool> Play<Slot<I>, View<Entry<I>>> for LoadsHead<B> {
+    ghost use Rattle.nm_chain.specs.OwnQueues.{own};
     ghost use Rattle.nm_chain.specs.Plays.{loaded_head};
 
-    ghost then = { loaded_head B };
+    ghost then = { loaded_head (own B) };
 }
 
 /// Stores 0 in the head of an own queue.
 pub struct ClearsHead<const B: bool>;
 
 impl<I, const B: bool> Play<Slot<I>, View<Entry<I>>> for ClearsHead<B> {
+    ghost use Rattle.nm_chain.specs.OwnQueues.{own};
     ghost use Rattle.nm_chain.specs.Plays.{cleared_head};
 
-    ghost then = { cleared_head B };
+    ghost then = { cleared_head (own B) };
 }
 
 /// Loads the link of the first cell of an own queue.
 pub struct Passes<const B: bool>;
 
 impl<I, const B: bool> Play<Slot<I>, View<Entry<I>>> for Passes<B> {
+    ghost use Rattle.nm_chain.specs.OwnQueues.{own};
     ghost use Rattle.nm_chain.specs.Plays.{passed};
 
-    ghost then = { passed B };
+    ghost then = { passed (own B) };
 }
 
 /// Loads that link once more.
 pub struct Reloads<const B: bool>;
 
 impl<I, const B: bool> Play<Slot<I>, View<Entry<I>>> for Reloads<B> {
+    ghost use Rattle.nm_chain.specs.OwnQueues.{own};
     ghost use Rattle.nm_chain.specs.Plays.{reloaded};
 
-    ghost then = { reloaded B };
+    ghost then = { reloaded (own B) };
 }
 
 /// Exchanges the tail of an own queue for 0 where it is the first cell.
 pub struct Drains<const B: bool>;
 
 impl<I, const B: bool> Play<Slot<I>, View<Entry<I>>> for Drains<B> {
+    ghost use Rattle.nm_chain.specs.OwnQueues.{own};
     ghost use Rattle.nm_chain.specs.Plays.{drained};
 
-    ghost then = { drained B };
+    ghost then = { drained (own B) };
 }
 
 /// Stores 0 in the link of a cell in hand.

@@ -1,7 +1,7 @@
 //! The first cell of an own queue.
 
 ghost use Rattle.std.specs.Prelude.{◌≡◌, IfNone, IfSome};
-ghost use Rattle.nm_cells.specs.Ports.{Owns, IsOwn, Takes, is_receive, knows};
+ghost use Rattle.nm_cells.specs.Ports.{Owns, IsOwn, Takes, own_of, knows};
 ghost use Rattle.uses.specs.QueueCrossings.{SameLists};
 
 use crate::queue::letters::Letter;
@@ -20,7 +20,7 @@ pub fn take_first<L: Ledger>(
     requires owns { Owns f.now port.old }
     requires own { IsOwn port.old q }
     ensures owns { Owns f.now port.new × (port.new.rank ≡ port.old.rank) }
-    ensures took { IfSome result (Takes (is_receive q) f.now port.old port.new) }
+    ensures took { IfSome result (Takes (own_of q) f.now port.old port.new) }
     ensures none { IfNone result (SameLists (knows port.old) (knows port.new)
         × (port.new.hands ≡ port.old.hands)) }
 {

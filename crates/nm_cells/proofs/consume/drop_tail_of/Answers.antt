@@ -11,6 +11,7 @@ use Rattle.nm_chain.specs.Plays.{Knowing, mine}
 use Rattle.nm_cells.specs.AtWork.{HoldsBoxes}
 use Rattle.nm_cells.specs.LooseCells.{AreKept}
 use Rattle.nm_chain.specs.Plays.{Alone}
+use Rattle.nm_chain.specs.OwnQueues.{own}
 use Rattle.nm_cells.proofs.consume.drop_tail_of.Goals as goal
 
 pub compare_exchange-found-requires : goal.compare_exchange-found-requires
@@ -30,13 +31,13 @@ compare_exchange-found-requires g c = let f = c.args.f.now in let p = c.args.por
 pub first_taken-requires-clause-own : goal.first_taken-requires-clause-own
 first_taken-requires-clause-own g c = let f = c.args.f.now in let p = c.args.port.now in
     let k = c.heads-shadow.result.shadow - 1 in let same = c.if-found-shadow.false in
-    takes_own _ f p k k 0 c.compare_exchange-found.new.seat.me c.requires.owns
-    (c.compare_exchange-found.ensures.2.3 same) refl
+    λ is. takes_own _ f p k k 0 c.compare_exchange-found.new.seat.me c.requires.owns
+    (c.compare_exchange-found.ensures.2.3 same) refl (ap own is)
 
 pub first_taken-requires-clause-count : goal.first_taken-requires-clause-count
 first_taken-requires-clause-count g c = let f = c.args.f.now in let p = c.args.port.now in
     let k = c.heads-shadow.result.shadow - 1 in let same = c.if-found-shadow.false in
-    takes_count _ f p k k 0 c.compare_exchange-found.new.seat.me c.requires.owns
+    λ _. takes_count _ f p k k 0 c.compare_exchange-found.new.seat.me c.requires.owns
     (c.compare_exchange-found.ensures.2.3 same) refl
 
 pub first_taken-requires-clause-low : goal.first_taken-requires-clause-low

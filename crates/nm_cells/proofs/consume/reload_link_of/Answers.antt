@@ -13,6 +13,7 @@ use Rattle.nm_chain.specs.Plays.{Knowing, mine}
 use Rattle.nm_cells.specs.AtWork.{HoldsBoxes}
 use Rattle.nm_cells.specs.LooseCells.{AreKept}
 use Rattle.nm_chain.specs.Plays.{Alone}
+use Rattle.nm_chain.specs.OwnQueues.{own}
 use Rattle.nm_cells.proofs.consume.reload_link_of.Goals as goal
 
 pub load-found-requires : goal.load-found-requires
@@ -35,8 +36,8 @@ first_taken-requires-clause-own g c = let f = c.args.f.now in let p = c.args.por
     let is_word = c.link_word-word.ensures in
     let at : c.link_word-word.result - 4 * (knows p).ranks ≡ k = omega arith in
     let some = c.if-found-eq0.false in
-    takes_own _ f p (c.link_word-word.result - 4 * (knows p).ranks) k c.load-found.result
-    c.load-found.new.seat.me c.requires.owns (c.load-found.ensures.2.2 (omega arith)) at
+    λ is. takes_own _ f p (c.link_word-word.result - 4 * (knows p).ranks) k c.load-found.result
+    c.load-found.new.seat.me c.requires.owns (c.load-found.ensures.2.2 (omega arith)) at (ap own is)
 
 pub first_taken-requires-clause-count : goal.first_taken-requires-clause-count
 first_taken-requires-clause-count g c = let f = c.args.f.now in let p = c.args.port.now in
@@ -44,7 +45,7 @@ first_taken-requires-clause-count g c = let f = c.args.f.now in let p = c.args.p
     let is_word = c.link_word-word.ensures in
     let at : c.link_word-word.result - 4 * (knows p).ranks ≡ k = omega arith in
     let some = c.if-found-eq0.false in
-    takes_count _ f p (c.link_word-word.result - 4 * (knows p).ranks) k c.load-found.result
+    λ _. takes_count _ f p (c.link_word-word.result - 4 * (knows p).ranks) k c.load-found.result
     c.load-found.new.seat.me c.requires.owns (c.load-found.ensures.2.2 (omega arith)) at
 
 pub first_taken-requires-clause-low : goal.first_taken-requires-clause-low

@@ -1,4 +1,4 @@
-use Rattle.std.proofs.Common.{◌≡◌, ◌+◌, ◌<◌, true, sym, ap, ◌∙◌, subst, arith}
+use Rattle.std.proofs.Common.{◌<◌, sym, ap, ◌∙◌, subst, arith}
 use Rattle.std.specs.Coded.{coded_option}
 use base.Stored.{Coded-set}
 use denote.Struct.Declared.{row}
@@ -7,6 +7,7 @@ use Rattle.nm_chain.specs.Rule.{emptying_of}
 use Rattle.nm_cells.specs.declared.port.Port.{Port}
 use Rattle.nm_chain.specs.declared.table.table.Entry.{Entry}
 use Rattle.nm_cells.specs.Ports.{knows, taken_by, unpassed_by}
+use Rattle.nm_chain.specs.OwnQueues.{receive_queue}
 use Rattle.nm_port.specs.Keeps.{KeepsPort}
 use Rattle.nm_port.specs.Sends.{HadMiss}
 use Rattle.nm_port.specs.Polls.{count_held, EmptiesNone, Polls, with_all_missed}
@@ -78,7 +79,7 @@ returns-in-Err-take_first-clause-none g c = let p = c.args.port.now in let new =
       record {
         nothing = none;
         held = h.2;
-        miss = subst (λ e. HadMiss true e (knows new)) seen h.1.miss;
+        miss = subst (λ e. HadMiss receive_queue e (knows new)) seen h.1.miss;
         taken = h.3 ∙ missed.taken ∙ ap taken_by kept.1;
       },
     )) c.receive_next.ensures.none

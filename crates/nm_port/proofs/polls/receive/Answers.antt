@@ -1,4 +1,4 @@
-use Rattle.std.proofs.Common.{◌<◌, [], Some, None, refl, true, sym, ap}
+use Rattle.std.proofs.Common.{◌<◌, [], Some, None, refl, sym, ap}
 use Rattle.std.proofs.Common.{◌∙◌, arith, subst}
 use Rattle.nm_chain.proofs.UpdateLemmas.{update_here}
 use Rattle.nm_chain.specs.declared.table.table.Hand.TheVariants.{Away}
@@ -6,6 +6,7 @@ use Rattle.nm_chain.specs.Rule.{hand}
 use Rattle.nm_chain.specs.Plays.{InHand, with_hand, with_put, heads_of}
 use Rattle.nm_cells.specs.LooseCells.{IsAmong}
 use Rattle.nm_cells.specs.Ports.{knows, holding}
+use Rattle.nm_chain.specs.OwnQueues.{receive_queue}
 use Rattle.nm_port.proofs.SendLemmas.{cell_received, cell_same, keeps_all}
 use Rattle.nm_port.proofs.PollLemmas.{still_unpassed}
 use Rattle.nm_port.proofs.polls.receive.Goals as goal
@@ -47,7 +48,7 @@ returns-clause-came g c = let f = c.args.f.now in let p = c.args.port.now in
       unpassed = still_unpassed q s x (ap (λ u. u.ranks) after) (ap (λ u. u.got) after)
           (e.stays.2.0 ∙ o.stays.0.2.0) (t.arrived refl x o.parcel);
       one_more = omega (arith, a, b, d);
-      got = cell_received (knows p) (knows s) k (heads_of true (knows q)).shadow (holding q k) t.fresh (Some x)
+      got = cell_received (knows p) (knows s) k (heads_of receive_queue (knows q)).shadow (holding q k) t.fresh (Some x)
           o.parcel low (after ∙ (λ i. with_put [] (with_hand k Away (t.knows i))));
     }
 

@@ -1,9 +1,10 @@
-use Rattle.std.proofs.Common.{◌≤◌, true, sym, ap, ◌∙◌, subst, refl, arith}
+use Rattle.std.proofs.Common.{◌≤◌, sym, ap, ◌∙◌, subst, arith}
 use Rattle.std.specs.Prelude.{List, ℕ, slice_index}
 use Rattle.nm_chain.specs.Plays.{heads_of}
 use Rattle.nm_chain.specs.Rule.{emptying_of}
 use Rattle.nm_chain.specs.declared.table.table.Entry.{Entry}
-use Rattle.nm_cells.specs.Ports.{knows, unpassed_by}
+use Rattle.nm_cells.specs.Ports.{knows}
+use Rattle.nm_chain.specs.OwnQueues.{receive_queue}
 use Rattle.nm_port.specs.Polls.{EmptiesNone}
 use Rattle.nm_port.proofs.PollLemmas.{still_next, way_of, polled_of, got_of, way_misses, rest_none}
 use Rattle.nm_port.proofs.SendLemmas.{keeps_if, keeps_on}
@@ -14,7 +15,7 @@ returns-in-Ok-clause-polls g c = let f = c.args.f.now in let old = c.args.port.n
     let now = c.receive.new.port in let new = c.pass_or_hold.new.port in
     let x = c.in-Ok.parcel.value in let y = c.pass_or_hold.result.value in
     let came = c.in-Ok.ensures.came.got in
-    let end = heads_of true (knows now) in let none = c.requires.nothing.1 in
+    let end = heads_of receive_queue (knows now) in let none = c.requires.nothing.1 in
     let n = c.pass_or_hold.ensures.next in let w = c.pass_or_hold.ensures.way in
     let misses = way_misses y x now new w ∙ ap (λ (e : Entry _). e.box_miss) came in record {
       next = still_next f old now new y c.receive.ensures.held.1 n;

@@ -1,4 +1,4 @@
-use Rattle.std.proofs.Common.{suc, [], ◌∷◌, Some, None, refl, false, sym}
+use Rattle.std.proofs.Common.{suc, [], ◌∷◌, Some, None, refl, sym}
 use Rattle.std.proofs.Common.{ap, ◌∙◌, arith, subst}
 use Rattle.nm_chain.proofs.UpdateLemmas.{update_here}
 use Rattle.nm_chain.specs.declared.table.table.Hand.TheVariants.{Away}
@@ -6,6 +6,7 @@ use Rattle.nm_chain.specs.Rule.{hand, sender, number, sent_to}
 use Rattle.nm_chain.specs.Plays.{InHand, with_hand, with_put, heads_of}
 use Rattle.nm_cells.specs.LooseCells.{IsAmong}
 use Rattle.nm_cells.specs.Ports.{knows, holding}
+use Rattle.nm_chain.specs.OwnQueues.{free_queue}
 use Rattle.nm_port.proofs.SendLemmas.{cell_sent, cell_same, keeps_all, miss_sent}
 use Rattle.nm_fastbox.proofs.PutLemmas.{sent_cell}
 use Rattle.nm_port.proofs.sends.send_by_cell.Goals as goal
@@ -44,7 +45,7 @@ returns-clause-sends g c = let p = c.args.port.now in let q = c.take_cell.new.po
     let here = ap (λ h. h k) i.filled ∙ update_here (holding q) k (Some x) k refl in (
       refl,
       record {
-        put = cell_sent (knows p) (knows s) k (heads_of false (knows q)).shadow (holding q k) t.fresh
+        put = cell_sent (knows p) (knows s) k (heads_of free_queue (knows q)).shadow (holding q k) t.fresh
             ((to, Some x) ∷ [])
             (put ∙ (λ j. with_put ((to, here j) ∷ []) (with_hand k Away ((i.stays.1 ∙ t.knows) j))));
         sent = λ n j. (ap (λ e. sent_to j e.put_box e.put) (put

@@ -1,9 +1,9 @@
-use Rattle.std.proofs.Common.{◌≡◌, ◌<◌, ◌≤◌, ◌+◌, ◌∙◌, inl, inr, refl, sym, subst, arith}
+use Rattle.std.proofs.Common.{◌<◌, ◌∙◌, inl, inr, sym, subst, arith}
 use Rattle.nm_chain.specs.declared.table.table.Heads.{Heads}
 use Rattle.nm_chain.specs.declared.table.table.Look.TheVariants.{TailElsewhere}
 use Rattle.nm_chain.specs.Plays.{heads_of}
-use Rattle.nm_cells.specs.Ports.{is_receive, knows}
-use Rattle.nm_queue.specs.Moves.{finding, shadow_of}
+use Rattle.nm_cells.specs.Ports.{own_of, knows}
+use Rattle.nm_queue.specs.Moves.{shadow_of}
 use Rattle.nm_queue.proofs.MoveLemmas.{unmoved_first, unmoved_look, takes_since, leaves_since, heads_stand}
 use Rattle.nm_queue.proofs.MoveLemmas.{missed_since, cost_last, cost_other, finding_few}
 use Rattle.nm_queue.proofs.moves.dequeue.Goals as goal
@@ -22,7 +22,7 @@ returns-then-not-find_first-clause-bound g c =
 pub returns-in-Some-clause-took : goal.returns-in-Some-clause-took
 returns-in-Some-clause-took g c = let p = c.args.port.now in let m = c.find_first.new.port in
     let found = (c.find_first.ensures.found c.if-not-find_first.false).0 in
-    takes_since (is_receive c.args.q) c.args.f.now p m c.load_link.new.port c.in-Some.cell
+    takes_since (own_of c.args.q) c.args.f.now p m c.load_link.new.port c.in-Some.cell
     (unmoved_first c.args.q p m c.find_first.ensures.owns.1 found) c.in-Some.ensures.some
 
 pub returns-in-Some-clause-cost : goal.returns-in-Some-clause-cost
@@ -39,7 +39,7 @@ returns-in-Some-clause-bound g c =
 -- the first cell is the last one
 pub returns-in-Some-drop_tail-clause-took : goal.returns-in-Some-drop_tail-clause-took
 returns-in-Some-drop_tail-clause-took g c = let p = c.args.port.now in let m = c.find_first.new.port in
-    let b = is_receive c.args.q in let none = c.in_default.ensures in
+    let b = own_of c.args.q in let none = c.in_default.ensures in
     let found = (c.find_first.ensures.found c.if-not-find_first.false).0 in
     takes_since b c.args.f.now p c.load_link.new.port c.drop_tail.new.port c.in-Some-drop_tail.cell
     (unmoved_look b _ p m c.load_link.new.port (unmoved_first c.args.q p m c.find_first.ensures.owns.1 found)
@@ -62,7 +62,7 @@ returns-in-Some-drop_tail-clause-bound g c =
 -- the link of the first cell was stored late
 pub returns-in-Some-reload_link-clause-took : goal.returns-in-Some-reload_link-clause-took
 returns-in-Some-reload_link-clause-took g c = let p = c.args.port.now in let m = c.find_first.new.port in
-    let b = is_receive c.args.q in
+    let b = own_of c.args.q in
     let none = c.in_default.ensures in let tail = c.in_default-drop_tail.ensures in
     let found = (c.find_first.ensures.found c.if-not-find_first.false).0 in
     takes_since b c.args.f.now p c.drop_tail.new.port c.reload_link.new.port c.in-Some-reload_link.cell
@@ -89,7 +89,7 @@ returns-in-Some-reload_link-clause-bound g c =
 
 -- it is still missing
 pub returns-in-None-clause-missed : goal.returns-in-None-clause-missed
-returns-in-None-clause-missed g c = let p = c.args.port.now in let q = c.args.q in let b = is_receive q in
+returns-in-None-clause-missed g c = let p = c.args.port.now in let q = c.args.q in let b = own_of q in
     let m = c.find_first.new.port in let linked = c.load_link.new.port in
     let tailed = c.drop_tail.new.port in let last = c.reload_link.new.port in
     let found = (c.find_first.ensures.found c.if-not-find_first.false).0 in

@@ -1,7 +1,7 @@
-use Rattle.std.proofs.Common.{rules, ◌≡◌, ◌<◌, ◌+◌, refl, sym, ap, ◌∙◌, subst, arith}
+use Rattle.std.proofs.Common.{rules, ◌≡◌, ◌<◌, refl, sym, ◌∙◌, subst, arith}
 use Rattle.nm_chain.specs.declared.table.table.Heads.{Heads}
-use Rattle.nm_cells.specs.Ports.{is_receive, knows}
-use Rattle.nm_queue.specs.Moves.{finding, shadow_of}
+use Rattle.nm_cells.specs.Ports.{own_of, knows}
+use Rattle.nm_queue.specs.Moves.{shadow_of}
 use Rattle.nm_queue.proofs.MoveLemmas.{finding_none, finding_some, heads_anew, heads_changed, heads_kept}
 use Rattle.nm_queue.proofs.moves.find_first.Goals as goal
 
@@ -11,14 +11,14 @@ returns-then-has_shadow-clause-found g c = λ _. let p = c.args.port.now in let 
       record {
         some = some;
         same = λ was. refl;
-        knows = heads_kept (is_receive q) (knows p);
+        knows = heads_kept (own_of q) (knows p);
         leaves = record { hands = refl; holding = refl; taken = (refl, refl, refl); loose = refl };
       },
       let none = finding_some (shadow_of q p) some in omega (arith, none),
     )
 
 pub returns-clause-found : goal.returns-clause-found
-returns-clause-found g c = λ _. let p = c.args.port.now in let q = c.args.q in let b = is_receive q in
+returns-clause-found g c = λ _. let p = c.args.port.now in let q = c.args.q in let b = own_of q in
     let loaded = c.load_head.new.port in let new = c.clear_head.new.port in
     let a = c.load_head.ensures in let d = c.clear_head.ensures in
     let found = a.found c.if-not-load_head.false in

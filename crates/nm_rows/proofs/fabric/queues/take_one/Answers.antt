@@ -8,13 +8,14 @@ use Rattle.nm_cells.specs.Counted.{IsOneOf}
 use Rattle.nm_cells.specs.Carried.{held_in}
 use Rattle.nm_cells.specs.LooseCells.{IsAmong}
 use Rattle.nm_chain.specs.Plays.{InHand, mine}
+use Rattle.nm_chain.specs.OwnQueues.{receive_queue}
 use Rattle.nm_cells.specs.Ports.{IsUnpassed, Takes, holding}
 use Rattle.nm_rows.proofs.fabric.queues.take_one.Goals as goal
 
 pub pass_next-in_order-requires : goal.pass_next-in_order-requires
 pass_next-in_order-requires g c = let f = c.args.f.now in let p = c.dequeue.new.port in
     let x = c.take_out-parcel.result.value in
-    let took : Takes true f c.args.port.now p c.in_ok-cell.cell = search rules in
+    let took : Takes receive_queue f c.args.port.now p c.in_ok-cell.cell = search rules in
     let still = c.take_out-parcel.ensures.stays in
     let u = took.arrived refl x c.take_out-parcel.ensures.parcel in
     let unpassed : IsUnpassed c.take_out-parcel.new.port x = (
@@ -29,7 +30,7 @@ pass_next-in_order-requires g c = let f = c.args.f.now in let p = c.dequeue.new.
 pub enqueue-requires-clause-may : goal.enqueue-requires-clause-may
 enqueue-requires-clause-may g c = let f = c.args.f.now in let p = c.dequeue.new.port in
     let k = c.in_ok-cell.cell.number in
-    let took : Takes true f c.args.port.now p c.in_ok-cell.cell = search rules in
+    let took : Takes receive_queue f c.args.port.now p c.in_ok-cell.cell = search rules in
     let here = ap (λ h. h k) c.take_out-parcel.ensures.emptied
     ∙ update_here (holding p) k None k refl in (
       subst (λ r. r < f.ranks) (sym c.owner-owner.ensures) took.of_rank,
@@ -39,7 +40,7 @@ enqueue-requires-clause-may g c = let f = c.args.f.now in let p = c.dequeue.new.
 
 pub enqueue-requires-clause-in_hand : goal.enqueue-requires-clause-in_hand
 enqueue-requires-clause-in_hand g c = let k = c.in_ok-cell.cell.number in
-    let took : Takes true c.args.f.now c.args.port.now c.dequeue.new.port c.in_ok-cell.cell =
+    let took : Takes receive_queue c.args.f.now c.args.port.now c.dequeue.new.port c.in_ok-cell.cell =
     search rules in let still = c.take_out-parcel.ensures.stays in
     let passed = c.pass_next-in_order.ensures in (
       took.has.0,

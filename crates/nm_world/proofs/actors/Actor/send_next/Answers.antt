@@ -14,6 +14,7 @@ use Rattle.nm_process.specs.Processes.{ProcessView}
 use Rattle.nm_world.specs.Idle.{NotSent}
 use Rattle.nm_global.specs.ProcessInvariant.{IsOf, with_moment, with_packet_left}
 use Rattle.nm_chain.specs.declared.table.parcels.Parcel.{Parcel}
+use Rattle.nm_chain.specs.OwnQueues.{free_queue}
 use Rattle.nm_world.specs.Parcels.{parcel_of}
 use Rattle.nm_world.specs.declared.actors.Actor.{Actor}
 use Rattle.nm_world.specs.Actors.{Grows}
@@ -70,7 +71,7 @@ returns-in-Err g c =
     let len : ℕ = length c.in-Some.packet.now.payload in
     let fits = is_short len in
     let to = c.in-Some.to in
-    let miss = subst (λ (x : Parcel Packet). HadMiss false
+    let miss = subst (λ (x : Parcel Packet). HadMiss free_queue
     (tried (is_short (length x.item.payload)) to (knows a.port)) (knows port)) c.in_ok-parcel.ensures
     c.in-Err.ensures.back.1.miss in
     let n = c.args.f.now.ranks in
@@ -90,7 +91,7 @@ returns-in-Err g c =
             events = (grows_same a).events;
             ring = ring_same a.ring;
             port = port_by a.port port (entry_on (knows a.port) (tried fits to (knows a.port)) (knows port)
-                (tried_up fits to (knows a.port)) (miss_up false (tried fits to (knows a.port)) (knows port) miss))
+                (tried_up fits to (knows a.port)) (miss_up free_queue (tried fits to (knows a.port)) (knows port) miss))
                 e.taken.0;
           };
           seat = seat_is a a.process port.rank e.keeps.rank refl;
@@ -105,7 +106,7 @@ returns-in-Err g c =
       };
       back = λ none fresh. subst (λ (o : Option Letter). IfSome o (NotSent a.port port)) (sym first.1)
           (came_back a.port port first.0 len (ap (λ (x : Packet). length x.payload) first.3) (omega (arith, within, ranks, wide, there))
-          (subst (λ (k : ℕ). HadMiss false (tried fits k (knows a.port)) (knows port)) first.2 miss));
+          (subst (λ (k : ℕ). HadMiss free_queue (tried fits k (knows a.port)) (knows port)) first.2 miss));
       bound = e.bound;
     }
 

@@ -23,6 +23,7 @@ use Rattle.nm_world.proofs.Results.{clash}
 use Rattle.nm_world.proofs.Steps.{none_got, none_sent, nothing_carried, seat_is, take_on}
 use Rattle.nm_types.specs.declared.packets.Packet.{Packet}
 use Rattle.nm_chain.specs.declared.table.parcels.Parcel.{Parcel}
+use Rattle.nm_chain.specs.OwnQueues.{receive_queue}
 use Rattle.nm_world.proofs.actors.Actor.take_next.Goals as goal
 
 pub returns-then-is_worn : goal.returns-then-is_worn
@@ -50,7 +51,7 @@ returns-in-Err g c =
     let gave = gave_none a.process.rank.sizes.ranks a.port port (s.is.cells.2 ∙ s.is.ranks.0) gave_back.miss in
     let grows : PortGrows a.port port = port_by a.port port (entry_on (knows a.port)
     (with_all_missed (knows a.port)) (knows port) (all_missed_up (knows a.port))
-    (miss_up true (with_all_missed (knows a.port)) (knows port) gave_back.miss)) gave_back.taken in
+    (miss_up receive_queue (with_all_missed (knows a.port)) (knows port) gave_back.miss)) gave_back.taken in
     record {
       moves = record {
         kept = record {

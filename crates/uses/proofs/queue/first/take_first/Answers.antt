@@ -5,7 +5,7 @@ use Rattle.nm_chain.specs.Plays.{heads_of}
 use Rattle.nm_cells.specs.declared.cell.Cell.{Cell}
 use Rattle.nm_cells.specs.declared.cell.Queue.{Queue}
 use Rattle.nm_cells.specs.declared.port.Port.{Port}
-use Rattle.nm_cells.specs.Ports.{is_receive, knows}
+use Rattle.nm_cells.specs.Ports.{own_of, knows}
 use Rattle.nm_queue.specs.Moves.{Misses}
 use Rattle.nm_queue.specs.declared.moves.Miss.{Miss}
 use Rattle.nm_queue.specs.declared.moves.Miss.TheVariants.{HeadEmpty, LinkMissing}
@@ -18,9 +18,9 @@ lists_same : (q : Queue) (old new : Port Letter) (r : Result Cell Miss) (m : Mis
     → IfErr r (λ why. Misses q why old new) → SameLists (knows old) (knows new) × (new.hands ≡ old.hands)
 lists_same q old new r m is miss = by m (subst (λ x. IfErr x (λ why. Misses q why old new)) is miss) where
   by : (m : Miss) → Misses q m old new → SameLists (knows old) (knows new) × (new.hands ≡ old.hands)
-  by HeadEmpty h = (lists_missed (is_receive q) (knows old) (knows new) h.knows, h.leaves.hands)
+  by HeadEmpty h = (lists_missed (own_of q) (knows old) (knows new) h.knows, h.leaves.hands)
   by LinkMissing h = (
-    lists_late (is_receive q) (heads_of (is_receive q) (knows new)) (knows old) (knows new) h.knows,
+    lists_late (own_of q) (heads_of (own_of q) (knows new)) (knows old) (knows new) h.knows,
     h.leaves.hands,
   )
 

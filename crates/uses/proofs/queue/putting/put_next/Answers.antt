@@ -5,6 +5,7 @@ use Rattle.nm_chain.specs.declared.table.table.Entry.{Entry}
 use Rattle.nm_chain.specs.declared.table.parcels.Parcel.{Parcel}
 use Rattle.nm_chain.specs.Rule.{hand, sender, number, put_to, sent_to}
 use Rattle.nm_chain.specs.Plays.{InHand}
+use Rattle.nm_chain.specs.OwnQueues.{free_queue}
 use Rattle.nm_cells.specs.LooseCells.{IsAmong}
 use Rattle.nm_cells.specs.Ports.{Takes, holding, knows}
 use Rattle.uses.proofs.QueueFronts.{puts_on, puts_same}
@@ -13,7 +14,7 @@ use Rattle.uses.proofs.queue.putting.put_next.Goals as goal
 
 pub enqueue-requires-clause-in_hand : goal.enqueue-requires-clause-in_hand
 enqueue-requires-clause-in_hand g c = let p = c.take_first.new.port in let k = c.in-Some.cell.number in
-    let took : Takes false c.args.f.now c.args.port.now p c.in-Some.cell = c.in-Some.ensures.took in
+    let took : Takes free_queue c.args.f.now c.args.port.now p c.in-Some.cell = c.in-Some.ensures.took in
     let still = c.put_in.ensures.stays in (
       took.has.0,
       took.has.1,
@@ -24,7 +25,7 @@ enqueue-requires-clause-in_hand g c = let p = c.take_first.new.port in let k = c
 pub enqueue-requires-clause-may : goal.enqueue-requires-clause-may
 enqueue-requires-clause-may g c = let p = c.take_first.new.port in let k = c.in-Some.cell.number in
     let q = c.put_in.new.port in let two = c.requires.two in
-    let took : Takes false c.args.f.now c.args.port.now p c.in-Some.cell = c.in-Some.ensures.took in
+    let took : Takes free_queue c.args.f.now c.args.port.now p c.in-Some.cell = c.in-Some.ensures.took in
     let still = c.put_in.ensures.stays in let rank = still.0.1 ∙ c.take_first.ensures.owns.1 in
     let here = ap (λ h. h k) c.put_in.ensures.filled
     ∙ update_here (holding p) k (Some c.in_ok-next.next.value) k refl in
@@ -40,7 +41,7 @@ pub returns-clause-puts : goal.returns-clause-puts
 returns-clause-puts g c = let p = c.args.port.now in let k = c.in-Some.cell.number in
     let q = c.put_in.new.port in let e = knows p in let text = c.args.text.now in
     let x = c.in_ok-next.next.value in
-    let took : Takes false c.args.f.now p c.take_first.new.port c.in-Some.cell = c.in-Some.ensures.took in
+    let took : Takes free_queue c.args.f.now p c.take_first.new.port c.in-Some.cell = c.in-Some.ensures.took in
     let before = c.put_in.ensures.stays.1 ∙ took.knows in
     let here = ap (λ h. h k) c.put_in.ensures.filled
     ∙ update_here (holding c.take_first.new.port) k (Some x) k refl in
