@@ -25,7 +25,7 @@ hold-requires-clause-unpassed g c = let f = c.args.f.now in let q = c.dequeue.ne
     let s = c.enqueue.new.port in let k = c.in_ok-cell.cell.number in
     let took : Takes receive_queue f c.args.port.now q c.in_ok-cell.cell = search rules in
     let x = c.take_out-parcel.result.value in let o = c.take_out-parcel.ensures in
-    let e = c.enqueue.ensures in
+    let e = c.enqueue.ensures.enqueued in
     let after = e.put ∙ (λ i. with_put [] (with_hand k Away (o.stays.1 i))) in
     still_unpassed q s x (ap (λ (u : Entry Packet). u.ranks) after) (ap (λ (u : Entry Packet). u.got) after)
     (e.stays.2.0 ∙ o.stays.0.2.0) (took.arrived refl x o.parcel)
