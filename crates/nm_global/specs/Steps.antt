@@ -14,7 +14,8 @@ use Rattle.nm_receiving.specs.Receipts.{drawn_from}
 use Rattle.nm_rank.specs.Pops.{out_with_packet, out_with_piece}
 use Rattle.nm_rank.specs.Ranks.{RankView}
 use Rattle.nm_rank.specs.Requests.{cancel_events}
-use Rattle.nm_rank.specs.Sends.{event_of, next_send}
+use Rattle.nm_sending.specs.Calls.{event_of}
+use Rattle.nm_rank.specs.Sends.{next_send}
 use Rattle.nm_rank.specs.Steps.{Step, match_events, post_events}
 use Rattle.nm_rank.specs.Steps.Step.{isend, irecv, imrecv, improbe, cancel, finish, ran}
 use Rattle.nm_rank.specs.Steps.Step.{pop_front, pop_piece, take_packet, take_piece}

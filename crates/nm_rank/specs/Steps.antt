@@ -20,6 +20,7 @@ use Rattle.nm_request.specs.declared.Req.{Req}
 use Rattle.nm_request.specs.Requests.{kind_of}
 use Rattle.nm_rndv.specs.Offers.{next_offered, offered}
 use Rattle.nm_sending.specs.declared.outbox.letters.Letter.{Letter}
+use Rattle.nm_sending.specs.Calls.{event_of, offers_sent}
 use Rattle.nm_sending.specs.Departures.{pushed_to}
 use Rattle.nm_receiving.specs.Receipts.{taken_events}
 use Rattle.nm_rank.specs.declared.answers.Cancelled.{Cancelled}
@@ -27,7 +28,7 @@ use Rattle.nm_rank.specs.Calls.{Happens, Notes, Starts, TakesNone, TakesPacket, 
 use Rattle.nm_rank.specs.Pops.{PopsPacket, PopsPiece}
 use Rattle.nm_rank.specs.Ranks.{RankView}
 use Rattle.nm_rank.specs.Requests.{Finishes, cancel_answer, cancel_events, offers_cancelled}
-use Rattle.nm_rank.specs.Sends.{event_of, next_send, offers_sent}
+use Rattle.nm_rank.specs.Sends.{next_send}
 
 -- A send of this body is started (MPI 3.1, 3.4), and has this request; by whatever the bodies of sends
 -- are, where this one's is its own. One that is sent by asking is asked for.

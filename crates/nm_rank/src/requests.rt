@@ -13,6 +13,7 @@ ghost use Rattle.nm_history.specs.Rules.{AreRight};
 ghost use Rattle.nm_request.specs.declared.Kind.TheVariants as kind;
 ghost use Rattle.nm_request.specs.Requests.{kind_of};
 ghost use Rattle.nm_types.specs.declared.limits.TheConstants.{MAX_PACKETS, MAX_STAMP};
+ghost use Rattle.nm_sending.specs.Calls.{SameButRoom};
 ghost use Rattle.nm_sending.specs.Outboxes.{put_to};
 ghost use Rattle.nm_sending.specs.Sent.{AreSent, Puts};
 ghost use Rattle.nm_receiving.specs.Received.{AreReceived};
@@ -87,10 +88,7 @@ fn recall(journal: &mut Journal, sending: &mut Sending, to: u8, n: u64) -> Resul
         ≡ offers_cancelled h (kind.Send to n) sending.old.offers) }
     ensures pushed { OnOk result (sending.new.pushed ≡ sending.old.pushed) }
     ensures same { OnErr result (journal.new ≡ journal.old) }
-    ensures err { OnErr result (sending.new
-        ≡ record sending.old {
-          outbox = record sending.old.outbox { spare = sending.new.outbox.spare };
-        }) }
+    ensures err { OnErr result (SameButRoom sending.old sending.new) }
 {
     if sending.was_recalled(to, n) {
         return Ok(());

@@ -3,6 +3,7 @@
 ghost use Rattle.std.specs.Prelude.{◌≡◌, ◌+◌, ◌<◌, ◌≤◌, OnOk};
 ghost use Rattle.nm_types.specs.declared.limits.TheConstants.{MAX_STAMP};
 ghost use Rattle.nm_request.specs.Requests.{SameRequests};
+ghost use Rattle.nm_sending.specs.Calls.{SameButRoom};
 
 use crate::journal::Journal;
 use nm_request::Requests;
@@ -20,10 +21,7 @@ pub(crate) fn make_room(
     ensures events { journal.new ≡ record journal.old { spare = journal.new.spare } }
     ensures kept { journal.old.spare ≤ journal.new.spare }
     ensures two { OnOk result (sending.new.staying + 2 ≤ journal.new.spare) }
-    ensures letters { sending.new
-        ≡ record sending.old {
-          outbox = record sending.old.outbox { spare = sending.new.outbox.spare };
-        } }
+    ensures letters { SameButRoom sending.old sending.new }
     ensures one { OnOk result (0 < sending.new.outbox.spare) }
     ensures requests { SameRequests requests.old requests.new }
     ensures another { OnOk result (0 < requests.new.spare) }

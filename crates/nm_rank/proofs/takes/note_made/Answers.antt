@@ -1,4 +1,3 @@
-use Rattle.std.proofs.Common.{◌≡◌}
 use Rattle.std.specs.Prelude.{max}
 use Rattle.nm_rank.proofs.AcceptedLemmas.{noted-twice, noted-clock, noted-room, raised-as}
 use Rattle.nm_rank.proofs.takes.note_made.Goals as goal

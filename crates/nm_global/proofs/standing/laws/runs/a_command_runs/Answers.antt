@@ -30,7 +30,8 @@ use Rattle.nm_rank.specs.declared.answers.Cancelled.{Cancelled}
 use Rattle.nm_rank.specs.declared.answers.Cancelled.TheVariants as cancelled
 use Rattle.nm_rank.specs.Ranks.{RankView, request_of}
 use Rattle.nm_rank.specs.Requests.{cancel_events}
-use Rattle.nm_rank.specs.Sends.{event_of, next_send}
+use Rattle.nm_sending.specs.Calls.{event_of}
+use Rattle.nm_rank.specs.Sends.{next_send}
 use Rattle.nm_rank.specs.Steps.{StartsMatched, StartsReceive, StartsSend, Step, match_events, post_events}
 use Rattle.nm_rank.specs.Steps.Step.{isend, irecv, imrecv, improbe, cancel, finish, ran as ran_step}
 use Rattle.nm_global.specs.Calls.{AnswersLogged, ShowsLogged, given_after}
