@@ -1,17 +1,18 @@
-//! The text of an end of the search, and a run that has this report.
+//! The text of an end of the search, and the trace of a run that has this report.
 
-ghost use Rattle.std.specs.Prelude.{◌≡◌, IfOk, false, is_none, map};
+ghost use Rattle.std.specs.Prelude.{◌≡◌, ℕ, IfOk, List, is_none, map};
 ghost use Rattle.std.specs.List.{list_all};
-ghost use Rattle.nm_report.specs.Lawful.{IsRunIn};
-ghost use Rattle.nm_report.specs.Report.{report_text};
 ghost use Rattle.nm_report.specs.Told.{told_of_rank};
-ghost use Rattle.nm_explored.specs.Ends.{IsEndByWay, told_at_end};
+ghost use Rattle.nm_explored.specs.Ends.{told_at_end};
+ghost use Rattle.nm_listed.specs.Ends.{IsEndWay};
 ghost use Rattle.nm_listed.specs.Finding.{all_home as all_home_lem, text_of_told};
+ghost use Rattle.nm_listed.specs.Tracing.{IsReportByWay, IsTraceWith};
 
 use crate::retold::retold;
 use nm_explored::End;
+use nm_explored::choices::moves::Turn;
 use nm_report::laws::reports_say_what_was_told;
-use nm_report::{Accounts, Pairs, RankAccount, RunRecord, report};
+use nm_report::{Accounts, Pairs, RankAccount, RunRecord, report, trace};
 use nm_types::{Account, Memory, Script, Shape};
 use std::alloc::Global;
 use std::mem;
@@ -32,7 +33,7 @@ pub(crate) fn all_home(shape: Shape) -> Account
 }
 
 /// The report of what the ranks told.
-fn text_of(alloc: Global, shape: Shape, told: Accounts) -> Result<Vec<u8>, Memory>
+pub(crate) fn text_of(alloc: Global, shape: Shape, told: Accounts) -> Result<Vec<u8>, Memory>
     ensures { IfOk result (λ text.
         text.items ≡ text_of_told shape (map told_of_rank told)) }
 {
@@ -48,47 +49,21 @@ fn text_of(alloc: Global, shape: Shape, told: Accounts) -> Result<Vec<u8>, Memor
     report(alloc, &run)
 }
 
-/// An end's report, and a run that has it.
-pub(crate) struct Witness {
-    pub text: Vec<u8>,
-    pub run: RunRecord,
-}
-
-impl Drop for Witness {
-    fn drop(self) {
-        let Witness { text: _, run: _ } = self;
-    }
-}
-
-impl Witness {
-    /// The report, and the run.
-    pub fn into_parts(self) -> (Vec<u8>, RunRecord)
-        ensures { result ≡ (self.text, self.run) }
-    {
-        let Witness { text, run } = self;
-        (text, run)
-    }
-}
-
-/// The report of an end, and the record of its way, which has this report.
-pub(crate) fn end_run(
+/// The trace of the record of a way of moves to rest: that of a run which has the report of what is told there.
+pub(crate) fn trace_by(
     alloc: Global,
     script: &Script,
     shape: Shape,
-    end: End,
-) -> Result<Witness, Memory>
+    path: &[Turn],
+) -> Result<Vec<u8>, Memory>
     requires equal { shape.ranks ≡ script.now.ranks }
-    requires way { IsEndByWay shape script.now.lines end }
-    ensures told { IfOk result (λ witness.
-        witness.text.items ≡ text_of_told shape (told_at_end end)) }
-    ensures lawful { IfOk result (λ witness. IsRunIn shape script.now.lines witness.run) }
-    ensures reports { IfOk result (λ witness. report_text false witness.run ≡ witness.text.items) }
+    requires way { IsEndWay shape script.now.lines path.now }
+    ensures { (text : List ℕ) → IsReportByWay shape script.now.lines text path.now →
+        IfOk result (λ trace. IsTraceWith shape script.now.lines text trace.items) }
 {
     reports_say_what_was_told();
-    let (told, path) = end.into_parts();
-    let text = text_of(alloc, shape, told)?;
-    let run = retold(alloc, script, shape, path.as_slice())?;
-    Ok(Witness { text, run })
+    let run = retold(alloc, script, shape, path)?;
+    trace(alloc, &run)
 }
 
 /// The report of an end.

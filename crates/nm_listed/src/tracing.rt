@@ -1,20 +1,18 @@
 //! A trace of one of the reports that a script can have.
 
-ghost use Rattle.std.specs.Prelude.{◌≡◌, ◌<◌, ◌≤◌, All, IfOk, Some, false, length, map, slice_get, true};
+ghost use Rattle.std.specs.Prelude.{◌≡◌, ◌≤◌, ◌++◌, [], ◌∷◌, IfOk, OnOk, map};
 ghost use Rattle.nm_explored.specs.Ends.{AreEndsByWay, TellsAll, told_at_end};
-ghost use Rattle.nm_report.specs.declared.records.RunRecord as record_of_run;
-ghost use Rattle.nm_report.specs.Lawful.{IsRunIn};
-ghost use Rattle.nm_report.specs.Report.{report_text};
 ghost use Rattle.nm_listed.specs.Finding.{IsTraced, text_of_told};
 ghost use Rattle.nm_listed.specs.Texts.{SameTexts};
-ghost use Rattle.nm_listed.specs.Tracing.{IsChosen};
+ghost use Rattle.nm_listed.specs.Tracing.{AreReported, IsChosen, turns_of, way_of};
 
 use crate::finding::MAX_REPORTS;
-use crate::records::end_run;
+use crate::lawful::ends_are_runs;
+use crate::records::{text_of, trace_by};
 use crate::texts::Texts;
 use nm_explored::End;
+use nm_explored::choices::moves::Turn;
 use nm_report::laws::reports_say_what_was_told;
-use nm_report::{RunRecord, trace};
 use nm_types::{Memory, Script, Shape};
 use std::alloc::Global;
 
@@ -29,80 +27,73 @@ pub enum Traced {
     TooLong,
 }
 
-/// The reports of ends, and of each a run that has it, in the same order.
-struct Witnesses {
+/// The reports of ends, and the way to each, in the same order.
+struct Reported {
     texts: Texts,
-    runs: Vec<RunRecord>,
+    paths: Vec<Vec<Turn>>,
 }
 
-impl Drop for Witnesses {
+impl Drop for Reported {
     fn drop(self) {
-        let Witnesses { texts: _, runs: _ } = self;
+        let Reported { texts: _, paths: _ } = self;
     }
 }
 
-impl Witnesses {
-    fn into_parts(self) -> (Texts, Vec<RunRecord>)
-        ensures { result ≡ (self.texts, self.runs) }
-    {
-        let Witnesses { texts, runs } = self;
-        (texts, runs)
-    }
+/// Adds the report of an end, and the way to it.
+fn push_report(
+    alloc: Global,
+    shape: Shape,
+    end: End,
+    texts: &mut Texts,
+    paths: &mut Vec<Vec<Turn>>,
+) -> Result<(), Memory>
+    ensures text { OnOk result (texts.new ≡ texts.old ++ text_of_told shape (told_at_end end) ∷ []) }
+    ensures way { OnOk result (map turns_of paths.new.items ≡ map turns_of paths.old.items ++ way_of end ∷ []) }
+{
+    let (told, path) = end.into_parts();
+    texts.push(text_of(alloc, shape, told)?)?;
+    paths.push(path)?;
+    Ok(())
 }
 
-/// The reports of these ends, and runs that have them.
-fn end_runs(
+/// The reports of these ends, and the way to each.
+fn reports_of(alloc: Global, shape: Shape, ends: Vec<End>) -> Result<Reported, Memory>
+    ensures told { IfOk result (λ found.
+        found.texts ≡ map (λ end. text_of_told shape (told_at_end end)) ends.items) }
+    ensures ways { IfOk result (λ found. map turns_of found.paths.items ≡ map way_of ends.items) }
+{
+    let mut texts = Texts::new(alloc);
+    let mut paths = Vec::new(alloc);
+    for end in ends {
+        push_report(alloc, shape, end, &mut texts, &mut paths)?;
+    }
+    Ok(Reported { texts, paths })
+}
+
+/// The trace of the run by the way to the end whose report has this number in the list, where there are so many. No
+/// other record is built.
+fn chosen(
     alloc: Global,
     script: &Script,
     shape: Shape,
-    ends: Vec<End>,
-) -> Result<Witnesses, Memory>
-    requires equal { shape.ranks ≡ script.now.ranks }
-    requires ways { AreEndsByWay shape script.now.lines ends.items }
-    ensures told { IfOk result (λ w.
-        w.texts ≡ map (λ end. text_of_told shape (told_at_end end)) ends.items) }
-    ensures lawful { IfOk result (λ w. All (IsRunIn shape script.now.lines) w.runs.items) }
-    ensures reports { IfOk result (λ w. w.texts ≡ map (report_text false) w.runs.items) }
-{
-    let mut texts = Texts::new(alloc);
-    let mut runs = Vec::new(alloc);
-    for end in ends {
-        let (text, run) = end_run(alloc, script, shape, end)?.into_parts();
-        texts.push(text)?;
-        runs.push(run)?;
-    }
-    Ok(Witnesses { texts, runs })
-}
-
-/// The trace of the run at this place.
-fn trace_at(alloc: Global, runs: &[RunRecord], at: usize) -> Result<Vec<u8>, Memory>
-    requires { at < length runs.now }
-    ensures { (run : record_of_run.RunRecord) → slice_get runs.now at ≡ Some run →
-        IfOk result (λ trace. trace.items ≡ report_text true run) }
-{
-    trace(alloc, &runs[at])
-}
-
-/// The trace of the run whose report has this number in the list, where there are so many.
-fn chosen(
-    alloc: Global,
     list: &Texts,
-    texts: &Texts,
-    runs: &[RunRecord],
+    found: &Reported,
     number: u32,
 ) -> Result<Traced, Memory>
+    requires equal { shape.ranks ≡ script.now.ranks }
     requires some { 1 ≤ number }
-    requires same { SameTexts texts.now list.now }
-    requires reports { texts.now ≡ map (report_text false) runs.now }
-    ensures { IfOk result (IsChosen list.now runs.now number) }
+    requires same { SameTexts found.now.texts list.now }
+    requires reported { AreReported shape script.now.lines found.now.texts (map turns_of found.now.paths.items) }
+    ensures { IfOk result (IsChosen shape script.now.lines list.now number) }
 {
     let all = list.as_slice();
     let place = number as usize - 1;
     if place >= all.len() {
         return Ok(Traced::Fewer { count: all.len() });
     }
-    let at = texts.number(all[place].as_slice()).unwrap() - 1;
-    Ok(Traced::Trace(trace_at(alloc, runs, at)?))
+    let at = found.texts.number(all[place].as_slice()).unwrap() - 1;
+    let path = found.paths[at].as_slice();
+    Ok(Traced::Trace(trace_by(alloc, script, shape, path)?))
 }
 
 /// Of ends that tell all that the runs of the script can tell, a trace of a run whose report is the one
@@ -121,11 +112,12 @@ pub fn trace_of(
     ensures { IfOk result (IsTraced shape script.now.lines number) }
 {
     reports_say_what_was_told();
-    let (texts, runs) = end_runs(alloc, script, shape, ends)?.into_parts();
-    let mut list = texts.copy(alloc)?;
+    ends_are_runs();
+    let found = reports_of(alloc, shape, ends)?;
+    let mut list = found.texts.copy(alloc)?;
     list.put_in_order()?;
     if list.is_within(MAX_REPORTS) {
-        chosen(alloc, &list, &texts, runs.as_slice(), number)
+        chosen(alloc, script, shape, &list, &found, number)
     } else {
         Ok(Traced::TooLong)
     }
