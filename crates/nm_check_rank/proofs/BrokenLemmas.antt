@@ -416,7 +416,8 @@ end_kept before (what.Withdraw from n done) none =
     let both = either_kept (once_after again (happened (is_arrival from n) before) against.NotCome)
     (word_after (is_free_message before (matched_pairs before) from n) done) none in
     let once = once_kept again (happened (is_arrival from n) before) against.NotCome both.0 in
-    let apart = neither (happened (is_withdraw from n true) before) (happened (is_withdraw from n false) before) once.0 in
+    let apart = neither (happened (is_withdraw from n true) before) (happened (is_withdraw from n false) before)
+    once.0 in
     (apart.0, apart.1, once.1, word_kept (is_free_message before (matched_pairs before) from n) done both.1)
 end_kept before (what.Out to n) none =
     once_kept (happened (is_out to n) before) (happened (is_send to n) before) against.NotSent none

@@ -52,7 +52,8 @@ module _ (commands : List Numbered) (to n : ℕ) where
   or_last true b last = refl
   or_last false b last = last
 
-  pub some_of_kind : (q p : Happened → Bool) (xs : List Happened) → list_any q (filter p xs) ≡ true → list_any q xs ≡ true
+  pub some_of_kind : (q p : Happened → Bool) (xs : List Happened) → list_any q (filter p xs) ≡ true →
+      list_any q xs ≡ true
   some_of_kind q p [] some = some
   some_of_kind q p (x ∷ xs) some = by_kind (p x) some (some_of_kind q p xs)
     where

@@ -1,5 +1,5 @@
 -- The place at which two lists differ first.
-use Rattle.std.proofs.Common.{◌≡◌, ◌≢◌, ◌⊎◌, inl, inr, ℕ, zero, suc, ◌+◌, ◌<◌, ◌≤◌, Some, None}
+use Rattle.std.proofs.Common.{◌≡◌, ◌≢◌, ◌⊎◌, inl, inr, ℕ, zero, suc, ◌+◌, ◌<◌, ◌≤◌}
 use Rattle.std.proofs.Common.{List, [], ◌∷◌, length, take, refl, sym, ◌∙◌, ap, subst, add-one, arith}
 use Rattle.std.specs.List.{slice_get}
 use Rattle.std.proofs.lemmas.Bool.{cases_lt}
@@ -58,7 +58,8 @@ taken_item (suc j) (x ∷ xs) zero low = refl
 taken_item (suc j) (x ∷ xs) (suc k) low = taken_item j xs k (omega (arith, low))
 
 -- each place before it has the same item in both
-pub same_before : {X : Type 0} (xs ys : List X) (j k : ℕ) → DifferFirstAt xs ys j → k < j → slice_get xs k ≡ slice_get ys k
+pub same_before : {X : Type 0} (xs ys : List X) (j k : ℕ) → DifferFirstAt xs ys j → k < j →
+    slice_get xs k ≡ slice_get ys k
 same_before xs ys j k d low =
     sym (taken_item j xs k low) ∙ ap (λ zs. slice_get zs k) d.same ∙ taken_item j ys k low
 

@@ -105,7 +105,8 @@ front_decided commands own ran all at r own_is ran_is right =
     (λ both. (let few = both.0 in omega (arith, lengths, few), ran_is ∙ both.1 ∙ sym fronts)) right
 
 -- one command more that is the next one
-pub one_first : (own : List ℕ) (at line : ℕ) (h : List Event) (e : Event) → AreFirst own at h → ran_of e.what ≡ Some line →
+pub one_first : (own : List ℕ) (at line : ℕ) (h : List Event) (e : Event) → AreFirst own at h →
+    ran_of e.what ≡ Some line →
     at < length own → get_or own at 0 ≡ line → AreFirst own (at + 1) (h ++ e ∷ [])
 one_first own at line h e first ran inside is = (
   omega (arith, inside),

@@ -86,7 +86,8 @@ pub received_of : (l : Option Claimed) (o : Option Message) (cap line : ℕ) (w 
     option_map message_meant o ≡ l → option_map_or (λ m. what.Match 0 m.from m.n cap line ∷ []) l [] ≡ w ∷ [] →
     (m : Message) × (o ≡ Some m) × (what.Match 0 m.rank m.n cap line ≡ w)
 received_of l o cap line w held is =
-    by_message o (ap (λ (x : Option Claimed). option_map_or (λ m. what.Match 0 m.from m.n cap line ∷ []) x []) held ∙ is)
+    by_message o (ap (λ (x : Option Claimed). option_map_or (λ m. what.Match 0 m.from m.n cap line ∷ []) x []) held
+    ∙ is)
   where
     by_message : (o : Option Message) →
         option_map_or (λ m. what.Match 0 m.from m.n cap line ∷ []) (option_map message_meant o) [] ≡ w ∷ [] →

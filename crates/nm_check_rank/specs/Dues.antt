@@ -76,7 +76,8 @@ abbrev pub IsOwnDue : Sizes → List Numbered → OwnClause → List Event → E
 IsOwnDue shape commands own.Answers before e called = IsDueAt commands before e.what called
 IsOwnDue shape commands own.Stamps before e called = called ≡ Some (due.Stamp (last_stamp before) e.stamp)
 IsOwnDue shape commands own.Numbers before e called =
-    called ≡ number_due shape.ranks (stranger shape.ranks e.what) (numbers_due (next_number before e.what) (number_of e.what))
+    called ≡ number_due shape.ranks (stranger shape.ranks e.what)
+    (numbers_due (next_number before e.what) (number_of e.what))
 IsOwnDue shape commands own.Wholes before e called = called ≡ option_map due.Against (whole_objection before e.what)
 IsOwnDue shape commands own.Ends before e called = called ≡ option_map due.Against (end_objection before e.what)
 IsOwnDue shape commands own.Cancels before e called = called ≡ cancel_due commands before e.what

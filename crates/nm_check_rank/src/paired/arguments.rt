@@ -62,46 +62,20 @@ fn is_same_message(a: Message, b: Message) -> bool
     a.rank == b.rank && a.n == b.n
 }
 
+/// Two arguments of starts are the same.
 fn is_same_argument(a: Argument, b: Argument) -> bool
     ensures { Decides result (a ≡ b) }
 {
     match a {
-        Argument::Sort(x) => match b {
-            Argument::Sort(y) => is_same_sort(x, y),
-            _ => false,
-        },
-        Argument::To(x) => match b {
-            Argument::To(y) => x == y,
-            _ => false,
-        },
-        Argument::From(x) => match b {
-            Argument::From(y) => is_same_peer(x, y),
-            _ => false,
-        },
-        Argument::Tag(x) => match b {
-            Argument::Tag(y) => is_same_pick(x, y),
-            _ => false,
-        },
-        Argument::Context(x) => match b {
-            Argument::Context(y) => x == y,
-            _ => false,
-        },
-        Argument::Length(x) => match b {
-            Argument::Length(y) => x == y,
-            _ => false,
-        },
-        Argument::Capacity(x) => match b {
-            Argument::Capacity(y) => x == y,
-            _ => false,
-        },
-        Argument::Message(x) => match b {
-            Argument::Message(y) => is_same_message(x, y),
-            _ => false,
-        },
-        Argument::Line(x) => match b {
-            Argument::Line(y) => x == y,
-            _ => false,
-        },
+        Argument::Sort(x) => matches!(b, Argument::Sort(y) if is_same_sort(x, y)),
+        Argument::To(x) => matches!(b, Argument::To(y) if x == y),
+        Argument::From(x) => matches!(b, Argument::From(y) if is_same_peer(x, y)),
+        Argument::Tag(x) => matches!(b, Argument::Tag(y) if is_same_pick(x, y)),
+        Argument::Context(x) => matches!(b, Argument::Context(y) if x == y),
+        Argument::Length(x) => matches!(b, Argument::Length(y) if x == y),
+        Argument::Capacity(x) => matches!(b, Argument::Capacity(y) if x == y),
+        Argument::Message(x) => matches!(b, Argument::Message(y) if is_same_message(x, y)),
+        Argument::Line(x) => matches!(b, Argument::Line(y) if x == y),
     }
 }
 

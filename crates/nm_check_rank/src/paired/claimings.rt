@@ -6,7 +6,6 @@ ghost use Rattle.nm_types.specs.Commands.{commands_of};
 ghost use Rattle.nm_history.specs.declared.events.Event as event;
 ghost use Rattle.nm_history.specs.declared.events.Happened.TheVariants.{Claim};
 ghost use Rattle.nm_history.specs.RankRun.{claims_since};
-ghost use Rattle.nm_match.specs.Names.{same_message};
 ghost use Rattle.nm_lookups.specs.Pairings.{Tells};
 ghost use Rattle.nm_check_rank.specs.Claimings as spec;
 ghost use Rattle.nm_check_rank.specs.Tabled.{AreRankTables};
@@ -46,25 +45,13 @@ fn claim_called(rank: u8, lines: &[Line], pairing: &Pairing, k: usize, line: u32
     message_probed(is_mprobe_line(rank, lines, line), pairing.look(k))
 }
 
-fn is_same_message(a: Message, b: Message) -> bool
-    ensures { result ≡ same_message a b }
-{
-    a.rank == b.rank && a.n == b.n
-}
-
 /// No message is to be claimed, or another one.
 fn message_due(called: Option<Message>, found: Message) -> Option<Due>
     ensures { result ≡ spec.message_due called found }
 {
     let wrong = Some(Due::Claim { called, found });
     match called {
-        Some(message) => {
-            if is_same_message(message, found) {
-                None
-            } else {
-                wrong
-            }
-        }
+        Some(message) => { if message == found { None } else { wrong } }
         None => wrong,
     }
 }

@@ -27,7 +27,8 @@ returns-in_default c =
       inside = c.loop-k-test.true;
       kept = keeps_front commands c.args.own.now c.loop-k.at (take k h) c.requires.own c.loop-k.invariant.0
           c.loop-k.invariant.1;
-      broken = λ keeps. c.in_default.ensures (take k h) e.stamp c.loop-k.invariant.0 (length (ran_lines (take (k + 1) h)))
+      broken = λ keeps. c.in_default.ensures (take k h) e.stamp c.loop-k.invariant.0
+          (length (ran_lines (take (k + 1) h)))
           (subst (λ (g : List Event). AreFirst c.args.own.now (length (ran_lines (take (k + 1) h))) g)
           (take_next h k e c.loop-k-test.true c.index-events-k.is)
           (first_of_front commands c.args.own.now (take (k + 1) h) c.requires.own keeps.few keeps.in_order));

@@ -27,4 +27,5 @@ returns-in-More c =
     let h = c.args.before.now in
     c.many_due.ensures
     ∙ more_sent c.args.to c.args.n c.args.recalled (cancels_since h)
-    (more_left is_cancelling h (subst (λ (s : Since). IsSince is_cancelling h (length h) s) c.in-More.is c.left.ensures))
+    (more_left is_cancelling h
+    (subst (λ (s : Since). IsSince is_cancelling h (length h) s) c.in-More.is c.left.ensures))

@@ -10,4 +10,5 @@ returns c =
     decided_whole (λ before e. CancelAt (commands_of c.args.rank c.args.lines.now) before e.what)
     (λ (g : List Event). cancels_since g ≡ []) c.args.events.now
     (Cancels (commands_of c.args.rank c.args.lines.now) c.args.events.now)
-    c.first_cancel.result c.is_none.result c.is_none.ensures (λ whole. whole.made) (λ whole. whole.no_others) c.first_cancel.ensures
+    c.first_cancel.result c.is_none.result c.is_none.ensures (λ whole. whole.made) (λ whole. whole.no_others)
+    c.first_cancel.ensures

@@ -35,7 +35,8 @@ loop-k-preserved c = (
 
 pub returns-then-not-is_cancel_right : goal.returns-then-not-is_cancel_right
 returns-then-not-is_cancel_right c =
-    breaks_first (λ before e. CancelAt (commands_of c.args.rank c.args.lines.now) before e.what) c.args.events.now c.loop-k.k
+    breaks_first (λ before e. CancelAt (commands_of c.args.rank c.args.lines.now) before e.what) c.args.events.now
+    c.loop-k.k
     c.index-events-k.result c.loop-k-test.true c.index-events-k.is c.loop-k.invariant.1
     (rw c.if-not-is_cancel_right.true at c.is_cancel_right.ensures)
 
@@ -44,8 +45,10 @@ returns c =
     let h = c.args.events.now in
     let k = c.loop-k.k in
     let all : take k h ≡ h = take_all k h c.loop-k-test.false in
-    let kept = all_kept (λ before e. CancelAt (commands_of c.args.rank c.args.lines.now) before e.what) h k c.loop-k-test.false c.loop-k.invariant.1 in
-    ended (λ before e. CancelAt (commands_of c.args.rank c.args.lines.now) before e.what) (λ (g : List Event). cancels_since g ≡ []) h
+    let kept = all_kept (λ before e. CancelAt (commands_of c.args.rank c.args.lines.now) before e.what) h k
+    c.loop-k-test.false c.loop-k.invariant.1 in
+    ended (λ before e. CancelAt (commands_of c.args.rank c.args.lines.now) before e.what)
+    (λ (g : List Event). cancels_since g ≡ []) h
     (Cancels (commands_of c.args.rank c.args.lines.now) h) c.is_nothing.result c.unless.result c.unless.ensures kept
     (λ none. record { made = kept; no_others = none })
     (decides_by c.is_nothing.result

@@ -19,7 +19,8 @@ returns-in-Ran c = λ e here.
     same_event h c.args.k c.index-events-k.result e c.requires.inside c.index-events-k.is here in
     let ran : e.what ≡ Ran c.in-Ran.line c.in-Ran.answer = sym (ap (λ (x : Event). x.what) same) ∙ c.in-Ran.is in
     c.claims_due.ensures
-    ∙ ap (λ (b : Bool). claims_due (cond b (c.in-Ran.line ∷ []) []) (claims_since before)) c.calls_for_claim-called.ensures
+    ∙ ap (λ (b : Bool). claims_due (cond b (c.in-Ran.line ∷ []) []) (claims_since before))
+    c.calls_for_claim-called.ensures
     ∙ sym (ap (λ (w : Happened). claim_due commands before w) ran)
 
 pub returns-in-Claim : goal.returns-in-Claim

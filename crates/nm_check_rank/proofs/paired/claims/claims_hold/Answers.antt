@@ -10,4 +10,5 @@ returns c =
     decided_whole (λ before e. ClaimAt (commands_of c.args.rank c.args.lines.now) before e.what)
     (λ (g : List Event). claims_since g ≡ []) c.args.events.now
     (Claims (commands_of c.args.rank c.args.lines.now) c.args.events.now)
-    c.first_claim.result c.is_none.result c.is_none.ensures (λ whole. whole.made) (λ whole. whole.no_others) c.first_claim.ensures
+    c.first_claim.result c.is_none.result c.is_none.ensures (λ whole. whole.made) (λ whole. whole.no_others)
+    c.first_claim.ensures

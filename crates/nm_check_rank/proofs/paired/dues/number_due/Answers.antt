@@ -12,6 +12,7 @@ returns c = λ commands e here.
     let same : get_or h c.args.k x ≡ e = same_event h c.args.k x e c.requires.inside c.index-events-k.is here in
     c.counted_due.ensures before c.counted-counts.ensures
     ∙ ap (λ (n : ℕ). number_due n (stranger n (get_or h c.args.k x).what)
-    (numbers_due (next_number before (get_or h c.args.k x).what) (number_of (get_or h c.args.k x).what))) c.ranks.ensures.value
+    (numbers_due (next_number before (get_or h c.args.k x).what) (number_of (get_or h c.args.k x).what)))
+    c.ranks.ensures.value
     ∙ ap (λ (y : Event). number_due c.args.shape.ranks (stranger c.args.shape.ranks y.what)
     (numbers_due (next_number before y.what) (number_of y.what))) same

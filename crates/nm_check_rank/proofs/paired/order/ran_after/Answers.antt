@@ -15,7 +15,8 @@ returns-else-at-own c = λ before stamp first n more.
     (record { stamp = stamp; what = c.args.what.now }) first (sym c.in-Some.ensures) more in
     elim c.else-at-own.branch [
       | else-at-own-via-then-at-own+else-own-at w ↦ w.if-own-at.false next.1
-      | else-at-own-via-else-at-own w ↦ (let over = w.if-at-own.false in let inside = next.0 in absurd (omega (arith, over, inside)))
+      | else-at-own-via-else-at-own w ↦ (let over = w.if-at-own.false in let inside = next.0 in
+          absurd (omega (arith, over, inside)))
     ]
 
 pub returns-in-None : goal.returns-in-None

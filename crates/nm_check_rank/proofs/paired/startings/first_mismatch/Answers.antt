@@ -30,7 +30,8 @@ pub returns-in-Mrecv : goal.returns-in-Mrecv
 returns-in-Mrecv c = λ limit commands before w held started is.
     let received = received_of _ c.args.message c.in-Mrecv.cap c.args.line w (held _ (ap handle_of c.in-Mrecv.is))
     (ap (λ (d : Command). start_of limit commands before c.args.line d) (sym c.in-Mrecv.is) ∙ is) in
-    subst (λ (x : Happened). IsFirstMismatch (arguments x) (arguments c.args.what.now) c.held_mismatch.result) received.2
+    subst (λ (x : Happened). IsFirstMismatch (arguments x) (arguments c.args.what.now) c.held_mismatch.result)
+    received.2
     (c.held_mismatch.ensures received.0 received.1)
 
 pub returns-in_default : goal.returns-in_default

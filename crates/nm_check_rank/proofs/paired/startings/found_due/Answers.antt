@@ -13,7 +13,8 @@ returns-in-One c = λ commands before held holds started.
     let limit = c.args.limit in
     let command = c.args.command.now in
     one_is_due limit command c.mismatch_due.result c.args.what.now (start_of limit commands before c.args.line command)
-    c.first_mismatch-first.result (sym c.in-One.is ∙ c.starts_called-called.ensures limit commands before c.args.line holds)
+    c.first_mismatch-first.result (sym c.in-One.is ∙ c.starts_called-called.ensures limit commands before c.args.line
+    holds)
     (λ w is. c.first_mismatch-first.ensures limit commands before w held started is)
     (c.mismatch_due.ensures ∙ ap (λ (o : Option Due). mismatch_due c.first_mismatch-first.result o) c.one_due.ensures)
 

@@ -10,4 +10,5 @@ returns c =
     decided_whole (λ before e. StartAt c.args.eager (commands_of c.args.rank c.args.lines.now) before e.what)
     (λ (g : List Event). starts_since g ≡ []) c.args.events.now
     (Starts c.args.eager (commands_of c.args.rank c.args.lines.now) c.args.events.now)
-    c.first_start.result c.is_none.result c.is_none.ensures (λ whole. whole.made) (λ whole. whole.no_others) c.first_start.ensures
+    c.first_start.result c.is_none.result c.is_none.ensures (λ whole. whole.made) (λ whole. whole.no_others)
+    c.first_start.ensures
