@@ -2,7 +2,6 @@
 use Rattle.std.proofs.Common.{◌≡◌, ℕ, inl, inr, List, Option, Some, None, refl, sym, ◌∙◌, subst}
 use Rattle.std.proofs.Common.{arith}
 use Rattle.std.specs.Option.{IfSome}
-use Rattle.std.specs.Prelude.{IfOk, Result, Ok, Err}
 use Rattle.nm_types.specs.declared.scripts.Line.{Line}
 use Rattle.nm_types.specs.Sizes.{Sizes}
 use Rattle.nm_script.specs.Spelled.{IsTextOf}
@@ -90,22 +89,19 @@ input_among question bytes script report is parts =
 
 -- an answer to words that are taken is right
 pub answered_words : (words : List (List ℕ)) (input : Option (List ℕ)) (old new : ℕ) (asked : Asked) →
-    IsTaken words asked → (answer : Response) → IsAnswerOf asked input old new answer →
-    IsAnswer words input old new answer
-answered_words words input old new asked taken Usage h = absurd h
-answered_words words input old new asked taken Unread h = record { asked = asked; taken = taken; right = h }
-answered_words words input old new asked taken NoReport h = record { asked = asked; taken = taken; right = h }
-answered_words words input old new asked taken (Refused n k) h =
-    record { asked = asked; taken = taken; right = h }
-answered_words words input old new asked taken (Outgrown s) h =
-    record { asked = asked; taken = taken; right = h }
-answered_words words input old new asked taken (Told t) h =
-    record { asked = asked; taken = taken; right = h }
-
--- of an answer that was found
-pub ok_always : {T E P : Type 0} (r : Result T E) → P → IfOk r (λ _. P)
-ok_always (Ok x) p = p
-ok_always (Err e) p = tt
+    IsTaken words asked → ((other : Asked) → IsTaken words other → other ≡ asked) → (answer : Response) →
+    IsAnswerOf asked input old new answer → IsAnswer words input old new answer
+answered_words words input old new asked taken only Usage h = absurd h
+answered_words words input old new asked taken only Unread h =
+    record { asked = asked; taken = taken; only = only; right = h }
+answered_words words input old new asked taken only NoReport h =
+    record { asked = asked; taken = taken; only = only; right = h }
+answered_words words input old new asked taken only (Refused n k) h =
+    record { asked = asked; taken = taken; only = only; right = h }
+answered_words words input old new asked taken only (Outgrown s) h =
+    record { asked = asked; taken = taken; only = only; right = h }
+answered_words words input old new asked taken only (Told t) h =
+    record { asked = asked; taken = taken; only = only; right = h }
 
 -- what was found is one thing, or none
 pub one_of : (found : Option Asked) (a b : Asked) → found ≡ Some a → found ≡ Some b → a ≡ b

@@ -6,6 +6,7 @@ use Rattle.nm_types.specs.Sizes.{Sizes}
 use Rattle.nm_script.specs.Rules.{IsFirstFault}
 use Rattle.nm_script.specs.Spelled.{IsTextOf}
 use Rattle.nm_check.specs.Checks.{IsInput}
+use Rattle.nm_check.specs.Done.{Ending}
 use Rattle.nm_check.specs.Inputs.{HasNoCut}
 use Rattle.nm_outcomes.specs.Outcomes.{AreOutcomes}
 use Rattle.nm_explored.specs.Met.{AreTooMany}
@@ -155,11 +156,12 @@ IsAnswerOf asked input old new Unread = Rose old new
 IsAnswerOf asked input old new answer =
     IfSome input (λ bytes. IsAnswerTo asked (read_of asked.question bytes) answer)
 
--- the words are taken and this is a right answer to them
+-- the words ask for one thing, and this is a right answer to them
 pub record IsAnswerToWords (words : List (List ℕ)) (input : Option (List ℕ)) (old new : ℕ)
     (answer : Response) : Type 0 where
   pub asked : Asked
   pub taken : IsTaken words asked
+  pub only : (other : Asked) → IsTaken words other → other ≡ asked
   pub right : IsAnswerOf asked input old new answer
 
 -- an answer is right
@@ -172,3 +174,8 @@ abbrev pub IsSaid : Response → ℕ → Option (List ℕ) → Option (List ℕ)
 IsSaid answer status old new fails =
     ((status ≡ status_of answer) × Appends old new (text_of answer))
     ⊎ ((status ≡ 5) × fails × AppendsPart old new (text_of answer))
+
+-- it ends with this answer: it is right, and its text was written, whole and with its status, or the sink failed
+pub record TellsOutcomes (e : Ending) (answer : Response) : Type 0 where
+  pub right : IsAnswer e.words e.input e.read_old e.read_new answer
+  pub said : IsSaid answer e.status e.before e.after (Rose e.write_old e.write_new)

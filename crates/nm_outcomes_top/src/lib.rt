@@ -4,7 +4,8 @@
 //! for every report that a lawful run of it can have, and writes what is asked of them: all, a trace
 //! of one, or whether a given report is one of them.
 //!
-//! `words` says what the words of the command line ask for.
+//! `words` says what the words of the command line ask for. `outcomes` says by one relation, `IsDone`,
+//! that what is due is said and nothing else; `laws` has what follows from that, question by question.
 //!
 //! # What a contract sees
 //! The words as lists of bytes; the bytes that the source tells, of which at most 8,388,609 are
@@ -36,6 +37,7 @@
 
 mod answers;
 mod asking;
+pub mod laws;
 mod listing;
 mod tellings;
 mod tops;

@@ -1,21 +1,15 @@
 //! The whole program: words and a script in, reports and a status out.
 
-ghost use Rattle.std.specs.Prelude.{◌≡◌, ℕ, ◌⊎◌, [], List, map, string_bytes, IfOk, IfSome};
-ghost use Rattle.nm_types.specs.declared.scripts.Line as script_line;
+ghost use Rattle.std.specs.Prelude.{◌≡◌, ◌⊎◌, map, string_bytes, IfOk, IfSome};
 ghost use Rattle.nm_outside.specs.Told.{Appends, AppendsPart, Rose};
-ghost use Rattle.nm_script.specs.Rules.{IsFirstFault};
-ghost use Rattle.nm_script.specs.Spelled.{IsTextOf};
-ghost use Rattle.nm_script.specs.declared.faults.Kind as fault_kind;
+ghost use Rattle.nm_check.specs.Done.{IsDone};
 ghost use Rattle.nm_outcomes_top.specs.declared.answers.Response.{Response};
 ghost use Rattle.nm_outcomes_top.specs.declared.words.Asked.{Asked};
 ghost use Rattle.nm_outcomes_top.specs.declared.words.Question.TheVariants as question;
-ghost use Rattle.nm_outcomes_top.specs.Answers.{HasNoReport, IsAnswer, IsAnswerFor, IsAnswerIn};
-ghost use Rattle.nm_outcomes_top.specs.Answers.{IsAnswerOf, IsAnswerTo, IsInputOf, IsSaid};
-ghost use Rattle.nm_outcomes_top.specs.Answers.{limit_of, read_of, text_of};
-ghost use Rattle.nm_outcomes_top.specs.Endings.{IsAmong, IsFewerSaid, IsListed, IsNotAmong};
-ghost use Rattle.nm_outcomes_top.specs.Endings.{IsOutgrown, IsRefused, IsStatus, IsTraceSaid};
-ghost use Rattle.nm_outcomes_top.specs.Endings.{OrFails, OrUnwritten, Speaks};
-ghost use Rattle.nm_outcomes_top.specs.Texts.{no_report, unread, usage};
+ghost use Rattle.nm_outcomes_top.specs.Answers.{IsAnswer, IsAnswerIn, IsAnswerOf, IsAnswerTo, IsSaid};
+ghost use Rattle.nm_outcomes_top.specs.Answers.{TellsOutcomes, limit_of, text_of};
+ghost use Rattle.nm_outcomes_top.specs.Endings.{IsListed, IsStatus};
+ghost use Rattle.nm_outcomes_top.specs.Texts.{unread};
 ghost use Rattle.nm_outcomes_top.specs.OptionWords.{InRange, IsTaken, NotTaken};
 
 use crate::answers::{Response, status, text};
@@ -24,7 +18,6 @@ use crate::words::{Asked, Question, read};
 use nm_check::checked::cut;
 use nm_outside::{Sink, Source, Unread, read_up_to, write_all};
 use nm_script::ScriptFault;
-use nm_script::laws::a_text_is_a_script_or_has_a_fault;
 use nm_types::Memory;
 use std::alloc::Global;
 
@@ -114,8 +107,6 @@ fn find_answer<S: Source>(
 ) -> Result<Response, Memory>
     ensures answer { IfOk result (IsAnswer (map string_bytes words.now) (S.left source.old)
         (S.faults source.old) (S.faults source.new)) }
-    ensures one { (asked other : Asked) → IsTaken (map string_bytes words.now) asked →
-        IsTaken (map string_bytes words.now) other → IfOk result (λ answer. asked ≡ other) }
     ensures untouched { NotTaken (map string_bytes words.now) → source.new ≡ source.old }
 {
     match read(alloc, words)? {
@@ -157,58 +148,28 @@ pub fn outcomes<S: Source, K: Sink>(
     source: &mut S,
     sink: &mut K,
 ) -> u8
-    // The words are not taken, and nothing is read.
-    ensures usage { result ≡ 2 → NotTaken (map string_bytes words.now)
-        × Appends (K.taken sink.old) (K.taken sink.new) usage }
-    ensures not_taken { NotTaken (map string_bytes words.now) →
-        OrUnwritten (result ≡ 2) result × (source.new ≡ source.old) }
-
-    // The bytes spell no script.
-    ensures refused { (asked : Asked) → IsTaken (map string_bytes words.now) asked →
-        result ≡ 3 → IfSome (S.left source.old)
-        (IsRefused asked (K.taken sink.old) (K.taken sink.new)) }
-    ensures refuses { (asked : Asked) → IsTaken (map string_bytes words.now) asked →
-        IfSome (S.left source.old) (λ bytes. (script report : List ℕ) (line : ℕ)
-        (kind : fault_kind.Kind) →
-        IsInputOf asked.question (read_of asked.question bytes) script report →
-        IsFirstFault script line kind → OrFails (result ≡ 3) result) }
-
-    // They spell one, and it is written what is asked of all reports that its runs can have.
-    ensures lists { (asked : Asked) → IsTaken (map string_bytes words.now) asked →
-        IfSome (S.left source.old) (λ bytes. (script report : List ℕ) (ranks : ℕ)
-        (lines : List script_line.Line) →
-        IsInputOf asked.question (read_of asked.question bytes) script report →
-        IsTextOf script ranks lines →
-        OrFails (Speaks asked.question result ⊎ (result ≡ 10)) result) }
+    // All reports that the script can have were written, each once.
     ensures listed { (asked : Asked) → IsTaken (map string_bytes words.now) asked →
         asked.question ≡ question.All → (result ≡ 0) ⊎ (result ≡ 1) → IfSome (S.left source.old)
         (IsListed asked result (K.taken sink.old) (K.taken sink.new)) }
 
-    // A trace of the one with this number, or there are fewer.
-    ensures traced { (asked : Asked) (number : ℕ) → IsTaken (map string_bytes words.now) asked →
-        asked.question ≡ question.Trace number → (result ≡ 0) ⊎ (result ≡ 1) →
-        IfSome (S.left source.old)
-        (IsTraceSaid asked number result (K.taken sink.old) (K.taken sink.new)) }
-    ensures fewer { (asked : Asked) (number : ℕ) → IsTaken (map string_bytes words.now) asked →
-        asked.question ≡ question.Trace number → result ≡ 7 → IfSome (S.left source.old)
-        (IsFewerSaid asked number (K.taken sink.old) (K.taken sink.new)) }
+    // What is due is said, and nothing else, by what the words ask for and the bytes are; or a write
+    // failed, or memory ran out.
+    ensures done { IsDone TellsOutcomes (record {
+      words = map string_bytes words.now;
+      input = S.left source.old;
+      left = S.left source.new;
+      read_old = S.faults source.old;
+      read_new = S.faults source.new;
+      before = K.taken sink.old;
+      after = K.taken sink.new;
+      write_old = K.faults sink.old;
+      write_new = K.faults sink.new;
+      status = result;
+    }) }
 
-    // The given report is one of them, or none, or there is none given.
-    ensures among { (asked : Asked) → IsTaken (map string_bytes words.now) asked →
-        asked.question ≡ question.Among → result ≡ 0 → IfSome (S.left source.old)
-        (IsAmong asked (K.taken sink.old) (K.taken sink.new)) }
-    ensures not_among { (asked : Asked) → IsTaken (map string_bytes words.now) asked →
-        asked.question ≡ question.Among → result ≡ 8 → IfSome (S.left source.old)
-        (IsNotAmong asked (K.taken sink.old) (K.taken sink.new)) }
-    ensures no_report { (asked : Asked) → IsTaken (map string_bytes words.now) asked →
-        result ≡ 9 → IfSome (S.left source.old) (λ bytes. (asked.question ≡ question.Among)
-        × HasNoReport (read_of asked.question bytes))
-        × Appends (K.taken sink.old) (K.taken sink.new) no_report }
-
-    // They spell one, and there are too many states, or the reports are too long.
-    ensures outgrown { (asked : Asked) → IsTaken (map string_bytes words.now) asked →
-        result ≡ 10 → IfSome (S.left source.old)
-        (IsOutgrown asked (K.taken sink.old) (K.taken sink.new)) }
+    // Where the words are not taken, nothing is read.
+    ensures not_taken { NotTaken (map string_bytes words.now) → source.new ≡ source.old }
 
     // The source failed.
     ensures unread { result ≡ 4 → Rose (S.faults source.old) (S.faults source.new)
@@ -224,7 +185,6 @@ pub fn outcomes<S: Source, K: Sink>(
     ensures memory { result ≡ 6 → K.taken sink.new ≡ K.taken sink.old }
     ensures statuses { IsStatus result }
 {
-    a_text_is_a_script_or_has_a_fault();
     let Ok(answer) = find_answer(alloc, words, source) else {
         return WANT_OF_MEMORY;
     };
