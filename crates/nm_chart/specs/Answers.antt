@@ -1,9 +1,11 @@
 -- What the program answers: a text and a status.
-use Rattle.std.specs.Prelude.{◌≡◌, ℕ, ◌≤◌, ◌⊎◌, List, [], IfSome, Option, Some, drop, length}
-use Rattle.nm_outside.specs.Told.{Appends, AppendsPart, Rose}
+use Rattle.std.specs.Prelude.{◌≡◌, ℕ, ◌≤◌, List, [], IfSome, Option, length}
+use Rattle.nm_outside.specs.Told.{Rose}
 use Rattle.nm_chart.specs.declared.answers.Response.{Response}
 use Rattle.nm_chart.specs.declared.answers.Response.TheVariants.{Usage, Unread, Refused, Drawn}
 use Rattle.nm_picture.specs.Pictures.{IsPictureOf}
+use Rattle.nm_check.specs.Done.{Ending}
+use Rattle.nm_chart.specs.Given.{IsReadFor, IsSaid}
 use Rattle.nm_chart.specs.Endings.{IsBadTrace, IsTraceOfOne, fault_text, read_of}
 use Rattle.nm_chart.specs.Endings.{unread, usage}
 
@@ -34,26 +36,25 @@ IsAnswerTo bytes _ = ⊥
 
 -- an answer is right: by the words, by the bytes of the source where it tells them, and by its count of
 -- faults before and after
-abbrev pub IsAnswer : {X : Type 0} → List X → Option (List ℕ) → ℕ → ℕ → Response → Type 0
+abbrev pub IsAnswer : List (List ℕ) → Option (List ℕ) → ℕ → ℕ → Response → Type 0
 IsAnswer words input old new Usage = ¬ (words ≡ [])
 IsAnswer words input old new Unread = (words ≡ []) × Rose old new
 IsAnswer words input old new answer =
     (words ≡ []) × IfSome input (λ bytes. IsAnswerTo (read_of bytes) answer)
 
--- the source was not found to fail
+-- no read failed
+abbrev pub WasQuiet : Response → Type 0
+WasQuiet Unread = ⊥
+WasQuiet _ = Unit {0}
+
+-- the source was read
 abbrev pub WasRead : Response → Type 0
+WasRead Usage = ⊥
 WasRead Unread = ⊥
 WasRead _ = Unit {0}
 
--- Unless a read failed, the source was read to its end or to the limit, where there are no words, and its
--- count of faults is as it was.
-pub record IsRead {X : Type 0} (words : List X) (input left : Option (List ℕ)) (old new : ℕ)
-    (answer : Response) : Type 0 where
-  pub quiet : WasRead answer → new ≡ old
-  pub whole : WasRead answer → words ≡ [] → IfSome input (λ bytes. left ≡ Some (drop 67108865 bytes))
-
--- the text of an answer was written, whole and with its status, or the sink failed
-abbrev pub IsSaid : Response → ℕ → Option (List ℕ) → Option (List ℕ) → Type 0 → Type 0
-IsSaid answer status old new fails = (text : List ℕ) × Tells answer text ×
-    (((status ≡ status_of answer) × Appends old new text)
-    ⊎ ((status ≡ 5) × fails × AppendsPart old new text))
+-- `chart` ends with this answer: it is right, the source was read for it, and it was said
+pub record Charts (e : Ending) (answer : Response) : Type 0 where
+  pub right : IsAnswer e.words e.input e.read_old e.read_new answer
+  pub read : IsReadFor (WasQuiet answer) (WasRead answer) e.input e.left e.read_old e.read_new
+  pub said : IsSaid (Tells answer) (status_of answer) e.status e.before e.after (Rose e.write_old e.write_new)

@@ -1,9 +1,9 @@
 -- What there is to say of a script and a trace, and the flag in its picture.
-use Rattle.std.specs.Prelude.{◌≡◌, ℕ, ◌≤◌, ◌⊎◌, List, ◌++◌, IfSome, Option, Some, None, codes, decimal, drop, length}
+use Rattle.std.specs.Prelude.{◌≡◌, ℕ, ◌≤◌, List, ◌++◌, IfSome, Option, Some, None, codes, decimal, length}
 use Rattle.std.specs.Prelude.{slice_get}
 use Rattle.nm_types.specs.Sizes.{Sizes}
 use Rattle.nm_history.specs.declared.events.Event.{Event}
-use Rattle.nm_outside.specs.Told.{Appends, AppendsPart, Rose}
+use Rattle.nm_outside.specs.Told.{Rose}
 use Rattle.nm_script.specs.CommandWords.{IsTaken as AreTaken}
 use Rattle.nm_script.specs.declared.command_line.CommandLine.{CommandLine}
 use Rattle.nm_script.specs.declared.command_line.Mode.TheVariants.{Check}
@@ -15,6 +15,8 @@ use Rattle.nm_diagram.specs.Frames.{whole}
 use Rattle.nm_picture.specs.declared.flags.Flag.{Flag}
 use Rattle.nm_picture.specs.declared.flags.Flag.TheVariants as flag
 use Rattle.nm_picture.specs.Flags.{IsFlaggedIn}
+use Rattle.nm_check.specs.Done.{Ending}
+use Rattle.nm_chart.specs.Given.{IsReadFor, IsSaid}
 use Rattle.nm_chart.specs.Endings.{read_of, unread, widest}
 use Rattle.nm_check.specs.Found.{IsFound}
 use Rattle.nm_check.specs.declared.breaks.finding.Found.{Found}
@@ -121,22 +123,13 @@ WasRead Usage = ⊥
 WasRead Unread = ⊥
 WasRead _ = Unit {0}
 
--- Unless a read failed, the count of faults of the source is as it was, and where it was read, then to its end or
--- to the limit.
-pub record IsTaken (input left : Option (List ℕ)) (old new : ℕ) (finding : Finding) : Type 0 where
-  pub quiet : (finding ≡ Unread → ⊥) → new ≡ old
-  pub whole : WasRead finding → IfSome input (λ bytes. left ≡ Some (drop 67108865 bytes))
+-- no read failed
+abbrev pub WasQuiet : Finding → Type 0
+WasQuiet Unread = ⊥
+WasQuiet _ = Unit {0}
 
--- the text of a finding was written, whole and with its status, or the sink failed, which took a front of it
-abbrev pub IsSaid : Finding → ℕ → Option (List ℕ) → Option (List ℕ) → Type 0 → Type 0
-IsSaid finding status old new fails = (text : List ℕ) × Says finding text ×
-    (((status ≡ status_of finding) × Appends old new text)
-    ⊎ ((status ≡ 5) × fails × AppendsPart old new text))
-
--- what is right to say of the words and the bytes was said
-pub record IsDone (words : List (List ℕ)) (input left : Option (List ℕ)) (old new : ℕ)
-    (before after : Option (List ℕ)) (fails : Type 0) (status : ℕ) : Type 0 where
-  pub finding : Finding
-  pub right : IsAnswer words input old new finding
-  pub read : IsTaken input left old new finding
-  pub said : IsSaid finding status before after fails
+-- `chart_check` ends with this finding: it is right, the source was read for it, and it was said
+pub record ChartsCheck (e : Ending) (finding : Finding) : Type 0 where
+  pub right : IsAnswer e.words e.input e.read_old e.read_new finding
+  pub read : IsReadFor (WasQuiet finding) (WasRead finding) e.input e.left e.read_old e.read_new
+  pub said : IsSaid (Says finding) (status_of finding) e.status e.before e.after (Rose e.write_old e.write_new)

@@ -1,6 +1,7 @@
 pub mod Answers
 pub mod Endings
 pub mod Findings
+pub mod Given
 pub mod Parts
 pub mod Widened
 pub mod PartWords

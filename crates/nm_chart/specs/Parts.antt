@@ -1,12 +1,14 @@
 -- What the program answers where it has words: the picture of the part that they ask for.
-use Rattle.std.specs.Prelude.{◌≡◌, ℕ, ◌<◌, ◌⊎◌, Bool, true, false, List, IfSome, Option, Some, None, codes, drop}
+use Rattle.std.specs.Prelude.{◌≡◌, ℕ, ◌<◌, Bool, true, false, List, IfSome, Option, Some, None, codes}
 use Rattle.std.specs.Prelude.{get_or, length}
-use Rattle.nm_outside.specs.Told.{Appends, AppendsPart, Rose}
+use Rattle.nm_outside.specs.Told.{Rose}
 use Rattle.nm_report.specs.declared.accounts.RankAccount.{RankAccount}
 use Rattle.nm_report.specs.declared.records.RunRecord.{RunRecord}
 use Rattle.nm_diagram.specs.declared.frames.Part.{Part}
 use Rattle.nm_diagram.specs.Frames.{IsSilent}
 use Rattle.nm_picture.specs.Pictures.{IsPictureIn}
+use Rattle.nm_check.specs.Done.{Ending}
+use Rattle.nm_chart.specs.Given.{IsReadFor, IsSaid}
 use Rattle.nm_chart.specs.PartWords.{InRange, asked_of}
 use Rattle.nm_chart.specs.declared.outcomes.Outcome.{Outcome}
 use Rattle.nm_chart.specs.declared.outcomes.Outcome.TheVariants.{Usage, Unread, Refused, Drawn}
@@ -68,23 +70,13 @@ WasTaken Usage = ⊥
 WasTaken Unread = ⊥
 WasTaken _ = Unit {0}
 
--- Unless a read failed, the count of faults of the source is as it was, and where it was read, then to its end or
--- to the limit.
-pub record IsTakenIn (words : List (List ℕ)) (input left : Option (List ℕ)) (old new : ℕ) (outcome : Outcome)
-    : Type 0 where
-  pub quiet : (outcome ≡ Unread → ⊥) → new ≡ old
-  pub whole : WasTaken outcome → IfSome input (λ bytes. left ≡ Some (drop 67108865 bytes))
+-- no read failed
+abbrev pub WasQuiet : Outcome → Type 0
+WasQuiet Unread = ⊥
+WasQuiet _ = Unit {0}
 
--- the text of an outcome was written, whole and with its status, or the sink failed, which took a front of it
-abbrev pub IsSpoken : Outcome → ℕ → Option (List ℕ) → Option (List ℕ) → Type 0 → Type 0
-IsSpoken outcome status old new fails = (text : List ℕ) × Says outcome text ×
-    (((status ≡ outcome_status outcome) × Appends old new text)
-    ⊎ ((status ≡ 5) × fails × AppendsPart old new text))
-
--- what is right to say of the words and the bytes was said
-pub record IsDone (words : List (List ℕ)) (input left : Option (List ℕ)) (old new : ℕ)
-    (before after : Option (List ℕ)) (fails : Type 0) (status : ℕ) : Type 0 where
-  pub outcome : Outcome
-  pub right : IsOutcome words input old new outcome
-  pub read : IsTakenIn words input left old new outcome
-  pub spoken : IsSpoken outcome status before after fails
+-- `chart_part` ends with this outcome: it is right, the source was read for it, and it was said
+pub record ChartsPart (e : Ending) (outcome : Outcome) : Type 0 where
+  pub right : IsOutcome e.words e.input e.read_old e.read_new outcome
+  pub read : IsReadFor (WasQuiet outcome) (WasTaken outcome) e.input e.left e.read_old e.read_new
+  pub said : IsSaid (Says outcome) (outcome_status outcome) e.status e.before e.after (Rose e.write_old e.write_new)

@@ -1,13 +1,12 @@
 //! The whole program: words and a trace in, a picture and a status out.
 
-ghost use Rattle.std.specs.Prelude.{◌≡◌, ◌≤◌, ◌<◌, ◌⊎◌, ◌↔◌, ℕ, [], List, Some, take, drop, length};
-ghost use Rattle.std.specs.Prelude.{IfOk, IfSome};
-ghost use Rattle.nm_outside.specs.Told.{Appends, AppendsPart, LosesAtMost, Rose};
-ghost use Rattle.nm_report.specs.declared.records.RunRecord.{RunRecord};
-ghost use Rattle.nm_chart.specs.declared.answers.Response.{Response};
-ghost use Rattle.nm_chart.specs.Answers.{CanBeDrawn, IsAnswer, IsAnswerTo, IsRead, IsSaid, Tells};
-ghost use Rattle.nm_chart.specs.Endings.{IsBadTrace, IsDrawn, IsRefused, IsStatus, IsTrace};
-ghost use Rattle.nm_chart.specs.Endings.{OrFails, OrUnwritten, read_of, unread, usage};
+ghost use Rattle.std.specs.Prelude.{◌≡◌, ◌⊎◌, [], map, string_bytes, IfOk, IfSome};
+ghost use Rattle.nm_outside.specs.Told.{LosesAtMost, Rose};
+ghost use Rattle.nm_chart.specs.Answers.{CanBeDrawn, Charts, IsAnswer, IsAnswerTo, Tells, WasQuiet};
+ghost use Rattle.nm_chart.specs.Answers.{WasRead, status_of};
+ghost use Rattle.nm_check.specs.Done.{IsDone};
+ghost use Rattle.nm_chart.specs.Given.{IsReadFor, IsSaid};
+ghost use Rattle.nm_chart.specs.Endings.{IsDrawn, read_of};
 
 use crate::answers::{Response, status, text};
 use nm_outside::{Sink, Source, Unread, read_up_to, write_all};
@@ -46,13 +45,13 @@ fn find_answer<S: Source>(
     words: &[String],
     source: &mut S,
 ) -> Result<Response, Memory>
-    ensures answer { IfOk result (IsAnswer words.now (S.left source.old) (S.faults source.old)
-        (S.faults source.new)) }
+    ensures answer { IfOk result (IsAnswer (map string_bytes words.now) (S.left source.old)
+        (S.faults source.old) (S.faults source.new)) }
     ensures drawn { IfOk result CanBeDrawn }
     ensures untouched { ¬ (words.now ≡ []) → source.new ≡ source.old }
     ensures taken { words.now ≡ [] → LosesAtMost 67108865 (S.left source.old) (S.left source.new) }
-    ensures read { IfOk result (IsRead words.now (S.left source.old) (S.left source.new)
-        (S.faults source.old) (S.faults source.new)) }
+    ensures read { IfOk result (λ answer. IsReadFor (WasQuiet answer) (WasRead answer)
+        (S.left source.old) (S.left source.new) (S.faults source.old) (S.faults source.new)) }
 {
     if !words.is_empty() {
         return Ok(Response::Usage);
@@ -67,8 +66,8 @@ fn find_answer<S: Source>(
 // Writes what is due to the sink, and answers the status.
 fn deliver<K: Sink>(sink: &mut K, due: &[u8], answer: &Response) -> u8
     requires { Tells answer.now due.now }
-    ensures said { IsSaid answer.now result (K.taken sink.old) (K.taken sink.new)
-        (Rose (K.faults sink.old) (K.faults sink.new)) }
+    ensures said { IsSaid (Tells answer.now) (status_of answer.now) result (K.taken sink.old)
+        (K.taken sink.new) (Rose (K.faults sink.old) (K.faults sink.new)) }
     ensures quiet { (result ≡ 5) ⊎ (K.faults sink.new ≡ K.faults sink.old) }
 {
     match write_all(sink, due) {
@@ -90,47 +89,31 @@ pub fn chart<S: Source, K: Sink>(
     source: &mut S,
     sink: &mut K,
 ) -> u8
-    // There are words, and nothing is read.
-    ensures usage { result ≡ 2 → ¬ (words.now ≡ [])
-        × Appends (K.taken sink.old) (K.taken sink.new) usage }
-    ensures not_taken { ¬ (words.now ≡ []) →
-        OrUnwritten (result ≡ 2) result × (source.new ≡ source.old) }
-
-    // The bytes are no trace.
-    ensures refused { result ≡ 9 → (words.now ≡ []) × IfSome (S.left source.old) (λ bytes.
-        IsRefused (read_of bytes) (K.taken sink.old) (K.taken sink.new)) }
-    ensures refuses { (words.now ≡ []) → IfSome (S.left source.old) (λ bytes. (line : ℕ) →
-        IsBadTrace (read_of bytes) line → OrFails (result ≡ 9) result) }
-
-    // The bytes are the trace of a record.
+    // The bytes are the trace of a record, and its picture was written.
     ensures drawn { result ≡ 0 → (words.now ≡ []) × IfSome (S.left source.old) (λ bytes.
         IsDrawn (read_of bytes) (K.taken sink.old) (K.taken sink.new)) }
-    ensures draws { (words.now ≡ []) → IfSome (S.left source.old) (λ bytes. (run : RunRecord) →
-        IsTrace (read_of bytes) run → OrFails (result ≡ 0) result) }
 
-    // The source is read to its end, or to the limit, and no more is taken however it ends.
-    ensures read { words.now ≡ [] → OrFails (IfSome (S.left source.old)
-        (λ bytes. S.left source.new ≡ Some (drop 67108865 bytes))) result }
+    // What is due is said, and nothing else, by the words and the bytes; or a write failed, or memory
+    // ran out before the first write.
+    ensures done { IsDone Charts (record {
+      words = map string_bytes words.now;
+      input = S.left source.old;
+      left = S.left source.new;
+      read_old = S.faults source.old;
+      read_new = S.faults source.new;
+      before = K.taken sink.old;
+      after = K.taken sink.new;
+      write_old = K.faults sink.old;
+      write_new = K.faults sink.new;
+      status = result;
+    }) }
+
+    // Where there are words, nothing is read, and no more is taken than may be read however it ends.
+    ensures not_taken { ¬ (words.now ≡ []) → source.new ≡ source.old }
     ensures taken { words.now ≡ [] → LosesAtMost 67108865 (S.left source.old) (S.left source.new) }
 
-    // No failure is passed over.
-    ensures quiet { OrFails (S.faults source.new ≡ S.faults source.old) result }
+    // No failure of the sink is passed over.
     ensures quiet_sink { (result ≡ 5) ⊎ (K.faults sink.new ≡ K.faults sink.old) }
-
-    // The source failed.
-    ensures unread { result ≡ 4 → Rose (S.faults source.old) (S.faults source.new)
-        × Appends (K.taken sink.old) (K.taken sink.new) unread }
-
-    // The sink failed. What it took is a front of the text that was due.
-    ensures unwritten { result ≡ 5 → Rose (K.faults sink.old) (K.faults sink.new)
-        × (answer : Response) × IsAnswer words.now (S.left source.old) (S.faults source.old)
-        (S.faults source.new) answer × IsRead words.now (S.left source.old) (S.left source.new)
-        (S.faults source.old) (S.faults source.new) answer × (text : List ℕ) × Tells answer text
-        × AppendsPart (K.taken sink.old) (K.taken sink.new) text }
-
-    // Want of memory, before the first write.
-    ensures memory { result ≡ 6 → K.taken sink.new ≡ K.taken sink.old }
-    ensures statuses { IsStatus result }
 {
     let Ok(answer) = find_answer(alloc, words, source) else {
         return WANT_OF_MEMORY;

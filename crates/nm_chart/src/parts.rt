@@ -3,8 +3,10 @@
 ghost use Rattle.std.specs.Prelude.{◌≡◌, ◌⊎◌, None, map, string_bytes, IfOk};
 ghost use Rattle.nm_outside.specs.Told.{LosesAtMost, Rose};
 ghost use Rattle.nm_chart.specs.PartWords.{InRange, asked_of};
-ghost use Rattle.nm_chart.specs.Parts.{CanBeShown, IsDone, IsFoundIn, IsOutcome, IsSpoken};
-ghost use Rattle.nm_chart.specs.Parts.{IsTakenIn, Says};
+ghost use Rattle.nm_check.specs.Done.{IsDone};
+ghost use Rattle.nm_chart.specs.Given.{IsReadFor, IsSaid};
+ghost use Rattle.nm_chart.specs.Parts.{CanBeShown, ChartsPart, IsFoundIn, IsOutcome, Says, WasQuiet};
+ghost use Rattle.nm_chart.specs.Parts.{WasTaken, outcome_status as status_lem};
 
 use crate::answers::Response;
 use crate::charts::{MAX_TRACE, SINK_FAILED, WANT_OF_MEMORY, read_bytes};
@@ -44,8 +46,8 @@ fn find_outcome<S: Source>(
     ensures shown { IfOk result CanBeShown }
     ensures untouched { asked_of (map string_bytes words.now) ≡ None → source.new ≡ source.old }
     ensures taken { LosesAtMost 67108865 (S.left source.old) (S.left source.new) }
-    ensures read { IfOk result (IsTakenIn (map string_bytes words.now) (S.left source.old)
-        (S.left source.new) (S.faults source.old) (S.faults source.new)) }
+    ensures read { IfOk result (λ outcome. IsReadFor (WasQuiet outcome) (WasTaken outcome)
+        (S.left source.old) (S.left source.new) (S.faults source.old) (S.faults source.new)) }
 {
     let asked = crate::words::read(alloc, words)?;
     let Some(part) = asked else {
@@ -61,8 +63,8 @@ fn find_outcome<S: Source>(
 // Writes what is due to the sink, and answers the status.
 fn deliver_outcome<K: Sink>(sink: &mut K, due: &[u8], outcome: &Outcome) -> u8
     requires { Says outcome.now due.now }
-    ensures spoken { IsSpoken outcome.now result (K.taken sink.old) (K.taken sink.new)
-        (Rose (K.faults sink.old) (K.faults sink.new)) }
+    ensures said { IsSaid (Says outcome.now) (status_lem outcome.now) result (K.taken sink.old)
+        (K.taken sink.new) (Rose (K.faults sink.old) (K.faults sink.new)) }
     ensures quiet { (result ≡ 5) ⊎ (K.faults sink.new ≡ K.faults sink.old) }
 {
     match write_all(sink, due) {
@@ -85,12 +87,20 @@ pub fn chart_part<S: Source, K: Sink>(
     source: &mut S,
     sink: &mut K,
 ) -> u8
-    // What is right to say of the words and the bytes was said, or memory ran out before the first
-    // write.
-    ensures done { ((result ≡ 6) × (K.taken sink.new ≡ K.taken sink.old))
-        ⊎ IsDone (map string_bytes words.now) (S.left source.old) (S.left source.new)
-        (S.faults source.old) (S.faults source.new) (K.taken sink.old) (K.taken sink.new)
-        (Rose (K.faults sink.old) (K.faults sink.new)) result }
+    // What is due is said, and nothing else, by the words and the bytes; or a write failed, or memory
+    // ran out before the first write.
+    ensures done { IsDone ChartsPart (record {
+      words = map string_bytes words.now;
+      input = S.left source.old;
+      left = S.left source.new;
+      read_old = S.faults source.old;
+      read_new = S.faults source.new;
+      before = K.taken sink.old;
+      after = K.taken sink.new;
+      write_old = K.faults sink.old;
+      write_new = K.faults sink.new;
+      status = result;
+    }) }
 
     // Where the words are not taken, nothing is read, and no more is taken than may be read however
     // it ends.

@@ -6,9 +6,11 @@ ghost use Rattle.nm_script.specs.CommandWords.{InRange};
 ghost use Rattle.nm_outside.specs.Told.{LosesAtMost, Rose};
 ghost use Rattle.nm_trace.specs.Traces.{IsTraceOf, Names};
 ghost use Rattle.nm_chart.specs.Endings.{widest};
-ghost use Rattle.nm_chart.specs.Findings.{CanBeDrawn, HasTrace, IsAnswer, IsAnswerIn, IsAsked, IsDone};
-ghost use Rattle.nm_chart.specs.Findings.{IsFinding, IsFindingOf, IsFoundIn, IsSaid, IsTaken};
-ghost use Rattle.nm_chart.specs.Findings.{NotAsked, Says};
+ghost use Rattle.nm_check.specs.Done.{IsDone};
+ghost use Rattle.nm_chart.specs.Given.{IsReadFor, IsSaid};
+ghost use Rattle.nm_chart.specs.Findings.{CanBeDrawn, ChartsCheck, HasTrace, IsAnswer, IsAnswerIn};
+ghost use Rattle.nm_chart.specs.Findings.{IsAsked, IsFinding, IsFindingOf, IsFoundIn, NotAsked, Says};
+ghost use Rattle.nm_chart.specs.Findings.{WasQuiet, WasRead, status_of};
 
 use crate::check::findings::{Finding, status, text};
 use crate::check::places::flag_of;
@@ -111,8 +113,8 @@ fn find_finding<S: Source>(
     ensures drawn { IfOk result CanBeDrawn }
     ensures untouched { NotAsked (map string_bytes words.now) → source.new ≡ source.old }
     ensures taken { LosesAtMost 67108865 (S.left source.old) (S.left source.new) }
-    ensures read { IfOk result (IsTaken (S.left source.old) (S.left source.new)
-        (S.faults source.old) (S.faults source.new)) }
+    ensures read { IfOk result (λ finding. IsReadFor (WasQuiet finding) (WasRead finding)
+        (S.left source.old) (S.left source.new) (S.faults source.old) (S.faults source.new)) }
 {
     let Some(line) = asked(words) else {
         return Ok(Finding::Usage);
@@ -127,8 +129,8 @@ fn find_finding<S: Source>(
 /// Writes what is due to the sink, and answers the status.
 fn deliver<K: Sink>(sink: &mut K, due: &[u8], finding: &Finding) -> u8
     requires { Says finding.now due.now }
-    ensures said { IsSaid finding.now result (K.taken sink.old) (K.taken sink.new)
-        (Rose (K.faults sink.old) (K.faults sink.new)) }
+    ensures said { IsSaid (Says finding.now) (status_of finding.now) result (K.taken sink.old)
+        (K.taken sink.new) (Rose (K.faults sink.old) (K.faults sink.new)) }
     ensures quiet { (result ≡ 5) ⊎ (K.faults sink.new ≡ K.faults sink.old) }
 {
     match write_all(sink, due) {
@@ -150,12 +152,20 @@ pub fn chart_check<S: Source, K: Sink>(
     source: &mut S,
     sink: &mut K,
 ) -> u8
-    // What is right to say of the words and the bytes was said, or memory ran out before the first
-    // write.
-    ensures done { ((result ≡ 6) × (K.taken sink.new ≡ K.taken sink.old))
-        ⊎ IsDone (map string_bytes words.now) (S.left source.old) (S.left source.new)
-        (S.faults source.old) (S.faults source.new) (K.taken sink.old) (K.taken sink.new)
-        (Rose (K.faults sink.old) (K.faults sink.new)) result }
+    // What is due is said, and nothing else, by the words and the bytes; or a write failed, or memory
+    // ran out before the first write.
+    ensures done { IsDone ChartsCheck (record {
+      words = map string_bytes words.now;
+      input = S.left source.old;
+      left = S.left source.new;
+      read_old = S.faults source.old;
+      read_new = S.faults source.new;
+      before = K.taken sink.old;
+      after = K.taken sink.new;
+      write_old = K.faults sink.old;
+      write_new = K.faults sink.new;
+      status = result;
+    }) }
 
     // Where the words are not taken, nothing is read, and no more is taken than may be read however
     // it ends.

@@ -1,52 +1,37 @@
 -- How the program ends, clause by clause.
-use Rattle.nm_outside.specs.Told.{Rose}
-use Rattle.nm_chart.proofs.EndLemmas.{Ends, usage_is, not_taken_is, refused_is, refuses_is, drawn_is, draws_is}
-use Rattle.nm_chart.proofs.EndLemmas.{not_six, unless_unread, unread_is, unwritten_is}
+use Rattle.std.proofs.Common.{inl, inr, map, refl, string_bytes}
+use Rattle.nm_chart.specs.Answers.{Charts}
+use Rattle.nm_check.specs.Done.{Ending}
+use Rattle.nm_chart.proofs.EndLemmas.{drawn_is, none_of}
 use Rattle.nm_chart.proofs.charts.chart.Goals as goal
 use Rattle.nm_chart.proofs.charts.chart.Goals.{Joined-answer-2}
 use Rattle.nm_chart.proofs.charts.chart.Given.{Over}
 
--- what is known where all was written, or the sink failed
-known : (g : Over) (c : Joined-answer-2 g) →
-    Ends c.args.words.now (g.S.Source.left c.args.source.now)
-    (g.S.Source.faults c.args.source.now) (g.S.Source.faults c.find_answer.new.source)
-    (g.K.Sink.taken c.args.sink.now) (g.K.Sink.taken c.deliver.new.sink)
-    (Rose (g.K.Sink.faults c.args.sink.now) (g.K.Sink.faults c.deliver.new.sink))
-    c.in-Ok.answer c.deliver.result
-known g c = record { right = c.in-Ok.ensures.answer; said = c.deliver.ensures.said }
+-- what is seen where all was written, or the sink failed
+abbrev seen : (g : Over) → Joined-answer-2 g → Ending
+seen g c =
+    record {
+      words = map string_bytes c.args.words.now;
+      input = g.S.Source.left c.args.source.now;
+      left = g.S.Source.left c.find_answer.new.source;
+      read_old = g.S.Source.faults c.args.source.now;
+      read_new = g.S.Source.faults c.find_answer.new.source;
+      before = g.K.Sink.taken c.args.sink.now;
+      after = g.K.Sink.taken c.deliver.new.sink;
+      write_old = g.K.Sink.faults c.args.sink.now;
+      write_new = g.K.Sink.faults c.deliver.new.sink;
+      status = c.deliver.result;
+    }
 
-pub returns-clause-usage : goal.returns-clause-usage
-returns-clause-usage g c = usage_is c.in-Ok.answer c.deliver.result (known g c)
-
-pub returns-clause-not_taken : goal.returns-clause-not_taken
-returns-clause-not_taken g c some =
-    (not_taken_is c.in-Ok.answer c.deliver.result (known g c) some, c.in-Ok.ensures.untouched some)
-
-pub returns-clause-refused : goal.returns-clause-refused
-returns-clause-refused g c = refused_is c.in-Ok.answer c.deliver.result (known g c)
-
-pub returns-clause-refuses : goal.returns-clause-refuses
-returns-clause-refuses g c = refuses_is c.in-Ok.answer c.deliver.result (known g c)
+-- and what is known of it
+known : (g : Over) (c : Joined-answer-2 g) → Charts (seen g c) c.in-Ok.answer
+known g c =
+    record { right = c.in-Ok.ensures.answer; read = c.in-Ok.ensures.read; said = c.deliver.ensures.said }
 
 pub returns-clause-drawn : goal.returns-clause-drawn
-returns-clause-drawn g c = drawn_is c.in-Ok.answer c.deliver.result (known g c)
+returns-clause-drawn g c none =
+    let drawn = drawn_is (seen g c) c.in-Ok.answer (known g c) none in
+    (none_of string_bytes c.args.words.now drawn.0, drawn.1)
 
-pub returns-clause-draws : goal.returns-clause-draws
-returns-clause-draws g c = draws_is c.in-Ok.answer c.deliver.result (known g c)
-
-pub returns-clause-unread : goal.returns-clause-unread
-returns-clause-unread g c = unread_is c.in-Ok.answer c.deliver.result (known g c)
-
-pub returns-clause-unwritten : goal.returns-clause-unwritten
-returns-clause-unwritten g c =
-    unwritten_is c.in-Ok.answer c.deliver.result (known g c) _ c.in-Ok.ensures.read
-
-pub returns-clause-read : goal.returns-clause-read
-returns-clause-read g c none =
-    unless_unread c.in-Ok.answer c.deliver.result (known g c) (λ read. c.in-Ok.ensures.read.whole read none)
-
-pub returns-clause-quiet : goal.returns-clause-quiet
-returns-clause-quiet g c = unless_unread c.in-Ok.answer c.deliver.result (known g c) c.in-Ok.ensures.read.quiet
-
-pub returns-clause-memory : goal.returns-clause-memory
-returns-clause-memory g c six = absurd (not_six c.in-Ok.answer c.deliver.result (known g c) six)
+pub returns-clause-done : goal.returns-clause-done
+returns-clause-done g c = inr (c.in-Ok.answer, known g c)

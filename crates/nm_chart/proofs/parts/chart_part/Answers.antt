@@ -3,9 +3,7 @@ use Rattle.std.proofs.Common.{inr}
 use Rattle.nm_chart.proofs.parts.chart_part.Goals as goal
 
 pub returns-clause-done : goal.returns-clause-done
-returns-clause-done g c = inr (record {
-  outcome = c.in-Ok.outcome;
-  right = c.in-Ok.ensures.outcome;
-  read = c.in-Ok.ensures.read;
-  spoken = c.deliver_outcome.ensures.spoken;
-})
+returns-clause-done g c = inr (
+  c.in-Ok.outcome,
+  record { right = c.in-Ok.ensures.outcome; read = c.in-Ok.ensures.read; said = c.deliver_outcome.ensures.said },
+)

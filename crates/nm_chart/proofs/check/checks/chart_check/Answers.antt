@@ -3,9 +3,7 @@ use Rattle.std.proofs.Common.{inr}
 use Rattle.nm_chart.proofs.check.checks.chart_check.Goals as goal
 
 pub returns-clause-done : goal.returns-clause-done
-returns-clause-done g c = inr (record {
-  finding = c.in-Ok.finding;
-  right = c.in-Ok.ensures.answer;
-  read = c.in-Ok.ensures.read;
-  said = c.deliver.ensures.said;
-})
+returns-clause-done g c = inr (
+  c.in-Ok.finding,
+  record { right = c.in-Ok.ensures.answer; read = c.in-Ok.ensures.read; said = c.deliver.ensures.said },
+)
