@@ -34,12 +34,19 @@
 //!
 //! A crew that has left is not woken, and what is rung for it is lost. It need not be: each actor makes a
 //! turn at the start of the next round.
+//!
+//! # Where other work has the processors
+//!
+//! There a crew that is awake stands still for milliseconds, and those that wait for it sleep as long, again
+//! and again. So where a crew sleeps for a millisecond while at most one other is awake, and is rung after
+//! that, the round ends, and the next one is made in one crew, which waits for nobody. After `ALONE` turns
+//! all crews are tried again. Where one crew alone was at work for other reasons, little is lost by it.
 
 use crate::Actor;
 use nm_types::Memory;
 use std::alloc::Global;
 use std::sync::Wait;
-use std::sync::atomic::{AtomicU64, Ordering};
+use std::sync::atomic::{AtomicBool, AtomicU64, Ordering};
 use std::time::Duration;
 
 // In a bell: its crew sleeps, or is about to.
@@ -56,6 +63,12 @@ const LOOKS: u32 = 10000;
 
 // How many milliseconds a crew with nothing to do waits for others to begin.
 const NAPS: u32 = 50;
+
+// After how many milliseconds of sleep a crew is rung late.
+const NAP: u64 = 1;
+
+// How many turns are made in one crew before all are tried again.
+const ALONE: u32 = 2000;
 
 #[derive(Drop)]
 struct Crew {
@@ -101,6 +114,11 @@ impl Crew {
         self.bell.load(Ordering::SeqCst) == SLEEPS
     }
 
+    // Whether there are no more turns in this round.
+    fn is_over(&self) -> bool {
+        self.bell.load(Ordering::SeqCst) & OVER != 0
+    }
+
     // Tells it that there are no more turns in this round.
     fn end(&self) {
         self.bell.fetch_or(OVER | 1, Ordering::SeqCst);
@@ -117,6 +135,42 @@ pub(crate) struct Bells {
     begun: AtomicU64,
     // how many had begun when one of them waited for the others no more, else 0
     had: AtomicU64,
+    // whether a crew was rung late
+    late: AtomicBool,
+}
+
+/// In how many crews the turns of a run are made.
+#[derive(Drop)]
+pub(crate) struct Crews {
+    // as many as can be had
+    most: usize,
+    // other work has the processors: the next round is made in one
+    alone: bool,
+}
+
+impl Crews {
+    /// So many, as long as they can be had.
+    pub fn new(most: usize) -> Crews {
+        Crews { most, alone: false }
+    }
+
+    /// In how many the next round is made.
+    pub fn count(&self) -> usize {
+        if self.alone { 1 } else { self.most }
+    }
+
+    /// How many turns it has, where so many are asked for.
+    pub fn turns(&self, most: u32) -> u32 {
+        if self.alone { most.min(ALONE) } else { most }
+    }
+
+    /// What a round told, as its bells have it.
+    pub fn learn(&mut self, bells: &Bells) {
+        if let Some(had) = bells.had() {
+            self.most = self.most.min(had);
+        }
+        self.alone = bells.is_late();
+    }
 }
 
 /// The bit of a rank.
@@ -156,6 +210,7 @@ impl Bells {
             awake: AtomicU64::new(crews as u64),
             begun: AtomicU64::new(0),
             had: AtomicU64::new(0),
+            late: AtomicBool::new(false),
         })
     }
 
@@ -168,12 +223,17 @@ impl Bells {
         count
     }
 
-    /// In how many crews the turns should be made from now on, where so many were not to be had.
-    pub fn crews_left(&self, crews: usize) -> usize {
+    // How many crews could be had, where not all.
+    fn had(&self) -> Option<usize> {
         match self.had.load(Ordering::SeqCst) {
-            0 => crews,
-            had => crews.min(had as usize),
+            0 => None,
+            had => Some(had as usize),
         }
+    }
+
+    // Whether the round ended since a crew was rung late.
+    fn is_late(&self) -> bool {
+        self.late.load(Ordering::SeqCst)
     }
 
     /// A crew begins.
@@ -255,13 +315,24 @@ impl Bells {
         if !self.see_all_begin(rt, crew) && self.give_up(crew) {
             return false;
         }
+        crew.bell.park_timeout(rt, 0, Duration::from_millis(NAP));
+        let late = crew.is_asleep() && self.awake.load(Ordering::SeqCst) <= 1;
         for _ in rt.forever() {
             if !crew.is_asleep() {
+                if late && !crew.is_over() {
+                    self.end_late();
+                }
                 return true;
             }
             crew.bell.park(rt, 0);
         }
         unreachable!()
+    }
+
+    // Ends the turns of all crews, since one was rung late.
+    fn end_late(&self) {
+        self.late.store(true, Ordering::SeqCst);
+        self.end();
     }
 
     // Sleeps while others have not begun, but not for long. It answers whether they have, or something
@@ -275,7 +346,7 @@ impl Bells {
             if self.had.load(Ordering::SeqCst) != 0 {
                 return false;
             }
-            crew.bell.park_timeout(rt, 0, Duration::from_millis(1));
+            crew.bell.park_timeout(rt, 0, Duration::from_millis(NAP));
         }
         false
     }

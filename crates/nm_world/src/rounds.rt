@@ -9,7 +9,7 @@ ghost use Rattle.nm_world.specs.Idle.{AllIdle, Idle};
 ghost use Rattle.nm_world.specs.Sweeps.{HasSwept, Swept};
 
 use crate::Actor;
-use crate::bells::{Bells, place_of};
+use crate::bells::{Bells, Crews, place_of};
 use nm_chain::seats::Steps;
 use nm_copyring::Rings;
 use nm_outside::Gate;
@@ -212,11 +212,12 @@ pub fn round<R: Threads + Wait + Sync, G: Gate + Sync>(
     ensures idle { IfOk result (λ moved. moved ≡ false →
         AllIdle lines.now actors.old actors.new) }
 {
-    let mut crews = crews_for(rt, actors.len());
+    let mut crews = Crews::new(crews_for(rt, actors.len()));
     round_in(rt, actors, lines, f, r, gate, turns, &mut crews)
 }
 
-/// The same in so many crews, and from then on in fewer where not all of their threads could be had.
+/// The same in so many crews, and from then on in fewer where not all of their threads could be had, or
+/// where other work has the processors.
 pub(crate) fn round_in<R: Threads + Wait + Sync, G: Gate + Sync>(
     rt: &R,
     actors: &mut [Actor],
@@ -225,7 +226,7 @@ pub(crate) fn round_in<R: Threads + Wait + Sync, G: Gate + Sync>(
     r: &Rings,
     gate: &G,
     turns: u32,
-    crews: &mut usize,
+    crews: &mut Crews,
 ) -> Result<bool, Memory>
     requires stands { All (ActorInvariant lines.now f.now r.now) actors.old }
     requires turns { 0 < turns }
@@ -237,8 +238,10 @@ pub(crate) fn round_in<R: Threads + Wait + Sync, G: Gate + Sync>(
     let Some(one) = actors.first() else {
         return Ok(false);
     };
-    let bells = Bells::new(one.places.allocator(), actors, *crews)?;
-    let moved = halves(rt, actors, lines, f, r, gate, turns, &bells, 0, *crews)?;
-    *crews = bells.crews_left(*crews);
+    let count = crews.count();
+    let turns = crews.turns(turns);
+    let bells = Bells::new(one.places.allocator(), actors, count)?;
+    let moved = halves(rt, actors, lines, f, r, gate, turns, &bells, 0, count)?;
+    crews.learn(&bells);
     Ok(moved)
 }

@@ -22,6 +22,7 @@ ghost use Rattle.nm_world.specs.Runs.{AllAgree, AreRanked, InPlace};
 ghost use Rattle.nm_world.specs.Runs.{IsStillAt, IsWhole, NewInOrder, PairAgrees};
 
 use crate::Actor;
+use crate::bells::Crews;
 use crate::laws::{a_still_actor_ends, actors_at_rest_make_a_run};
 use crate::records::{Parts, add, parts_of};
 use crate::rounds::{crews_for, round_in};
@@ -114,7 +115,7 @@ fn settle<R: Threads + Wait + Sync, G: Gate + Sync>(
     ensures still { IfOk result (λ _. EachActor (λ i a. IsStillAt lines.now a) actors.new) }
     ensures agree { IfOk result (λ _. AllAgree actors.new) }
 {
-    let mut crews = crews_for(rt, actors.len());
+    let mut crews = Crews::new(crews_for(rt, actors.len()));
     for _ in rt.forever() {
         round_in(rt, actors, lines, f, r, gate, TURNS, &mut crews)?;
         let still = are_still(actors, lines);
