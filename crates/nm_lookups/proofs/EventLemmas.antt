@@ -442,7 +442,8 @@ module _ {h : List Event} {old : Replay} (replays : Replays h old) where
       arrival_takes replays new stamp a None gone_before is_new
       (sym (first_open h a.env) ∙ mapped_none (λ (p : post.Post). p.number)
       (find (λ p. matches p.from p.tag p.ctx a.env) (open_receives h)) (sym told.0 ∙ is))
-      (before ∙ replays.gone (id_of_arrival a)) table posts (closed_same replays new closed) (gone_same replays new gone)
+      (before ∙ replays.gone (id_of_arrival a)) table posts (closed_same replays new closed)
+      (gone_same replays new gone)
       (subst (λ (o : Option ℕ). HasQueues (posted_after_arrival (open_receives h) o)
       (unexpected_after_arrival a gone_before (free_messages h) o) (is_posted h)
       (λ from n. is_known_message h from n || (a.env.from == from && a.n == n)) new.matcher) is told.1)

@@ -14,7 +14,8 @@ use Rattle.nm_script.specs.TextReading.{AnswersText, IsRefused, Reader, lines_fr
 use Rattle.nm_script.specs.TextRules.{AllKept, Grammar, IsFaultBehind, IsFaultIn, IsFaultOf, IsFirstFaultIn}
 use Rattle.nm_script.specs.TextRules.{IsFirstOf, IsTextIn, first_of, ranks_text, text_with}
 use Rattle.nm_script.proofs.FirstLineLemmas.{none_first, one_first, ranks_solid}
-use Rattle.nm_script.proofs.LineLemmas.{is_some_line, joined_either, lines_fed, lines_split, some_joined, text_len-lines}
+use Rattle.nm_script.proofs.LineLemmas.{is_some_line, joined_either, lines_fed, lines_split, some_joined}
+use Rattle.nm_script.proofs.LineLemmas.{text_len-lines}
 use Rattle.nm_script.proofs.StepLemmas.{at_line_err, at_line_ok, bind_err, only_first, unless_ok}
 use Rattle.nm_script.proofs.WordLemmas.{joined_printable}
 use Rattle.nm_script.proofs.WordsStepLemmas.{bind_ok, chosen}

@@ -23,7 +23,8 @@ loop-rest-preserved c =
     let so_far : lines_from plan_reader ranks old (text ∷ texts) ≡ total =
     ap (lines_from plan_reader ranks old) (sym c.split_line.ensures.lines) ∙ c.loop-rest.invariant.read in
     record {
-      read = ap (λ ls. lines_from plan_reader ranks ls texts) adds.2 ∙ goes_on plan_reader ranks old text texts adds.0 total so_far
+      read = ap (λ ls. lines_from plan_reader ranks ls texts) adds.2 ∙
+          goes_on plan_reader ranks old text texts adds.0 total so_far
           (ap (at_line (length old + 2)) at);
       draft = c.in_ok-other_line.ensures.draft;
       ranks = c.in_ok-other_line.ensures.ranks ∙ c.loop-rest.invariant.ranks;
