@@ -57,7 +57,8 @@ module _ (ranks i n : ℕ) where
     where
       by_first : (b : Bool) → is_arrival i n e.what ≡ b →
           (b || list_any (λ e. is_arrival i n e.what) events) ≡ true →
-          (list_any (λ e. is_arrival i n e.what) events ≡ true → n < length (arrivals ((before ++ e ∷ []) ++ events) i)) →
+          (list_any (λ e. is_arrival i n e.what) events ≡ true →
+          n < length (arrivals ((before ++ e ∷ []) ++ events) i)) →
           n < length (arrivals (before ++ e ∷ events) i)
       by_first true is there later =
           let here : length (arrivals (before ++ e ∷ []) i) ≡ n + 1 =

@@ -115,7 +115,8 @@ module _ (lines : List Line) (ranks : List Ended) (i j : ℕ) where
         (at_each_event (UndoneAfterWithdraw i j hj) (read_of spot.rank (spot.at + 1) i hi) right.1));
   }
 
-  pub withdrawals_first : (a b : Option Spot) → FirstAt lines ranks part.Withdrawals j i a → FirstAt lines ranks part.Answers i j b →
+  pub withdrawals_first : (a b : Option Spot) → FirstAt lines ranks part.Withdrawals j i a →
+      FirstAt lines ranks part.Answers i j b →
       IsFirstBetween lines ranks i j carried.Withdrawals (first_read a b)
   withdrawals_first None None asked answered = record {
     asked = each_event (WithdrawAfterRecall i j hi) hj asked;

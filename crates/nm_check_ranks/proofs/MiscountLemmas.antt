@@ -73,7 +73,8 @@ few_packets h pairs to are few =
 
 -- a row with one count more, which is that of the next rank, or none where that is 0
 module _ (from : ℕ) (due : ℕ → ℕ) (to : ℕ) (old now : List Packets) (so_far : now ≡ old ++ row_from from due 0 to) where
-  pub row_pushed : (p : Packets) → 0 < due to → p ≡ own from due to → now ++ p ∷ [] ≡ old ++ row_from from due 0 (to + 1)
+  pub row_pushed : (p : Packets) → 0 < due to → p ≡ own from due to → now ++ p ∷ [] ≡ old ++ row_from from due 0
+      (to + 1)
   row_pushed p some is =
       ap (λ (ps : List Packets). ps ++ p ∷ []) so_far ∙ append_assoc old (row_from from due 0 to) (p ∷ [])
       ∙ ap (λ (x : Packets). old ++ (row_from from due 0 to ++ x ∷ [])) is
@@ -123,17 +124,20 @@ module _ (pairs due : List PairCount) (k : ℕ) (so_far : take k (packets_of pai
       record {
         same = subst (λ (n : ℕ). take n (packets_of pairs) ≡ take n (packets_of due)) end so_far;
         other = λ e.
-            none-some next.0 (sym (slice_get_past (packets_of pairs) (length pairs) (omega (arith, first))) ∙ e ∙ next.1);
+            none-some next.0 (sym (slice_get_past (packets_of pairs) (length pairs) (omega (arith, first))) ∙ e
+            ∙ next.1);
       }
 
 -- whether the count at a place is the one that is asked for
 pub there_decided : (due : List PairCount) (k : ℕ) (other : PairCount) (p : Packets) (r : Bool) →
-    slice_get due k ≡ Some other → Decides r (counted_pair other ≡ p) → Decides r (slice_get (packets_of due) k ≡ Some p)
+    slice_get due k ≡ Some other → Decides r (counted_pair other ≡ p) →
+    Decides r (slice_get (packets_of due) k ≡ Some p)
 there_decided due k other p true here same = get_map counted_pair due k other here ∙ ap Some same
 there_decided due k other p false here not = λ is.
     not (same_some (counted_pair other) p (sym (get_map counted_pair due k other here) ∙ is))
 
-pub none_there : (due : List PairCount) (k : ℕ) (p : Packets) → length due ≤ k → slice_get (packets_of due) k ≡ Some p → ⊥
+pub none_there : (due : List PairCount) (k : ℕ) (p : Packets) → length due ≤ k →
+    slice_get (packets_of due) k ≡ Some p → ⊥
 none_there due k p over is =
     let many : length (packets_of due) ≡ length due = length-map due counted_pair in
     none-some p (sym (slice_get_past (packets_of due) k (omega (arith, many, over))) ∙ is)

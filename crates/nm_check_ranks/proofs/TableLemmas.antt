@@ -31,7 +31,8 @@ pub tables_at : (ranks : List RankAccount) (tables : List Tables) (i : ℕ) (a :
     (tabled : AreTabled (ends_of ranks) tables) →
     i < length ranks → a ≡ get_or ranks i a → t ≡ get_or tables i t → AreRankTables i tabled.0 a.history.events t
 tables_at ranks tables i a t tabled inside is its =
-    subst (λ (o : Option Ended). IsSomeAnd o (λ rank. AreRankTables i tabled.0 rank.events t)) (end_at ranks i a inside is)
+    subst (λ (o : Option Ended). IsSomeAnd o (λ rank. AreRankTables i tabled.0 rank.events t))
+    (end_at ranks i a inside is)
     (tabled.1.each i t (table_inside ranks tables i tabled inside) its)
 
 -- the history of the rank at a place
@@ -92,5 +93,6 @@ pub tabled_rank : (lines : List Line) (ranks : List RankAccount) (i : ℕ) (a : 
     i < length ranks → a ≡ get_or ranks i a → AreRankTables i lines a.history.events t →
     TabledAt lines (ends_of ranks) i t
 tabled_rank lines ranks i a t inside is its =
-    subst (λ (o : Option Ended). IsSomeAnd o (λ rank. AreRankTables i lines rank.events t)) (sym (end_at ranks i a inside is))
+    subst (λ (o : Option Ended). IsSomeAnd o (λ rank. AreRankTables i lines rank.events t))
+    (sym (end_at ranks i a inside is))
     its

@@ -17,7 +17,8 @@ pub loop-k-preserved : goal.loop-k-preserved
 loop-k-preserved c =
     goes_on (PartAt c.args.part c.args.lines.now (ends_of c.args.ranks.now) c.args.x c.args.y) c.args.events.now
     c.loop-k.k c.index-events-k.result c.loop-k-test.true c.index-events-k.is c.loop-k.invariant
-    (rw c.if-is_named.false at (named_keeps (λ y. PartAt c.args.part c.args.lines.now (ends_of c.args.ranks.now) c.args.x y
+    (rw c.if-is_named.false at
+    (named_keeps (λ y. PartAt c.args.part c.args.lines.now (ends_of c.args.ranks.now) c.args.x y
     (take c.loop-k.k c.args.events.now) c.index-events-k.result) c.broken_with-named.result c.args.y
     c.is_named.result c.is_named.ensures
     (c.broken_with-named.ensures c.requires.numbered.0 c.args.events.now c.requires.own
@@ -29,7 +30,8 @@ pub returns-then-is_named : goal.returns-then-is_named
 returns-then-is_named c =
     breaks_first (PartAt c.args.part c.args.lines.now (ends_of c.args.ranks.now) c.args.x c.args.y) c.args.events.now
     c.loop-k.k c.index-events-k.result c.loop-k-test.true c.index-events-k.is c.loop-k.invariant
-    (rw c.if-is_named.true at (named_keeps (λ y. PartAt c.args.part c.args.lines.now (ends_of c.args.ranks.now) c.args.x y
+    (rw c.if-is_named.true at
+    (named_keeps (λ y. PartAt c.args.part c.args.lines.now (ends_of c.args.ranks.now) c.args.x y
     (take c.loop-k.k c.args.events.now) c.index-events-k.result) c.broken_with-named.result c.args.y
     c.is_named.result c.is_named.ensures
     (c.broken_with-named.ensures c.requires.numbered.0 c.args.events.now c.requires.own

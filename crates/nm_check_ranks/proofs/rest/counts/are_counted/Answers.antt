@@ -27,7 +27,8 @@ loop-i-preserved c = λ lines.
     (ap (λ (t : Tables). get_or c.args.tables.now c.loop-i.i t) c.index-tables-i.is)).tells in
     let due : AreDue c.counts_of-counts.result (packets_to c.index-ranks-i.result.history.events) =
     rw c.as_slice-events.ensures at
-    (c.counts_of-counts.ensures.exact (pairs ∙ ap (λ (h : List Event). matched_pairs h) (sym c.as_slice-events.ensures))) in
+    (c.counts_of-counts.ensures.exact
+    (pairs ∙ ap (λ (h : List Event). matched_pairs h) (sym c.as_slice-events.ensures))) in
     rank_more lines c.args.ranks.now c.loop-i.i c.index-ranks-i.result c.loop-i-test.true c.index-ranks-i.is
     (packets_of c.args.pairs.now)
     (packets_of c.loop-i.left.now) (packets_of c.in-Some.others.now) (c.loop-i.invariant lines)
@@ -43,7 +44,8 @@ returns-in-None c = λ lines same.
     (ap (λ (t : Tables). get_or c.args.tables.now c.loop-i.i t) c.index-tables-i.is)).tells in
     let due : AreDue c.counts_of-counts.result (packets_to c.index-ranks-i.result.history.events) =
     rw c.as_slice-events.ensures at
-    (c.counts_of-counts.ensures.exact (pairs ∙ ap (λ (h : List Event). matched_pairs h) (sym c.as_slice-events.ensures))) in
+    (c.counts_of-counts.ensures.exact
+    (pairs ∙ ap (λ (h : List Event). matched_pairs h) (sym c.as_slice-events.ensures))) in
     rank_breaks lines c.args.ranks.now c.loop-i.i c.index-ranks-i.result c.loop-i-test.true c.index-ranks-i.is
     (packets_of c.args.pairs.now)
     (packets_of c.loop-i.left.now) (c.loop-i.invariant lines)

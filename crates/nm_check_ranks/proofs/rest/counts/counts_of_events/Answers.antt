@@ -14,11 +14,13 @@ loop-e-preserved c = (
   due_same c.add.new.counts (λ to. packets_of_events to (take c.loop-e.e-index c.args.events.now) + load_to to
       c.load_of_event.result)
       (λ to. packets_of_events to (take (c.loop-e.e-index + 1) c.args.events.now))
-      (λ to. ap (λ n. packets_of_events to (take c.loop-e.e-index c.args.events.now) + n) (c.load_of_event.ensures.exact to)
+      (λ to. ap (λ n. packets_of_events to (take c.loop-e.e-index c.args.events.now) + n)
+      (c.load_of_event.ensures.exact to)
       ∙ one_event c.args.events.now c.loop-e.e-index c.e-item.result to c.loop-e-test.true c.e-item.is)
       (c.add.ensures (λ to. packets_of_events to (take c.loop-e.e-index c.args.events.now)) c.loop-e.invariant.0),
   λ to.
-      few_more c.args.events.now c.loop-e.e-index c.e-item.result c.load_of_event.result to c.loop-e-test.true c.e-item.is
+      few_more c.args.events.now c.loop-e.e-index c.e-item.result c.load_of_event.result to c.loop-e-test.true
+      c.e-item.is
       (c.loop-e.invariant.1 to) (c.load_of_event.ensures.exact to) c.load_of_event.ensures.few,
 )
 

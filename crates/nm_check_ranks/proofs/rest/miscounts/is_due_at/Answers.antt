@@ -12,7 +12,9 @@ returns-in-Some c =
     first_of (omega (arith, c.from.ensures), search rules, grind (arith, common_steps)) in
     there_decided c.args.due.now c.args.at c.in-Some.other.now (counted_pair c.args.pair.now) c.is_pair.result
     (slice_get_read c.args.due.now (length c.args.due.now) c.args.at c.in-Some.other.now refl
-    (ltb-true c.args.at (length c.args.due.now) (sym c.in-Some.ensures.lookup.0)) c.in-Some.ensures.lookup.1) (c.is_pair.ensures c.args.pair.now.packets count)
+    (ltb-true c.args.at (length c.args.due.now) (sym c.in-Some.ensures.lookup.0)) c.in-Some.ensures.lookup.1)
+    (c.is_pair.ensures c.args.pair.now.packets count)
 
 pub returns-in-None : goal.returns-in-None
-returns-in-None c = none_there c.args.due.now c.args.at (counted_pair c.args.pair.now) (omega (arith, c.in-None.ensures.lookup))
+returns-in-None c = none_there c.args.due.now c.args.at (counted_pair c.args.pair.now)
+    (omega (arith, c.in-None.ensures.lookup))

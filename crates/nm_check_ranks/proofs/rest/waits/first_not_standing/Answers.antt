@@ -30,12 +30,14 @@ pub returns-then-not-is_standing : goal.returns-then-not-is_standing
 returns-then-not-is_standing c = record {
   earlier = below (λ i rank. IsStopped (commands_of i c.args.lines.now) rank) (ends_of c.args.ranks.now) c.loop-i.i
       c.loop-i.invariant;
-  first = subst (λ (o : Option Ended). IsSomeAnd o (λ rank. IsStopped (commands_of c.loop-i.i c.args.lines.now) rank → ⊥))
+  first = subst (λ (o : Option Ended). IsSomeAnd o (λ rank. IsStopped (commands_of c.loop-i.i c.args.lines.now) rank →
+      ⊥))
       (sym (end_at c.args.ranks.now c.loop-i.i c.index-ranks-i.result c.loop-i-test.true c.index-ranks-i.is))
       (rw c.if-not-is_standing.true at c.is_standing.ensures);
 }
 
 pub returns : goal.returns
 returns c =
-    all_ranks (λ i rank. IsStopped (commands_of i c.args.lines.now) rank) c.args.ranks.now c.loop-i.i c.loop-i-test.false
+    all_ranks (λ i rank. IsStopped (commands_of i c.args.lines.now) rank) c.args.ranks.now c.loop-i.i
+    c.loop-i-test.false
     c.loop-i.invariant
