@@ -1,5 +1,6 @@
 -- From rest and both closes.
-use Rattle.std.proofs.Common.{◌≡◌, ℕ, ◌*◌, Some, List, map, sym, ap, ◌∙◌, subst, arith}
+use Rattle.std.proofs.Common.{◌≡◌, ℕ, ◌*◌, Some, List, length, map, refl, sym, ap, ◌∙◌, subst, arith}
+use Rattle.std.proofs.lemmas.List.{length-map}
 use Rattle.std.specs.Prelude.{slice_get}
 use Rattle.std.proofs.Common.{get_or}
 use Rattle.std.proofs.lemmas.Option.{slice_get-get_or}
@@ -202,3 +203,30 @@ parts_of-requires-clause-each g c =
     let at_end = in_place_kept c.args.shape lines f r 0 cast actors place settled.kept in
     subst (λ (n : ℕ). AreToTell n lines actors) (sym (c.ranks.ensures ∙ fabric.fabric.0))
     (to_tell c.args.shape lines f r 0 actors at_end fabric.fabric.0)
+
+pub returns-clause-shaped : goal.returns-clause-shaped
+returns-clause-shaped g c = refl
+
+pub returns-clause-account : goal.returns-clause-account
+returns-clause-account g c = c.account-cells.ensures
+
+pub returns-clause-done : goal.returns-clause-done
+returns-clause-done g c = c.in_ok-parts.ensures.done
+
+pub close-closed-requires-clause-count : goal.close-closed-requires-clause-count
+close-closed-requires-clause-count g c =
+    let f = c.in_ok-fabric.fabric in
+    let actors = c.settle_all.new.actors.items in
+    ap length c.in_ok-parts.ensures.ports ∙ length-map actors (λ (a : Actor). a.port)
+    ∙ kept_many c.args.lines.now f c.in_ok-rings.rings c.in_ok-actors.actors.items actors
+    c.in_ok-settle_all.ensures.kept ∙ c.in_ok-actors.ensures.many ∙ c.in_ok-fabric.ensures.fabric.2
+    ∙ sym c.in_ok-fabric.ensures.fabric.0
+
+pub close-rings-requires-clause-count : goal.close-rings-requires-clause-count
+close-rings-requires-clause-count g c =
+    let r = c.in_ok-rings.rings in
+    let actors = c.settle_all.new.actors.items in
+    ap length c.in_ok-parts.ensures.rings ∙ length-map actors (λ (a : Actor). a.ring)
+    ∙ kept_many c.args.lines.now c.in_ok-fabric.fabric r c.in_ok-actors.actors.items actors
+    c.in_ok-settle_all.ensures.kept ∙ c.in_ok-actors.ensures.many ∙ c.in_ok-fabric.ensures.fabric.2
+    ∙ sym c.in_ok-rings.ensures.rings.0
