@@ -75,7 +75,8 @@ module _ {s : Ending} where
   usage_is (Outgrown n) e h = absurd (omega (arith, (whole e 2 h (λ f. cc)).0))
   usage_is (Told t) e h = absurd (not_told t 2 (inl (omega arith, omega arith)) (whole e 2 h (λ f. cc)).0)
 
-  pub not_taken_is : (answer : Response) → TellsOutcomes s answer → NotTaken s.words → OrUnwritten (s.status ≡ 2) s.status
+  pub not_taken_is : (answer : Response) → TellsOutcomes s answer → NotTaken s.words →
+      OrUnwritten (s.status ≡ 2) s.status
   not_taken_is Usage e none = or_fails e (λ h. h)
   not_taken_is Unread e none = absurd (none e.right.asked e.right.taken)
   not_taken_is NoReport e none = absurd (none e.right.asked e.right.taken)
@@ -83,7 +84,8 @@ module _ {s : Ending} where
   not_taken_is (Outgrown n) e none = absurd (none e.right.asked e.right.taken)
   not_taken_is (Told t) e none = absurd (none e.right.asked e.right.taken)
 
-  pub refused_is : (answer : Response) → TellsOutcomes s answer → (asked : Asked) → IsTaken s.words asked → s.status ≡ 3 →
+  pub refused_is : (answer : Response) → TellsOutcomes s answer → (asked : Asked) → IsTaken s.words asked →
+      s.status ≡ 3 →
       IfSome s.input (IsRefused asked s.before s.after)
   refused_is Usage e asked taken h = absurd (omega (arith, (whole e 3 h (λ f. cc)).0))
   refused_is Unread e asked taken h = absurd (omega (arith, (whole e 3 h (λ f. cc)).0))
@@ -199,7 +201,8 @@ module _ {s : Ending} where
   no_other {answer} e speaks apart =
       spoken s.status speaks (status_of answer) apart (whole_spoken e speaks).0
 
-  pub told_is : (answer : Response) → TellsOutcomes s answer → (asked : Asked) → IsTaken s.words asked → IsSpoken s.status →
+  pub told_is : (answer : Response) → TellsOutcomes s answer → (asked : Asked) → IsTaken s.words asked →
+      IsSpoken s.status →
       IfSome s.input (IsTold asked s.status s.before s.after)
   told_is Usage e asked taken h = absurd (no_other e h (inl (omega arith, omega arith)))
   told_is Unread e asked taken h = absurd (no_other e h (inl (omega arith, omega arith)))
@@ -224,7 +227,8 @@ module _ {s : Ending} where
         said = w.1;
       }) (right_of {answer = Told t} e asked taken e.right.asked e.right.taken e.right.right)
 
-  pub no_report_is : (answer : Response) → TellsOutcomes s answer → (asked : Asked) → IsTaken s.words asked → s.status ≡ 9 →
+  pub no_report_is : (answer : Response) → TellsOutcomes s answer → (asked : Asked) → IsTaken s.words asked →
+      s.status ≡ 9 →
       IfSome s.input (λ bytes. (asked.question ≡ question.Among) × HasNoReport (read_of asked.question bytes))
       × Appends s.before s.after no_report
   no_report_is Usage e asked taken h = absurd (omega (arith, (whole e 9 h (λ f. cc)).0))
@@ -238,7 +242,8 @@ module _ {s : Ending} where
   no_report_is (Told t) e asked taken h =
       absurd (not_told t 9 (inr (omega arith)) (whole e 9 h (λ f. cc)).0)
 
-  pub outgrown_is : (answer : Response) → TellsOutcomes s answer → (asked : Asked) → IsTaken s.words asked → s.status ≡ 10 →
+  pub outgrown_is : (answer : Response) → TellsOutcomes s answer → (asked : Asked) → IsTaken s.words asked →
+      s.status ≡ 10 →
       IfSome s.input (IsOutgrown asked s.before s.after)
   outgrown_is Usage e asked taken h = absurd (omega (arith, (whole e 10 h (λ f. cc)).0))
   outgrown_is Unread e asked taken h = absurd (omega (arith, (whole e 10 h (λ f. cc)).0))
