@@ -1,4 +1,4 @@
-mod CutLemmas
+pub mod CutLemmas
 mod JoinLemmas
 pub mod MessageLemmas
 pub mod MissingLemmas

@@ -1,15 +1,12 @@
 -- What contracts see of a cutter.
-use Rattle.std.specs.Prelude.{◌≡◌, ℕ, ◌+◌, ◌==◌, if◌then◌else◌, List, length, IsSomeAnd}
-use Rattle.std.specs.List.{slice_get}
-use Rattle.nm_types.specs.declared.packets.Packet.{Packet}
+use Rattle.std.specs.Prelude.{◌≡◌, ℕ, ◌+◌, ◌==◌, if◌then◌else◌, List, length}
 use Rattle.nm_types.specs.declared.packets.What.{What}
 use Rattle.nm_types.specs.declared.packets.What.TheVariants as what
 use Rattle.nm_history.specs.Sends.{Sent}
-use Rattle.nm_history.specs.Outgoing.{eager_packets, further_packets, IsCalled}
+use Rattle.nm_history.specs.Outgoing.{further_packets}
 
 -- an eager message, and how many of its packets were given
 pub record Cutting : Type 0 where
-  pub from : ℕ
   pub n : ℕ
   pub tag : ℕ
   pub ctx : ℕ
@@ -33,9 +30,3 @@ pub record IsMessageOf (cutting : Cutting) (s : Sent) : Type 0 where
   pub tag : s.tag ≡ cutting.tag
   pub ctx : s.ctx ≡ cutting.ctx
   pub len : s.len ≡ length cutting.body
-
--- the packet is the next one that a send of the message calls for, with this number
-abbrev pub IsNextPacket : Cutting → Sent → ℕ → Packet → Type 0
-IsNextPacket cutting s number p =
-    IsSomeAnd (slice_get (eager_packets s cutting.body) cutting.given)
-    (λ called. IsCalled cutting.from number called p)

@@ -1,13 +1,10 @@
 //! The sender's end.
 
-ghost use Rattle.std.specs.Prelude.{◌≡◌, ◌+◌, ◌*◌, ◌<◌, ◌≤◌, ◌↔◌, IfSome, IfNone};
-ghost use Rattle.std.specs.Prelude.{IsNone, OnSome, IsTrue};
-ghost use Rattle.nm_types.specs.declared.limits.TheConstants.{MAX_EAGER, MAX_PACKETS, MAX_PAYLOAD};
-ghost use Rattle.nm_types.specs.declared.limits.TheConstants.{MAX_STAMP};
+ghost use Rattle.std.specs.Prelude.{◌≡◌, ◌+◌, ◌*◌, ◌<◌, ◌≤◌, length};
+ghost use Rattle.nm_types.specs.declared.limits.TheConstants.{MAX_EAGER, MAX_PAYLOAD};
 ghost use Rattle.nm_types.specs.Bodies.{bytes_of, body_len};
-ghost use Rattle.nm_history.specs.Sends.{Sent};
 ghost use Rattle.nm_history.specs.Outgoing.{part_at};
-ghost use Rattle.nm_eager.specs.Cutting.{IsMessageOf, IsNextPacket, next_what, packet_count};
+ghost use Rattle.nm_eager.specs.Cutting.{next_what, packet_count};
 
 use nm_types::ranges::copy_range;
 use nm_types::{Body, MAX_PAYLOAD, Packet, Payload, What, laws};
@@ -16,7 +13,6 @@ use std::marker::Model;
 /// The sender's end of an eager message, which it cuts into packets.
 #[derive(Drop)]
 pub struct Cutter {
-    from: u8,
     n: u64,
     tag: u16,
     ctx: u8,
@@ -33,7 +29,6 @@ impl Model for Cutter {
     ghost Value = { Cutting };
 
     ghost view = { λ a. record {
-      from = a.from;
       n = a.n;
       tag = a.tag;
       ctx = a.ctx;
@@ -47,10 +42,9 @@ impl Model for Cutter {
 
 impl Cutter {
     /// Cuts message n of a rank, of at most 4,096 bytes.
-    pub fn new(from: u8, n: u64, tag: u16, ctx: u8, body: Body) -> Self
+    pub fn new(n: u64, tag: u16, ctx: u8, body: Body) -> Self
         requires { body_len body ≤ MAX_EAGER }
         ensures { result ≡ record {
-          from = from;
           n = n;
           tag = tag;
           ctx = ctx;
@@ -60,7 +54,6 @@ impl Cutter {
     {
         laws::bodies_have_their_length();
         Cutter {
-            from,
             n,
             tag,
             ctx,
@@ -69,36 +62,40 @@ impl Cutter {
         }
     }
 
-    /// The next packet, with this number and stamp. It takes no memory.
-    pub fn next(&mut self, seq: u64, stamp: u64) -> Option<Packet>
-        requires seq_in_range { seq < MAX_PACKETS }
-        requires stamp_in_range { stamp ≤ MAX_STAMP }
-        ensures called { IfSome result (λ p.
-            (s : Sent) → IsMessageOf self.old s → s.stamp ≤ stamp → IsNextPacket self.old s seq p) }
-        ensures stamped { IfSome result (λ p. p.stamp ≡ stamp) }
-        ensures count { OnSome result (self.new ≡ record self.old { given = self.old.given + 1 }) }
-        ensures none { IsNone result ↔ (packet_count self.old ≤ self.old.given) }
-        ensures same { IfNone result (self.new ≡ self.old) }
+    /// How many packets the message is cut into.
+    pub fn count(&self) -> u32
+        ensures { result ≡ packet_count self.now }
     {
-        if self.is_done() {
-            return None;
-        }
-        let packet = Packet {
-            from: self.from,
-            seq,
-            stamp,
-            what: self.next_what(),
-            payload: self.next_payload(),
-        };
-        self.given += 1;
-        Some(packet)
+        1 + self.body.len().saturating_sub(1) / MAX_PAYLOAD as u32
     }
 
-    /// Whether every packet was given.
-    fn is_done(&self) -> bool
-        ensures { IsTrue result ↔ (packet_count self.now ≤ self.now.given) }
+    /// The number of the message.
+    pub fn n(&self) -> u64
+        ensures { result ≡ self.now.n }
     {
-        self.given > 0 && self.start() >= self.body.len()
+        self.n
+    }
+
+    /// Makes it the next packet, but for its sender, its number and its stamp. It takes no memory, and
+    /// copies the packet's bytes once.
+    pub fn fill(&self, into: &mut Packet)
+        requires { self.now.given < packet_count self.now }
+        ensures { into.new
+            ≡ record into.old {
+              what = next_what self.now;
+              payload = part_at MAX_PAYLOAD self.now.body self.now.given;
+            } }
+    {
+        into.what = self.next_what();
+        self.fill_payload(&mut into.payload);
+    }
+
+    /// Counts the next packet as given: the one behind it is the next.
+    pub fn step(&mut self)
+        requires { self.old.given < packet_count self.old }
+        ensures { self.new ≡ record self.old { given = self.old.given + 1 } }
+    {
+        self.given += 1;
     }
 
     /// Where in the body the next packet begins.
@@ -123,15 +120,15 @@ impl Cutter {
         }
     }
 
-    /// The bytes of the next packet.
-    fn next_payload(&self) -> Payload
+    /// Makes it the bytes of the next packet.
+    fn fill_payload(&self, into: &mut Payload)
         requires { self.now.given < packet_count self.now }
-        ensures { result ≡ part_at MAX_PAYLOAD self.now.body self.now.given }
+        ensures { into.new ≡ part_at MAX_PAYLOAD self.now.body self.now.given }
     {
         let start = self.start();
         let size = (self.body.len() - start).min(MAX_PAYLOAD as u32) as usize;
         let mut bytes = [0; MAX_PAYLOAD as usize];
         copy_range(&self.body, start, size, &mut bytes);
-        Payload::of(&bytes[..size])
+        into.set(&bytes[..size]);
     }
 }

@@ -1,9 +1,9 @@
 //! Eager messages: cut into packets at the sender, and joined again at the receiver.
 //!
-//! MPI 3.1, sections 3.4 and 3.5. A `Cutter` gives the packets of one message: a head with the
-//! first 256 bytes, then one more packet for every further 256 bytes or the rest. A `Joiner` takes
-//! the packets of all senders, keeps the bytes of each message until it is taken, and keeps no
-//! packet.
+//! MPI 3.1, sections 3.4 and 3.5. A `Cutter` gives the packets of one message, each where the caller
+//! wants it: a head with the first 256 bytes, then one more packet for every further 256 bytes or the
+//! rest. A `Joiner` takes the packets of all senders, keeps the bytes of each message until it is
+//! taken, and keeps no packet.
 //!
 //! # What a contract sees
 //! A cutter is a message and the number of packets given. A joiner is the sizes of the run and, for
@@ -12,8 +12,8 @@
 //! has the definitions: what the messages of a list of packets are, what one packet changes, and
 //! which packets continue their stream.
 //! # What is proved
-//! - `next` gives the packets that a send calls for, each once and in order (clauses `called` and
-//!   `none`).
+//! - `fill` makes the next packet, with its part of the body, `step` goes on to the one behind it, and
+//!   `count` tells how many there are.
 //! - `continues` is the protocol's answer of a packet of a message, by two numbers, and `fits` is true
 //!   exactly of an eager one that continues its stream (clause `value`); `add` and
 //!   `skip` change a stream by one step (clause `step`), and `take` removes one message (clause

@@ -10,7 +10,7 @@ use Rattle.nm_history.specs.AtEach.{in_turn_after}
 use Rattle.nm_history.specs.Outgoing.{send_pieces}
 use Rattle.nm_history.specs.Sends.{Sent, sends}
 use Rattle.nm_history.specs.Clock.{stamped}
-use Rattle.nm_sending.specs.declared.outbox.letters.Letter.{Letter}
+use Rattle.nm_sending.specs.Letters.{Letter}
 use Rattle.nm_sending.specs.Outboxes.{popped_to}
 use Rattle.nm_sending.specs.Departures.{ended_by, ends_to}
 use Rattle.nm_sending.specs.Sent.{outs}

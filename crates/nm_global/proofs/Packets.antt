@@ -13,7 +13,7 @@ use Rattle.nm_history.specs.Outgoing.{AreCalled, Called, outgoing, packets_by}
 use Rattle.nm_history.specs.Sends.{Sent}
 use Rattle.nm_history.proofs.OutgoingLemmas.{called-append}
 use Rattle.nm_history.specs.Clock.{stamped}
-use Rattle.nm_sending.specs.declared.outbox.letters.Letter.{Letter}
+use Rattle.nm_sending.specs.Letters.{Letter}
 use Rattle.nm_sending.specs.Letters.{packets_for}
 use Rattle.nm_sending.specs.Outboxes.{OutboxView, popped_to, put_to}
 use Rattle.nm_sending.specs.Sent.{outs}

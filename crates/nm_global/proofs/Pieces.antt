@@ -16,11 +16,12 @@ use Rattle.nm_history.specs.Outgoing.{send_pieces}
 use Rattle.nm_history.specs.Sends.{Sent, is_ask, sends}
 use Rattle.nm_history.specs.Clock.{stamped}
 use Rattle.nm_rndv.specs.Offers.{Offering}
-use Rattle.nm_sending.specs.declared.outbox.letters.Letter.{Letter}
+use Rattle.nm_sending.specs.Letters.{Letter}
 use Rattle.nm_sending.specs.Letters.{packets_for}
 use Rattle.nm_sending.specs.Outboxes.{OutboxView, put_to}
 use Rattle.nm_sending.specs.Departures.{ends_to, pushed_to}
-use Rattle.nm_sending.specs.Sent.{Puts, last_ends}
+use Rattle.nm_sending.specs.Letters.{last_ends}
+use Rattle.nm_sending.specs.Sent.{Puts}
 use Rattle.nm_rank.specs.Ranks.{RankView}
 use Rattle.nm_global.specs.Emitted.{ArePiecesLeft, IsEager, begun, sent_in}
 use Rattle.nm_global.proofs.Turns.{in_turn-append, turn-none}

@@ -23,7 +23,7 @@ use Rattle.nm_history.specs.Continues.{WORN_STAMP}
 use Rattle.nm_history.specs.Known.{Known, known_by}
 use Rattle.nm_history.specs.Rest.{EagerHaveLeft, EmptyAreHere}
 use Rattle.nm_rndv.specs.Offers.{AllOut}
-use Rattle.nm_sending.specs.declared.outbox.letters.Letter.{Letter}
+use Rattle.nm_sending.specs.Letters.{Letter}
 use Rattle.nm_sending.specs.Letters.{packets_for}
 use Rattle.nm_sending.specs.Outboxes.{popped_to}
 use Rattle.nm_rank.specs.Ranks.{RankView}

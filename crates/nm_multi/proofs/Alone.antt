@@ -7,7 +7,7 @@ use Rattle.std.specs.Prelude.{MatchOption, slice_get, slice_index_or, slice_set}
 use Rattle.std.proofs.lemmas.List.{get_or-set_same, length-set}
 use Rattle.nm_types.specs.declared.packets.Packet.{Packet}
 use Rattle.nm_types.specs.Sizes.{Sizes}
-use Rattle.nm_sending.specs.declared.outbox.letters.Letter.{Letter}
+use Rattle.nm_sending.specs.Letters.{Letter}
 use Rattle.nm_sending.specs.Outboxes.{OutboxView, popped_to}
 use Rattle.nm_rank.specs.Calls.{TakesPacket}
 use Rattle.nm_rank.specs.Pops.{PopsPacket}

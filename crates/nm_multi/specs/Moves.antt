@@ -1,7 +1,7 @@
 -- What a rank that has only itself to send to does with its packets.
 use Rattle.std.specs.Prelude.{◌≡◌, ℕ, zero, suc, ◌+◌, ◌≤◌, ◌⊎◌, Some, [], length}
 use Rattle.std.specs.Prelude.{slice_get}
-use Rattle.nm_sending.specs.declared.outbox.letters.Letter.{Letter}
+use Rattle.nm_sending.specs.Letters.{Letter}
 use Rattle.nm_sending.specs.Outboxes.{popped_to}
 use Rattle.nm_history.specs.Rules.{AreRight}
 use Rattle.nm_rank.specs.Calls.{TakesPacket}

@@ -8,9 +8,9 @@ ghost use Rattle.nm_multi.specs.declared.calls.Call.TheVariants.{Pump};
 
 use crate::Reply;
 use nm_rank::Rank;
-use nm_types::Memory;
+use nm_types::{Memory, Packet};
 
-/// Gives the rank a copy of its first packet, and lets that one go where the rank isn't worn then.
+/// Gives the rank its first packet, and lets that one go where the rank isn't worn then.
 fn move_first(rank: &mut Rank) -> Result<(), Memory>
     requires alone { IsAlone rank.old }
     requires some { 0 < length rank.old.sending.outbox.letters }
@@ -21,15 +21,23 @@ fn move_first(rank: &mut Rank) -> Result<(), Memory>
 {
     // no step: it tells that the history keeps its rules
     rank.history();
-    let Some((_, first)) = rank.front() else {
+    let mut packet = Packet::blank();
+    let Some(_) = rank.fill_front(&mut packet) else {
         return Ok(());
     };
-    let packet = first.copy();
     rank.take_packet(&packet)?;
     if !rank.is_worn() {
         rank.pop_front();
     }
     Ok(())
+}
+
+/// How many packets a rank that is alone has to send.
+fn waiting(rank: &Rank) -> u64
+    requires { IsAlone rank.now }
+    ensures { result ≡ length rank.now.sending.outbox.letters }
+{
+    rank.waiting_for(0)
 }
 
 /// Moves as many packets as there are now, or fewer where the rank becomes worn or memory is
@@ -42,7 +50,7 @@ pub(crate) fn pump(rank: &mut Rank) -> Result<Reply, Memory>
     ensures err { OnErr result (rank.new ≡ rank.old) }
 {
     let mut moved: u64 = 0;
-    for _ in 0..rank.waiting() {
+    for _ in 0..waiting(rank) {
         if rank.is_worn() {
             return Ok(Reply::Moved(moved));
         }

@@ -16,7 +16,7 @@ use Rattle.nm_history.specs.Rules.{AreRight}
 use Rattle.nm_history.proofs.Growing.{stamped-same}
 use Rattle.nm_eager.specs.Streams.{Stream, missing, nothing_came}
 use Rattle.nm_rank.specs.Journals.{JournalView}
-use Rattle.nm_sending.specs.declared.outbox.letters.Letter.{Letter}
+use Rattle.nm_sending.specs.Letters.{Letter}
 use Rattle.nm_sending.specs.Outboxes.{OutboxView, popped_to}
 use Rattle.nm_request.specs.Requests.{Live}
 use Rattle.nm_rndv.specs.Offers.{Offering, first_leaving, next_offered, with_popped}
@@ -94,7 +94,7 @@ pub popped-same : (o o' : OutboxView) → 0 < length o.letters
     ≡ record o {
       letters = o'.letters;
       popped = slice_set o.popped letter.to (popped_to o letter.to + 1);
-      spare = o.spare + 1;
+      spare = o'.spare;
     }))
     → (o'.me ≡ o.me) × (length o'.popped ≡ length o.popped)
 popped-same o o' low p = by_first (λ letter. (o.letters ≡ letter ∷ o'.letters)
@@ -102,7 +102,7 @@ popped-same o o' low p = by_first (λ letter. (o.letters ≡ letter ∷ o'.lette
     ≡ record o {
       letters = o'.letters;
       popped = slice_set o.popped letter.to (popped_to o letter.to + 1);
-      spare = o.spare + 1;
+      spare = o'.spare;
     })) o.letters low p
     (λ l x. (
       ap (λ (u : OutboxView). u.me) x.1,

@@ -19,7 +19,7 @@ use Rattle.nm_request.specs.declared.Kind.TheVariants as kind
 use Rattle.nm_request.specs.declared.Req.{Req}
 use Rattle.nm_request.specs.Requests.{kind_of}
 use Rattle.nm_rndv.specs.Offers.{next_offered, offered}
-use Rattle.nm_sending.specs.declared.outbox.letters.Letter.{Letter}
+use Rattle.nm_sending.specs.Letters.{Letter}
 use Rattle.nm_sending.specs.Calls.{event_of, offers_sent}
 use Rattle.nm_sending.specs.Departures.{pushed_to}
 use Rattle.nm_receiving.specs.Receipts.{taken_events}

@@ -5,6 +5,8 @@ ghost use Rattle.std.specs.Prelude.{nat_lt, option_map, IfSome, IfNone, IsNone, 
 ghost use Rattle.nm_history.specs.Clearance.{pushed_out, to_push};
 ghost use Rattle.nm_history.specs.Pieces.{due_pieces};
 ghost use Rattle.nm_history.specs.Rest.{EagerHaveLeft};
+ghost use Rattle.std.specs.List.{AllByRecursion};
+ghost use Rattle.nm_sending.specs.Letters.{packets_for};
 ghost use Rattle.nm_sending.specs.Outboxes.{popped_to};
 ghost use Rattle.nm_rndv.specs.Offers.{AllOut, next_offered, offered};
 ghost use Rattle.nm_sending.specs.Departures.{pushed_to};
@@ -18,24 +20,41 @@ use nm_history::Happened;
 use nm_types::{Packet, Piece};
 
 impl Rank {
-    /// How many packets there are to send.
-    pub fn waiting(&self) -> usize
-        ensures { result ≡ length self.now.sending.outbox.letters }
+    /// How many packets to a rank there are to send.
+    pub fn waiting_for(&self, to: u8) -> u64
+        requires to { to < self.now.sizes.ranks }
+        ensures many { result ≡ length (packets_for to self.now.sending.outbox.letters) }
+        ensures in_range { AllByRecursion (λ l. l.to < self.now.sizes.ranks)
+            self.now.sending.outbox.letters }
     {
-        self.sending.waiting()
+        self.sending.waiting_for(to)
     }
 
-    /// The first packet to be sent, with the rank that it goes to, if there is one. Where there is
-    /// none, each eager message has left.
-    pub fn front(&self) -> Option<(u8, &Packet)>
+    /// The rank that the first packet goes to, without the packet, if there is one. Where there is none,
+    /// each eager message has left.
+    pub fn front_to(&self) -> Option<u8>
         ensures first { MatchOption (slice_get self.now.sending.outbox.letters 0) (result ≡ None)
-            (λ letter. IsSomeAnd result (λ f. (f.0 ≡ letter.to) × (f.1.now ≡ letter.packet))) }
-        ensures own { IfSome result (λ f. (f.0 < self.now.sizes.ranks) × (f.1.now.from ≡ self.now.me)
-            × (f.1.now.seq ≡ popped_to self.now.sending.outbox f.0)) }
+            (λ letter. IsSomeAnd result (λ to. to ≡ letter.to)) }
+        ensures in_range { IfSome result (λ to. to < self.now.sizes.ranks) }
         ensures left { IfNone result (EagerHaveLeft self.now.events) }
     {
-        let letter = self.sending.front()?;
-        Some((letter.to, &letter.packet))
+        let to = self.sending.front_to()?;
+        Some(to)
+    }
+
+    /// Makes it the first packet to be sent, if there is one, and answers the rank that this goes to.
+    /// Where there is none, each eager message has left.
+    pub fn fill_front(&self, into: &mut Packet) -> Option<u8>
+        ensures first { MatchOption (slice_get self.now.sending.outbox.letters 0) (result ≡ None)
+            (λ letter. IsSomeAnd result (λ to. (to ≡ letter.to) × (into.new ≡ letter.packet))) }
+        ensures own { IfSome result (λ to. (to < self.now.sizes.ranks)
+            × (into.new.from ≡ self.now.me)
+            × (into.new.seq ≡ popped_to self.now.sending.outbox to)) }
+        ensures left { IfNone result (EagerHaveLeft self.now.events) }
+        ensures same { IfNone result (into.new ≡ into.old) }
+    {
+        let to = self.sending.fill_front(into)?;
+        Some(to)
     }
 
     /// Takes the first packet away. Where it was the last one of an eager message, that one has

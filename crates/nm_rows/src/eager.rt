@@ -1,7 +1,8 @@
-ghost use Rattle.std.specs.Prelude.{◌≡◌, ◌<◌, OnOk};
+ghost use Rattle.std.specs.Prelude.{◌≡◌, ◌+◌, ◌<◌, OnOk};
+ghost use Rattle.nm_eager.specs.Cutting.{packet_count};
 
 use nm_eager::{Cutter, Joiner};
-use nm_types::{Body, Joined, MAX_PACKETS, Shape};
+use nm_types::{Body, Joined, MAX_PACKETS, Packet, Shape};
 use std::process::Abort;
 use std::test::Fail;
 
@@ -11,9 +12,14 @@ fn join_next(
     cutter: &mut Cutter,
     joiner: &mut Joiner,
 ) -> Result<(usize, Joined), Fail>
-    ensures { OnOk result (joiner.new.sizes ≡ joiner.old.sizes) }
+    requires { cutter.old.given < packet_count cutter.old }
+    ensures sizes { OnOk result (joiner.new.sizes ≡ joiner.old.sizes) }
+    ensures step { cutter.new ≡ record cutter.old { given = cutter.old.given + 1 } }
 {
-    let p = cutter.next(0, 1).expect(rt, "a packet is left");
+    let mut p = Packet::blank();
+    cutter.fill(&mut p);
+    cutter.step();
+    p.from = 1;
     assert!(rt; joiner.fits(&p));
     assert!(rt; joiner.count(p.from) < MAX_PACKETS);
     joiner.reserve(&p)?;
@@ -23,15 +29,16 @@ fn join_next(
 
 /// A message of 600 bytes comes in three packets.
 fn join_all(rt: &impl Abort, cutter: &mut Cutter, joiner: &mut Joiner) -> Result<(), Fail>
+    requires { cutter.old.given ≡ 0 }
     ensures { OnOk result (joiner.new.sizes ≡ joiner.old.sizes) }
 {
+    assert_eq!(rt; cutter.count(), 3);
     let first = join_next(rt, cutter, joiner)?;
     let second = join_next(rt, cutter, joiner)?;
     let third = join_next(rt, cutter, joiner)?;
     assert_eq!(rt; first, (256, Joined::Begun));
     assert_eq!(rt; second, (256, Joined::More));
     assert_eq!(rt; third, (88, Joined::Whole));
-    assert!(rt; cutter.next(3, 1).is_none());
     Ok(())
 }
 
@@ -50,7 +57,7 @@ fn take_whole(rt: &impl Abort, joiner: &mut Joiner)
 fn cut_and_join(rt: &impl Abort, joiner: &mut Joiner) -> Result<(), Fail>
     requires { joiner.old.sizes.ranks ≡ 2 }
 {
-    let mut cutter = Cutter::new(1, 0, 7, 0, Body::Gen(600));
+    let mut cutter = Cutter::new(0, 7, 0, Body::Gen(600));
     join_all(rt, &mut cutter, joiner)?;
     take_whole(rt, joiner);
     Ok(())

@@ -40,7 +40,7 @@ fn is_counted(rank: &mut Rank, packet: &Packet) -> Result<bool, Memory>
     }
     rank.take_packet(packet)?;
     let is_taken = rank.strays() == 1 && rank.took(1) == 1;
-    Ok(is_taken && rank.front().is_none() && rank.history().is_empty())
+    Ok(is_taken && rank.front_to().is_none() && rank.history().is_empty())
 }
 
 /// Whether a new rank 0 takes this packet of rank 1 as a stray, by which nothing happens.

@@ -1,13 +1,11 @@
 -- Which messages the letters end.
-use Rattle.std.proofs.Common.{◌≡◌, ℕ, ◌+◌, ◌<◌, ◌==◌, zero, suc, Bool, true, false, Option, None, List}
-use Rattle.std.proofs.Common.{[], ◌∷◌, ◌++◌, cond, map, refl, sym, ◌∙◌, ap, append-nil, add-one, arith}
+use Rattle.std.proofs.Common.{◌≡◌, ℕ, ◌<◌, ◌==◌, zero, suc, Bool, true, false, Option, None, List}
+use Rattle.std.proofs.Common.{[], ◌∷◌, ◌++◌, cond, map, refl, sym, ◌∙◌, ap, append-nil, arith}
 use Rattle.std.specs.Prelude.{replicate}
 use Rattle.std.specs.List.{cons_option, filter_map}
-use Rattle.std.proofs.lemmas.List.{replicate_more}
 use Rattle.std.proofs.lemmas.List.Elements.{filter_map-append}
-use Rattle.nm_sending.specs.declared.outbox.letters.Letter.{Letter}
+use Rattle.nm_sending.specs.Letters.{Letter, last_ends}
 use Rattle.nm_sending.specs.Departures.{ends_to}
-use Rattle.nm_sending.specs.Sent.{last_ends}
 
 pub ends-append : (to : ℕ) (xs ys : List Letter) → ends_to to (xs ++ ys) ≡ ends_to to xs ++ ends_to to ys
 ends-append to xs ys = filter_map-append (λ (l : Letter). cond (l.to == to) l.ends None) xs ys
@@ -27,18 +25,6 @@ pub ends-push_none : (to : ℕ) (letters : List Letter) (l : Letter) → l.ends 
 ends-push_none to letters l none =
     ends-append to letters (l ∷ []) ∙ ap (λ (ns : List ℕ). ends_to to letters ++ ns) (ends-none to l [] none)
     ∙ append-nil (ends_to to letters)
-
--- where no message leaves with the last letter, none leaves
-pub last-none : (count : ℕ) → last_ends count None ≡ replicate count None
-last-none zero = refl
-last-none (suc before) =
-    replicate_more before None ∙ ap (λ (k : ℕ). replicate k None) (add-one before)
-
--- one letter more, with which this message leaves, after letters with none
-pub last-more : (count : ℕ) (ends : Option ℕ) → last_ends count None ++ ends ∷ [] ≡ last_ends (count + 1) ends
-last-more count ends =
-    ap (λ (os : List (Option ℕ)). os ++ ends ∷ []) (last-none count)
-    ∙ ap (λ (k : ℕ). last_ends k ends) (sym (add-one count))
 
 -- letters with which none leaves
 left_none : (count : ℕ) → filter_map {Y = ℕ} (λ o. o) (replicate count None) ≡ []

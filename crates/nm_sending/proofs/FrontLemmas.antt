@@ -3,7 +3,7 @@ use Rattle.std.proofs.Common.{◌≡◌, ℕ, ◌+◌, ◌<◌, ◌==◌, Bool, 
 use Rattle.std.proofs.Common.{Option, Some, None}
 use Rattle.std.proofs.Common.{List, [], ◌∷◌, ◌++◌, length, is_some, refl, sym, ◌∙◌, ap, subst}
 use Rattle.std.proofs.Common.{arith, true≢false}
-use Rattle.std.specs.Prelude.{IfSome, option_and_then, option_map}
+use Rattle.std.specs.Prelude.{IfSome, option_and_then, option_map, slice_set}
 use Rattle.std.proofs.Math.ListN.{set}
 use Rattle.nm_history.specs.declared.events.Event.{Event}
 use Rattle.nm_history.specs.Delivery.{is_asked}
@@ -17,14 +17,16 @@ use Rattle.nm_history.proofs.Basic.{self_true, or_false}
 use Rattle.nm_history.specs.Continues.{has}
 use Rattle.nm_rndv.specs.declared.asked.State.{State}
 use Rattle.nm_rndv.specs.Offers.{state_of, recall_in, destined}
-use Rattle.nm_sending.specs.declared.outbox.letters.Letter.{Letter}
-use Rattle.nm_sending.specs.Outboxes.{OutboxView, popped_to}
+use Rattle.nm_sending.specs.Letters.{Letter}
+use Rattle.nm_sending.specs.Outboxes.{OutboxView, Pops, popped_to}
 use Rattle.nm_sending.specs.declared.departures.Departure.{Departure}
 use Rattle.nm_sending.specs.Departures.{SendingView, row_of, with_departure, departures_to}
 use Rattle.nm_sending.specs.Departures.{departure_of, passes}
 use Rattle.nm_sending.specs.Departures.{cleared_to, ended_by, ends_to}
 use Rattle.nm_sending.specs.Sent.{AreSent, Preserves}
 use Rattle.nm_sending.specs.Tables.{TablesAgree, IsOffer, IsOfferBy, waits, waiting_from, recall_of}
+use Rattle.std.proofs.lemmas.List.{length-set}
+use Rattle.nm_sending.proofs.EndLemmas.{ends-none}
 use Rattle.nm_sending.proofs.EventLemmas.{left_none, sends-same, pushed_out-same}
 use Rattle.nm_sending.proofs.LeavingLemmas.{turn-still}
 use Rattle.nm_sending.proofs.SentLemmas.{at, keeps-one, right-out, sent-out}
@@ -192,33 +194,118 @@ module _ (me ranks : ℕ) (old : SendingView) (tables : TablesAgree me ranks old
             λ ranks. right-out old h letter.to n ranks d there (waits_in d (ended_waits d there)) was,
           ))
 
--- the message that leaves with the first letter
-pub ends_with : (o : OutboxView) (letter : Letter) (rest : List Letter) → o.letters ≡ letter ∷ rest
-    → ended_by (slice_get o.letters 0) ≡ option_map (λ n. (letter.to, n)) letter.ends
-ends_with o letter rest first = ap (λ (ls : List Letter). ended_by (slice_get ls 0)) first
+-- the message that leaves with the letter that was popped
+ended_by_it : (o : Option ℕ) (goes to n : ℕ) → option_map {U = ℕ × ℕ} (λ k. (goes, k)) o ≡ Some (to, n)
+    → (goes ≡ to) × (o ≡ Some n)
+ended_by_it None goes to n is = absurd cc
+ended_by_it (Some k) goes to n is =
+    let pair : ◌≡◌ {A = ℕ × ℕ} (goes, k) (to, n) = cc in
+    (ap (λ (p : ℕ × ℕ). p.0) pair, ap (λ (p : ℕ × ℕ). Some p.1) pair)
 
--- the first letter was popped
-pub first_popped : (old : OutboxView) (letter : Letter) (new : OutboxView) → old.letters ≡ letter ∷ new.letters
-    → new
-    ≡ record old {
-      letters = new.letters;
-      popped = set old.popped letter.to (popped_to old letter.to + 1);
-      spare = old.spare + 1;
-    }
-    → IfSome (slice_get old.letters 0) (λ l.
-    (old.letters ≡ l ∷ new.letters)
+pub ended_is : (l : Letter) (r : Option (ℕ × ℕ)) (to n : ℕ) → r ≡ option_map (λ k. (l.to, k)) l.ends
+    → r ≡ Some (to, n) → (l.to ≡ to) × (l.ends ≡ Some n)
+ended_is l r to n left is = ended_by_it l.ends l.to to n (sym left ∙ is)
+
+-- what a pop answers, and what it changes
+pub last_is : (r : Option (ℕ × ℕ)) (old new : OutboxView) → Pops r old new
+    → r ≡ ended_by (slice_get old.letters 0)
+last_is r old new p = p.left ∙ sym (ap (λ (ls : List Letter). ended_by (slice_get ls 0)) p.letters)
+
+pub popped_is : (r : Option (ℕ × ℕ)) (old new : OutboxView) → Pops r old new
+    → IfSome (slice_get old.letters 0) (λ letter. (old.letters ≡ letter ∷ new.letters)
     × (new
     ≡ record old {
       letters = new.letters;
-      popped = set old.popped l.to (popped_to old l.to + 1);
-      spare = old.spare + 1;
+      popped = slice_set old.popped letter.to (popped_to old letter.to + 1);
+      spare = new.spare;
     }))
-first_popped old letter new first counted =
-    subst (λ (x : Option Letter). IfSome x (λ l.
-    (old.letters ≡ l ∷ new.letters)
+popped_is r old new p =
+    subst (λ (ls : List Letter). IfSome (slice_get ls 0) (λ letter. (old.letters ≡ letter ∷ new.letters)
     × (new
     ≡ record old {
       letters = new.letters;
-      popped = set old.popped l.to (popped_to old l.to + 1);
-      spare = old.spare + 1;
-    }))) (sym (ap (λ (ls : List Letter). slice_get ls 0) first)) (first, counted)
+      popped = slice_set old.popped letter.to (popped_to old letter.to + 1);
+      spare = new.spare;
+    }))) (sym p.letters) (p.letters, p.outbox)
+
+-- where no message leaves with the letter, the tables stand as they are
+none_ended : (o : Option ℕ) (to : ℕ) → ◌≡◌ {A = Option (ℕ × ℕ)} None (option_map (λ k. (to, k)) o) → o ≡ None
+none_ended None to is = refl
+none_ended (Some k) to is = absurd cc
+
+pub tables-stay : (me ranks : ℕ) (old : SendingView) (outbox : OutboxView) → TablesAgree me ranks old
+    → Pops None old.outbox outbox → TablesAgree me ranks (record old { outbox = outbox })
+tables-stay me ranks old outbox t p = record {
+  own = t.own ∙ sym (ap (λ (o : OutboxView). o.me) p.outbox);
+  letters = ap (λ (o : OutboxView). length o.popped) p.outbox
+      ∙ length-set old.outbox.popped p.letter.to (popped_to old.outbox p.letter.to + 1) ∙ t.letters;
+  rows = t.rows;
+  offers = t.offers;
+  counts = t.counts;
+  eager = λ to. sym (ap (λ (ls : List Letter). ends_to to ls) p.letters
+      ∙ ends-none to p.letter outbox.letters (none_ended p.letter.ends p.letter.to p.left))
+      ∙ t.eager to;
+  states = t.states;
+  once = t.once;
+  recalls = t.recalls;
+  unanswered = t.unanswered;
+  staying = t.staying;
+  few = t.few;
+  pieces = t.pieces;
+}
+
+-- the same of the message, by its receiver
+module _ (me ranks : ℕ) (old : SendingView) (tables : TablesAgree me ranks old) (letter : Letter)
+    (rest : List Letter) (list : old.outbox.letters ≡ letter ∷ rest) (to n : ℕ) (goes : letter.to ≡ to)
+    (is : letter.ends ≡ Some n) where
+  abbrev pub gone-message : Departure
+  gone-message = (first me ranks old tables letter rest list n is).message
+
+  pub gone-there : departure_of old to n ≡ Some gone-message
+  gone-there =
+      subst (λ (t : ℕ). departure_of old t n ≡ Some (first me ranks old tables letter rest list n is).message) goes
+      (ended_there me ranks old tables letter rest list n is)
+
+  pub gone-eager : (h : List Event) → AreSent old h → is_asked (sends h to) n ≡ false
+  gone-eager =
+      subst (λ (t : ℕ). (h : List Event) → AreSent old h → is_asked (sends h t) n ≡ false) goes
+      (front-eager me ranks old tables letter rest list n is)
+
+  module _ (outbox : OutboxView) (rows : List (List Departure)) (staying : ℕ) (d : Departure)
+      (there : departure_of old to n ≡ Some d)
+      (now : rows ≡ with_departure old.departures to n (record d { out = true })) where
+    there' : departure_of old letter.to n ≡ Some d
+    there' = subst (λ (t : ℕ). departure_of old t n ≡ Some d) (sym goes) there
+
+    now' : rows ≡ with_departure old.departures letter.to n (record d { out = true })
+    now' = subst (λ (t : ℕ). rows ≡ with_departure old.departures t n (record d { out = true })) (sym goes) now
+
+    pub gone-counted : 0 < old.staying
+    gone-counted = front-counted me ranks old tables letter rest list n is outbox rows staying d there' now'
+
+    pub gone-tables : outbox.me ≡ old.outbox.me → length outbox.popped ≡ length old.outbox.popped
+        → outbox.letters ≡ rest → staying + 1 ≡ old.staying → TablesAgree me ranks (record {
+          outbox = outbox;
+          offers = old.offers;
+          departures = rows;
+          pushed = old.pushed;
+          staying = staying;
+        })
+    gone-tables = front-tables me ranks old tables letter rest list n is outbox rows staying d there' now'
+
+    pub gone-kept : Preserves old (record {
+      outbox = outbox;
+      offers = old.offers;
+      departures = rows;
+      pushed = old.pushed;
+      staying = staying;
+    }) (Out to n ∷ [])
+    gone-kept =
+        subst (λ (t : ℕ). Preserves old (record {
+          outbox = outbox;
+          offers = old.offers;
+          departures = rows;
+          pushed = old.pushed;
+          staying = staying;
+        }) (Out t n ∷ [])) goes
+        (front-kept me ranks old tables letter rest list n is outbox rows staying d there' now')

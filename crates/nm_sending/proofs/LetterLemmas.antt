@@ -1,21 +1,20 @@
 -- The letters of an outbox, and what its fields keep.
 use Rattle.std.proofs.Common.{◌≡◌, ◌≢◌, ℕ, ◌+◌, ◌<◌, ◌==◌, Bool, true, false, cond, Option, Some, None, List, [], ◌∷◌}
 use Rattle.std.proofs.Common.{◌++◌, length, map, get_or, replicate, refl, sym, ◌∙◌, ap, subst, ⊎_elim}
-use Rattle.std.proofs.Common.{arith, ◌≤◌, max}
+use Rattle.std.proofs.Common.{arith, ◌≤◌, max, suc, append-nil}
 use Rattle.std.specs.List.{AllByRecursion, filter}
 use Rattle.std.specs.Prelude.{MatchOption}
 use Rattle.std.proofs.Math.ListN.{set}
 use Rattle.std.proofs.Math.Nat.{le-max_left, le-max_right}
 use Rattle.std.proofs.lemmas.Bool.{cases_eq, cases_lt}
 use Rattle.std.proofs.lemmas.List.{get_or-set_other, get_or-set_same, length-append, length-set}
-use Rattle.std.proofs.lemmas.List.{get_or-replicate, get_or_past, length-replicate, map-append}
+use Rattle.std.proofs.lemmas.List.{get_or-replicate, get_or_past, length-map, length-replicate, map-append}
 use Rattle.std.proofs.lemmas.List.Elements.{filter-append}
 use Rattle.nm_types.specs.declared.packets.Packet.{Packet}
-use Rattle.nm_sending.specs.declared.outbox.letters.Letter.{Letter}
-use Rattle.nm_sending.specs.Letters.{AreLetters, AreNumbered, packets_for}
+use Rattle.nm_sending.specs.Letters.{AreLetters, AreNumbered, Letter, packets_for}
 use Rattle.nm_sending.specs.Outboxes.{AreFields}
 use Rattle.nm_types.proofs.NumberLemmas.{unequal, eq_true}
-use Rattle.nm_types.proofs.ListLemmas.{all_push}
+use Rattle.nm_types.proofs.ListLemmas.{all_append}
 
 -- the first letter is this one
 pub first_letter : (o : Option Letter) (N : Type 0) (to : ℕ) (p : Packet) → (N → ⊥) →
@@ -41,23 +40,6 @@ pub for_one : (to : ℕ) (letter : Letter) →
     packets_for to (letter ∷ []) ≡ cond (letter.to == to) (letter.packet ∷ []) []
 for_one to letter = one_by letter (letter.to == to)
 
--- one letter more, to this rank or to another
-pub for-own : (to : ℕ) (letters : List Letter) (letter : Letter) → letter.to ≡ to →
-    packets_for to (letters ++ letter ∷ []) ≡ packets_for to letters ++ letter.packet ∷ []
-for-own to letters letter same =
-    for-append to letters (letter ∷ []) ∙ ap (λ (ps : List Packet). packets_for to letters ++ ps)
-    (for_one to letter ∙ ap (λ (b : Bool). cond b (letter.packet ∷ []) []) (eq_true letter.to to same))
-
-pub for-other : (to : ℕ) (letters : List Letter) (letter : Letter) → letter.to ≢ to →
-    packets_for to (letters ++ letter ∷ []) ≡ packets_for to letters
-for-other to letters letter differ =
-    for-append to letters (letter ∷ []) ∙ ap (λ (ps : List Packet). packets_for to letters ++ ps)
-    (for_one to letter ∙ ap (λ (b : Bool). cond b (letter.packet ∷ []) []) (unequal letter.to to differ))
-    ∙ append_none (packets_for to letters) where
-      append_none : (ps : List Packet) → ps ++ [] ≡ ps
-      append_none [] = refl
-      append_none (p ∷ ps) = ap (λ (qs : List Packet). p ∷ qs) (append_none ps)
-
 -- one letter less
 pub for_first-own : (to : ℕ) (letter : Letter) (rest : List Letter) → letter.to ≡ to →
     packets_for to (letter ∷ rest) ≡ letter.packet ∷ packets_for to rest
@@ -71,22 +53,63 @@ for_first-other to letter rest differ =
     for-append to (letter ∷ []) rest ∙ ap (λ (ps : List Packet). ps ++ packets_for to rest)
     (for_one to letter ∙ ap (λ (b : Bool). cond b (letter.packet ∷ []) []) (unequal letter.to to differ))
 
-numbered-push : (from number : ℕ) (ps : List Packet) (p : Packet) → AreNumbered from number ps →
-    p.from ≡ from → p.seq ≡ number + length ps → AreNumbered from number (ps ++ p ∷ [])
-numbered-push from number [] p are own next = (own, omega (arith, next), tt)
-numbered-push from number (q ∷ ps) p are own next =
-    (are.0, are.1, numbered-push from (number + 1) ps p are.2 own (omega (arith, next)))
+-- letters that all go to one rank
+pub for_receiver : (to : ℕ) (ls : List Letter) → AllByRecursion (λ l. l.to ≡ to) ls → (t : ℕ)
+    → packets_for t ls ≡ cond (to == t) (map (λ l. l.packet) ls) []
+for_receiver to [] each t = by_test (to == t) where
+  by_test : (b : Bool) → ◌≡◌ {A = List Packet} [] (cond b [] [])
+  by_test true = refl
+  by_test false = refl
+for_receiver to (l ∷ ls) each t =
+    ap (λ (x : ℕ). map (λ k. k.packet)
+    (cond (x == t) (l ∷ filter (λ k. k.to == t) ls) (filter (λ k. k.to == t) ls)))
+    each.0
+    ∙ by_test (to == t) (for_receiver to ls each.1 t)
+  where
+    by_test : (b : Bool) → packets_for t ls ≡ cond b (map (λ l. l.packet) ls) []
+        → map (λ k. k.packet) (cond b (l ∷ filter (λ k. k.to == t) ls) (filter (λ k. k.to == t) ls))
+        ≡ cond b (map (λ l. l.packet) (l ∷ ls)) []
+    by_test true later = ap (λ (ps : List Packet). l.packet ∷ ps) later
+    by_test false later = later
 
--- the first letter is of the outbox's rank
-pub first_own : (me : ℕ) (popped : List ℕ) (letters : List Letter) (letter : Letter) →
-    AreLetters me popped letters → 0 < length letters → letter ≡ get_or letters 0 letter →
-    letter.packet.from ≡ me
-first_own me popped [] letter are some read = absurd (omega (arith, some))
-first_own me popped (l ∷ rest) letter are some read =
-    let first : AreNumbered me (get_or popped l.to 0) (l.packet ∷ packets_for l.to rest) =
-    subst (λ (ps : List Packet). AreNumbered me (get_or popped l.to 0) ps)
-    (for_first-own l.to l rest refl) (are.numbered l.to) in
-    ap (λ (x : Letter). x.packet.from) read ∙ first.0
+-- letters to this rank or to another behind others
+pub for_more-own : (to t : ℕ) (letters added : List Letter) → AllByRecursion (λ l. l.to ≡ to) added → to ≡ t
+    → packets_for t (letters ++ added) ≡ packets_for t letters ++ map (λ l. l.packet) added
+for_more-own to t letters added each same =
+    for-append t letters added ∙ ap (λ (ps : List Packet). packets_for t letters ++ ps)
+    (for_receiver to added each t
+    ∙ ap (λ (b : Bool). cond b (map (λ (l : Letter). l.packet) added) []) (eq_true to t same))
+
+pub for_more-other : (to t : ℕ) (letters added : List Letter) → AllByRecursion (λ l. l.to ≡ to) added → to ≢ t
+    → packets_for t (letters ++ added) ≡ packets_for t letters
+for_more-other to t letters added each differ =
+    for-append t letters added ∙ ap (λ (ps : List Packet). packets_for t letters ++ ps)
+    (for_receiver to added each t
+    ∙ ap (λ (b : Bool). cond b (map (λ (l : Letter). l.packet) added) []) (unequal to t differ))
+    ∙ append-nil (packets_for t letters)
+
+-- where there is one rank, all letters go to it
+zero_each : (ls : List Letter) → AllByRecursion (λ l. l.to < 1) ls → AllByRecursion (λ l. l.to ≡ 0) ls
+zero_each [] each = tt
+zero_each (l ∷ ls) each = (omega (arith, each.0), zero_each ls each.1)
+
+pub all_for_one : (ls : List Letter) → AllByRecursion (λ l. l.to < 1) ls → length (packets_for 0 ls) ≡ length ls
+all_for_one ls each =
+    ap (λ (ps : List Packet). length ps) (for_receiver 0 ls (zero_each ls each) 0)
+    ∙ length-map ls (λ (l : Letter). l.packet)
+
+-- numbered packets, and those numbered on
+numbered-append : (from number : ℕ) (ps qs : List Packet) → AreNumbered from number ps
+    → AreNumbered from (number + length ps) qs → AreNumbered from number (ps ++ qs)
+numbered-append from number [] qs are more =
+    let here : number + 0 ≡ number = omega arith in
+    subst (λ (k : ℕ). AreNumbered from k qs) here more
+numbered-append from number (p ∷ ps) qs are more =
+    let next : number + suc (length ps) ≡ number + 1 + length ps = omega arith in (
+      are.0,
+      are.1,
+      numbered-append from (number + 1) ps qs are.2 (subst (λ (k : ℕ). AreNumbered from k qs) next more),
+    )
 
 -- the fields of an empty outbox
 zeros : (n to : ℕ) → get_or (replicate {A = ℕ} n 0) to 0 ≡ 0
@@ -105,89 +128,93 @@ fields-none me n letters popped put most none fresh fresh' =
       bounded = λ to. rw (zeros n to) (omega arith);
     })
 
--- the fields after a letter more
+-- the fields after so many letters more to one rank
 module _ (me : ℕ) (letters : List Letter) (popped put : List ℕ) (most : ℕ)
-    (fields : AreFields me letters popped put most) (letter : Letter)
-    (inside : letter.to < length popped) where
-  pub fields-put : letter.packet.from ≡ me →
-      letter.packet.seq ≡ get_or popped letter.to 0 + length (packets_for letter.to letters) →
-      AreFields me (letters ++ letter ∷ []) popped (set put letter.to (letter.packet.seq + 1))
-      (max most (letter.packet.seq + 1))
-  fields-put own next =
+    (fields : AreFields me letters popped put most) (added : List Letter) (to seq many : ℕ)
+    (inside : to < length popped) (receiver : AllByRecursion (λ l. l.to ≡ to) added)
+    (numbered : AreNumbered me seq (map (λ l. l.packet) added)) (long : length added ≡ many)
+    (next : seq ≡ get_or popped to 0 + length (packets_for to letters)) where
+  pub fields-more : AreFields me (letters ++ added) popped (set put to (seq + many)) (max most (seq + many))
+  fields-more =
       record {
         lawful = record {
-          in_range = all_push (λ (l : Letter). l.to < length popped) letters letter
-              fields.lawful.in_range inside;
-          numbered = λ to. ⊎_elim (numbered_own to) (numbered_other to) (cases_eq letter.to to);
+          in_range = all_append (λ (l : Letter). l.to < length popped) letters added
+              fields.lawful.in_range (all_inside added receiver);
+          numbered = λ t. ⊎_elim (numbered_own t) (numbered_other t) (cases_eq to t);
         };
-        ranks = length-set put letter.to (letter.packet.seq + 1) ∙ fields.ranks;
-        counts = λ to. ⊎_elim (counts_own to) (counts_other to) (cases_eq letter.to to);
-        bounded = λ to. ⊎_elim (bounded_own to) (bounded_other to) (cases_eq letter.to to);
+        ranks = length-set put to (seq + many) ∙ fields.ranks;
+        counts = λ t. ⊎_elim (counts_own t) (counts_other t) (cases_eq to t);
+        bounded = λ t. ⊎_elim (bounded_own t) (bounded_other t) (cases_eq to t);
       } where
         put' : List ℕ
-        put' = set put letter.to (letter.packet.seq + 1)
+        put' = set put to (seq + many)
 
-        bounded_own : (to : ℕ) → letter.to ≡ to → get_or put' to 0 ≤ max most (letter.packet.seq + 1)
-        bounded_own to same =
-            let here : get_or put' letter.to 0 ≡ letter.packet.seq + 1 =
-            get_or-set_same put letter.to (letter.packet.seq + 1) 0
-            (let ranks = fields.ranks in omega arith) in
-            subst (λ (k : ℕ). get_or put' k 0 ≤ max most (letter.packet.seq + 1)) same
-            (subst (λ (k : ℕ). k ≤ max most (letter.packet.seq + 1)) (sym here)
-            (le-max_right most (letter.packet.seq + 1)))
+        all_inside : (ls : List Letter) → AllByRecursion (λ l. l.to ≡ to) ls
+            → AllByRecursion (λ l. l.to < length popped) ls
+        all_inside [] each = tt
+        all_inside (l ∷ ls) each = (
+          subst (λ (k : ℕ). k < length popped) (sym each.0) inside,
+          all_inside ls each.1,
+        )
 
-        bounded_other : (to : ℕ) → letter.to ≢ to → get_or put' to 0 ≤ max most (letter.packet.seq + 1)
-        bounded_other to differ =
-            let same : get_or put' to 0 ≡ get_or put to 0 =
-            get_or-set_other put letter.to to (letter.packet.seq + 1) 0 (λ same. differ (sym same)) in
-            let before = fields.bounded to in
-            let above = le-max_left most (letter.packet.seq + 1) in
-            omega arith
-
-        grown : ℕ → List Packet
-        grown to = packets_for to (letters ++ letter ∷ [])
-
-        numbered_own : (to : ℕ) → letter.to ≡ to → AreNumbered me (get_or popped to 0) (grown to)
-        numbered_own to same =
-            subst (λ (ps : List Packet). AreNumbered me (get_or popped to 0) ps)
-            (sym (for-own to letters letter same))
-            (numbered-push me (get_or popped to 0) (packets_for to letters) letter.packet
-            (fields.lawful.numbered to) own
-            (next ∙ ap (λ (k : ℕ). get_or popped k 0 + length (packets_for k letters)) same))
-
-        numbered_other : (to : ℕ) → letter.to ≢ to → AreNumbered me (get_or popped to 0) (grown to)
-        numbered_other to differ =
-            subst (λ (ps : List Packet). AreNumbered me (get_or popped to 0) ps)
-            (sym (for-other to letters letter differ)) (fields.lawful.numbered to)
-
-        counts_own : (to : ℕ) → letter.to ≡ to →
-            get_or (set put letter.to (letter.packet.seq + 1)) to 0
-            ≡ get_or popped to 0 + length (grown to)
-        counts_own to same =
-            let here : letter.packet.seq ≡ get_or popped to 0 + length (packets_for to letters) =
+        numbered_own : (t : ℕ) → to ≡ t → AreNumbered me (get_or popped t 0) (packets_for t (letters ++ added))
+        numbered_own t same =
+            let here : seq ≡ get_or popped t 0 + length (packets_for t letters) =
             next ∙ ap (λ (k : ℕ). get_or popped k 0 + length (packets_for k letters)) same in
-            let longer : length (grown to) ≡ length (packets_for to letters) + 1 =
-            ap length (for-own to letters letter same)
-            ∙ length-append (packets_for to letters) (letter.packet ∷ []) in
-            ap (λ (k : ℕ). get_or (set put letter.to (letter.packet.seq + 1)) k 0) (sym same)
-            ∙ get_or-set_same put letter.to (letter.packet.seq + 1) 0
-            (let ranks = fields.ranks in omega arith)
-            ∙ omega arith
+            subst (λ (ps : List Packet). AreNumbered me (get_or popped t 0) ps)
+            (sym (for_more-own to t letters added receiver same))
+            (numbered-append me (get_or popped t 0) (packets_for t letters) (map (λ (l : Letter). l.packet) added)
+            (fields.lawful.numbered t)
+            (subst (λ (k : ℕ). AreNumbered me k (map (λ (l : Letter). l.packet) added)) here numbered))
 
-        counts_other : (to : ℕ) → letter.to ≢ to →
-            get_or (set put letter.to (letter.packet.seq + 1)) to 0
-            ≡ get_or popped to 0 + length (grown to)
-        counts_other to differ =
-            get_or-set_other put letter.to to (letter.packet.seq + 1) 0 (λ same. differ (sym same))
-            ∙ fields.counts to
-            ∙ ap (λ (ps : List Packet). get_or popped to 0 + length ps)
-            (sym (for-other to letters letter differ))
+        numbered_other : (t : ℕ) → to ≢ t → AreNumbered me (get_or popped t 0) (packets_for t (letters ++ added))
+        numbered_other t differ =
+            subst (λ (ps : List Packet). AreNumbered me (get_or popped t 0) ps)
+            (sym (for_more-other to t letters added receiver differ)) (fields.lawful.numbered t)
+
+        counts_own : (t : ℕ) → to ≡ t →
+            get_or put' t 0 ≡ get_or popped t 0 + length (packets_for t (letters ++ added))
+        counts_own t same =
+            let here : seq ≡ get_or popped t 0 + length (packets_for t letters) =
+            next ∙ ap (λ (k : ℕ). get_or popped k 0 + length (packets_for k letters)) same in
+            let longer : length (packets_for t (letters ++ added)) ≡ length (packets_for t letters) + many =
+            ap (λ (ps : List Packet). length ps) (for_more-own to t letters added receiver same)
+            ∙ length-append (packets_for t letters) (map (λ (l : Letter). l.packet) added)
+            ∙ ap (λ (k : ℕ). length (packets_for t letters) + k)
+            (length-map added (λ (l : Letter). l.packet) ∙ long) in
+            let set_here : get_or put' t 0 ≡ seq + many =
+            ap (λ (k : ℕ). get_or put' k 0) (sym same)
+            ∙ get_or-set_same put to (seq + many) 0 (let ranks = fields.ranks in omega arith) in
+            omega (arith, here, longer, set_here)
+
+        counts_other : (t : ℕ) → to ≢ t →
+            get_or put' t 0 ≡ get_or popped t 0 + length (packets_for t (letters ++ added))
+        counts_other t differ =
+            get_or-set_other put to t (seq + many) 0 (λ same. differ (sym same))
+            ∙ fields.counts t
+            ∙ ap (λ (ps : List Packet). get_or popped t 0 + length ps)
+            (sym (for_more-other to t letters added receiver differ))
+
+        bounded_own : (t : ℕ) → to ≡ t → get_or put' t 0 ≤ max most (seq + many)
+        bounded_own t same =
+            let here : get_or put' to 0 ≡ seq + many =
+            get_or-set_same put to (seq + many) 0 (let ranks = fields.ranks in omega arith) in
+            subst (λ (k : ℕ). get_or put' k 0 ≤ max most (seq + many)) same
+            (subst (λ (k : ℕ). k ≤ max most (seq + many)) (sym here) (le-max_right most (seq + many)))
+
+        bounded_other : (t : ℕ) → to ≢ t → get_or put' t 0 ≤ max most (seq + many)
+        bounded_other t differ =
+            let same : get_or put' t 0 ≡ get_or put t 0 =
+            get_or-set_other put to t (seq + many) 0 (λ same. differ (sym same)) in
+            let before = fields.bounded t in
+            let above = le-max_left most (seq + many) in
+            omega arith
 
 -- the fields after a letter less
 module _ (me : ℕ) (letter : Letter) (rest : List Letter) (popped put : List ℕ) (most : ℕ)
     (fields : AreFields me (letter ∷ rest) popped put most) where
-  first_number : letter.packet.seq ≡ get_or popped letter.to 0
-  first_number =
+  pub number_first : letter.packet.seq ≡ get_or popped letter.to 0
+  number_first =
       let are : AreNumbered me (get_or popped letter.to 0) (letter.packet ∷ packets_for letter.to rest) =
       subst (λ (ps : List Packet). AreNumbered me (get_or popped letter.to 0) ps)
       (for_first-own letter.to letter rest refl) (fields.lawful.numbered letter.to) in
@@ -201,7 +228,7 @@ module _ (me : ℕ) (letter : Letter) (rest : List Letter) (popped put : List �
 
   own : (to : ℕ) → letter.to ≡ to → get_or popped' to 0 ≡ get_or popped to 0 + 1
   own to same =
-      let first = first_number in
+      let first = number_first in
       let here : get_or popped' letter.to 0 ≡ letter.packet.seq + 1 =
       get_or-set_same popped letter.to (letter.packet.seq + 1) 0 inside in
       subst (λ (k : ℕ). get_or popped' k 0 ≡ get_or popped k 0 + 1) same (omega arith)

@@ -7,8 +7,10 @@ mod LeavingLemmas
 pub mod LetterLemmas
 mod MessageLemmas
 mod MostLemmas
+mod NoteLemmas
 mod OfferLemmas
 mod OtherLemmas
+mod OutboxLemmas
 mod PieceLemmas
 mod PlaceLemmas
 mod PopLemmas

@@ -1,49 +1,34 @@
 -- The packets of a message.
 use Rattle.std.proofs.Common.{◌≡◌, ℕ, ◌+◌, ◌==◌, Bool, true, false, ◌&&◌, not, cond}
-use Rattle.std.proofs.Common.{Option, Some, None, List, [], ◌∷◌, ◌++◌, length, map, take, refl, sym, ◌∙◌, ap}
+use Rattle.std.proofs.Common.{Option, Some, None, List, [], ◌∷◌, ◌++◌, length, map, refl, sym, ◌∙◌, ap}
 use Rattle.std.proofs.Common.{subst, arith, append-nil}
 use Rattle.std.specs.List.{filter_map}
-use Rattle.std.proofs.lemmas.List.{take_all}
-use Rattle.std.proofs.lemmas.List.FromFn.{length-map-range_with_len}
 use Rattle.nm_types.specs.Bodies.{body_len, bytes_of}
 use Rattle.nm_types.specs.declared.scripts.Body.{Body}
 use Rattle.nm_types.specs.declared.messages.How.{How}
 use Rattle.nm_types.specs.declared.messages.How.TheVariants.{Ask}
-use Rattle.nm_types.specs.declared.limits.TheConstants.{MAX_PAYLOAD}
 use Rattle.nm_types.specs.declared.packets.Packet.{Packet}
 use Rattle.nm_types.specs.declared.packets.What.TheVariants as what
 use Rattle.nm_history.specs.declared.events.Event.{Event}
 use Rattle.nm_history.specs.declared.events.Happened.TheVariants.{Send}
-use Rattle.nm_history.specs.Outgoing.{AreCalled, Called, bare, part_at, eager_packets}
-use Rattle.nm_history.specs.Outgoing.{further_packets, packets_by, send_packets}
+use Rattle.nm_history.specs.Outgoing.{AreCalled, Called, bare, eager_packets, packets_by, send_packets}
 use Rattle.nm_history.specs.Sends.{Sent, is_ask}
 use Rattle.nm_eager.specs.Cutting.{Cutting, IsMessageOf, packet_count}
-use Rattle.nm_sending.specs.Letters.{packets_for}
-use Rattle.nm_sending.specs.Outboxes.{OutboxView, put_to}
+use Rattle.nm_sending.specs.Letters.{last_ends, packets_for}
+use Rattle.nm_sending.specs.Outboxes.{OutboxView, PutsPackets, put_to}
+use Rattle.nm_sending.proofs.LetterLemmas.{for_receiver}
 use Rattle.nm_sending.specs.Departures.{ends_to}
-use Rattle.nm_sending.specs.Sent.{Puts, PutsFirst, last_ends, only_to}
+use Rattle.nm_sending.specs.Sent.{Puts, only_to}
 use Rattle.nm_sending.proofs.EndLemmas.{ends-append, left_each, left_last}
-use Rattle.nm_sending.proofs.PutLemmas.{for_receiver, ends_receiver, puts-reserved}
-use Rattle.nm_types.proofs.NumberLemmas.{eq_true, same_number}
+use Rattle.nm_sending.proofs.PutLemmas.{ends_receiver, puts-reserved}
+use Rattle.nm_types.proofs.NumberLemmas.{same_number}
 use Rattle.nm_types.proofs.BodyLemmas.{bytes_count}
 
--- how many packets an eager message calls for
-packets_many : (s : Sent) (body : List ℕ) → length (eager_packets s body) ≡ 1 + further_packets s.len
-packets_many s body = omega (
-  arith,
-  length-map-range_with_len {X = Called} (λ k. record {
-    stamp = s.stamp;
-    what = what.More s.n;
-    payload = part_at MAX_PAYLOAD body k;
-  }) 1 (further_packets s.len),
-)
-
 -- all packets of an eager message were put
-module _ (count : ℕ) (cutting : Cutting) (from to n tag ctx stamp : ℕ) (body : Body) (how : How)
+module _ (cutting : Cutting) (to n tag ctx stamp : ℕ) (body : Body) (how : How)
     (old reserved new : OutboxView) (spare : ℕ) (room : reserved ≡ record old { spare = spare })
-    (is : cutting ≡ record { from = from; n = n; tag = tag; ctx = ctx; body = bytes_of body; given = 0 })
-    (all : count ≡ packet_count cutting) (eager : is_ask how ≡ false)
-    (puts : PutsFirst count cutting to n stamp reserved new) where
+    (is : cutting ≡ record { n = n; tag = tag; ctx = ctx; body = bytes_of body; given = 0 })
+    (eager : is_ask how ≡ false) (puts : PutsPackets cutting to stamp reserved new) where
   the_send : ℕ → Sent
   the_send line = record {
     stamp = stamp;
@@ -55,9 +40,6 @@ module _ (count : ℕ) (cutting : Cutting) (from to n tag ctx stamp : ℕ) (body
     how = how;
     line = line;
   }
-
-  ends : cond (count == packet_count cutting) (Some n) None ≡ Some n
-  ends = ap (λ (b : Bool). cond b (Some n) None) (eq_true count (packet_count cutting) all)
 
   bytes : cutting.body ≡ bytes_of body
   bytes = ap (λ (x : Cutting). x.body) is
@@ -90,23 +72,16 @@ module _ (count : ℕ) (cutting : Cutting) (from to n tag ctx stamp : ℕ) (body
         len = sym (bytes_count body) ∙ ap (λ (bs : List ℕ). length bs) (sym bytes);
       }
 
-      whole : take count (eager_packets s cutting.body) ≡ send_packets s (bytes_of body)
+      whole : eager_packets s cutting.body ≡ send_packets s (bytes_of body)
       whole =
-          take_all count (eager_packets s cutting.body)
-          (let many = packets_many s cutting.body in
-          let len : length cutting.body ≡ body_len body = ap (λ (bs : List ℕ). length bs) bytes
-          ∙ bytes_count body in
-          let further : further_packets (length cutting.body)
-          ≡ further_packets (body_len body) = ap further_packets len in
-          omega (arith, many, all, further))
-          ∙ ap (λ (bs : List ℕ). eager_packets s bs) bytes
+          ap (λ (bs : List ℕ). eager_packets s bs) bytes
           ∙ sym (ap (λ (b : Bool). cond b (bare stamp (what.Ask tag ctx (body_len body)) ∷ [])
           (eager_packets s (bytes_of body))) eager)
 
       put : AreCalled old.me (put_to old to) (send_packets s (bytes_of body)) (map (λ l. l.packet) puts.added)
       put = subst (λ (cs : List Called). AreCalled old.me (put_to old to) cs
           (map (λ l. l.packet) puts.added)) whole
-          (subst (λ (o : OutboxView). AreCalled o.me (put_to o to) (take count (eager_packets s cutting.body))
+          (subst (λ (o : OutboxView). AreCalled o.me (put_to o to) (eager_packets s cutting.body)
           (map (λ l. l.packet) puts.added)) room (puts.carried s message (omega arith)))
 
       by_test : (b : Bool) → (to == t) ≡ b → AreCalled old.me (put_to old t)
@@ -126,9 +101,9 @@ module _ (count : ℕ) (cutting : Cutting) (from to n tag ctx stamp : ℕ) (body
     carried = carried line;
     stamps = puts.stamps;
     left = puts.left
-        ∙ ap (λ (o : Option ℕ). last_ends count o)
-        (ends ∙ ap (λ (b : Bool). cond b None (Some n)) (sym eager))
-        ∙ ap (λ (k : ℕ). last_ends k (cond (is_ask how) None (Some n))) (sym puts.many);
+        ∙ ap (λ (k : ℕ). last_ends k (Some cutting.n)) (sym puts.many)
+        ∙ ap (λ (x : Cutting). last_ends (length puts.added) (Some x.n)) is
+        ∙ ap (λ (b : Bool). last_ends (length puts.added) (cond b None (Some n))) (sym eager);
     popped = ap (λ (o : OutboxView). o.popped) puts.outbox ∙ ap (λ (o : OutboxView). o.popped) room;
     me = ap (λ (o : OutboxView). o.me) puts.outbox ∙ ap (λ (o : OutboxView). o.me) room;
   }
@@ -144,8 +119,8 @@ module _ (count : ℕ) (cutting : Cutting) (from to n tag ctx stamp : ℕ) (body
       (ends_receiver to puts.added puts.receiver t
       ∙ ap (λ (ns : List ℕ). cond (to == t) ns []) (left_each puts.added
       ∙ ap (λ (os : List (Option ℕ)). filter_map (λ o. o) os) (puts.left
-      ∙ ap (λ (o : Option ℕ). last_ends count o) ends)
-      ∙ left_last count (Some n) (omega (arith, all)))
+      ∙ ap (λ (x : Cutting). last_ends (packet_count cutting) (Some x.n)) is)
+      ∙ left_last (packet_count cutting) (Some n) (omega arith))
       ∙ by_test (to == t)
       ∙ ap (λ (b : Bool). cond (to == t && not b) (n ∷ []) []) (sym eager))
     where

@@ -3,6 +3,7 @@ use Rattle.std.proofs.Common.{◌≡◌, ℕ, ◌+◌, ◌<◌, ◌==◌, zero, 
 use Rattle.std.proofs.Common.{cond, Option}
 use Rattle.std.proofs.Common.{Some, None, List, [], ◌∷◌, ◌++◌, length, map, refl, sym, ◌∙◌, ap}
 use Rattle.std.proofs.Common.{append_assoc, arith, true≢false}
+use Rattle.std.specs.Prelude.{IsNone, IsSomeAnd, MatchOption}
 use Rattle.std.specs.List.{AllByRecursion, filter, filter_map, range_with_len, slice_get}
 use Rattle.std.proofs.lemmas.List.{length-map}
 use Rattle.std.proofs.lemmas.List.Elements.{filter-append}
@@ -15,7 +16,7 @@ use Rattle.nm_history.specs.Sends.{Sent, sends, sent_of, is_ask}
 use Rattle.nm_history.proofs.Basic.{self_true, on_test}
 use Rattle.nm_history.proofs.Sent.{NumberedFrom, numbered_at, any_at}
 use Rattle.nm_history.specs.Rest.{EagerHaveLeft}
-use Rattle.nm_sending.specs.declared.outbox.letters.Letter.{Letter}
+use Rattle.nm_sending.specs.Letters.{Letter}
 use Rattle.nm_sending.specs.declared.departures.Departure.{Departure}
 use Rattle.nm_sending.specs.Departures.{SendingView, departures_to, departure_of, passes, ends_to}
 use Rattle.nm_sending.specs.Sent.{AreSent}
@@ -106,3 +107,10 @@ module _ (me ranks : ℕ) (v : SendingView) (tables : TablesAgree me ranks v) (e
       not_true : (b : Bool) → not b ≡ true → b ≡ false
       not_true true h = absurd (true≢false (sym h))
       not_true false h = refl
+
+-- where none is at the front there is no letter
+pub no_letters : (o : Option ℕ) (letters : List Letter) (Q : Letter → ℕ → Type 0) → IsNone o
+    → MatchOption (slice_get letters 0) (o ≡ None) (λ letter. IsSomeAnd o (Q letter)) → letters ≡ []
+no_letters None [] Q none is = refl
+no_letters None (l ∷ letters) Q none is = absurd is
+no_letters (Some x) letters Q none is = absurd (true≢false none)

@@ -23,7 +23,7 @@ use Rattle.nm_sending.specs.Departures.{SendingView, cleared_to, departures_to, 
 use Rattle.nm_sending.specs.Outboxes.{OutboxView, popped_to, put_to}
 use Rattle.nm_sending.specs.Sent.{AreSent, Preserves, Puts, only_to, outs}
 
--- nothing changed but for how many packets there is room
+-- nothing changed but for how many notes there is room
 abbrev pub SameButRoom : SendingView → SendingView → Type 0
 SameButRoom old new = new ≡ record old { outbox = record old.outbox { spare = new.outbox.spare } }
 
@@ -121,8 +121,9 @@ pub record PopsFirstPacket (out : Option (ℕ × ℕ)) (old new : SendingView) :
       ≡ record old.outbox {
         letters = new.outbox.letters;
         popped = slice_set old.outbox.popped letter.to (popped_to old.outbox letter.to + 1);
-        spare = old.outbox.spare + 1;
+        spare = new.outbox.spare;
       }))
+  pub room : old.outbox.spare ≤ new.outbox.spare
   pub kept : Preserves old new (outs out)
   pub counted : old.staying ≡ new.staying + length (outs out)
   pub offers : new.offers ≡ old.offers

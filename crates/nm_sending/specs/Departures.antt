@@ -8,7 +8,7 @@ use Rattle.nm_types.specs.declared.answers.Answer.TheVariants as answer
 use Rattle.nm_types.specs.declared.messages.How.{How}
 use Rattle.nm_history.specs.Happens.{is_same}
 use Rattle.nm_rndv.specs.Offers.{Offering, leaves}
-use Rattle.nm_sending.specs.declared.outbox.letters.Letter.{Letter}
+use Rattle.nm_sending.specs.Letters.{Letter}
 use Rattle.nm_sending.specs.Outboxes.{OutboxView}
 use Rattle.nm_sending.specs.declared.departures.Departure.{Departure}
 

@@ -1,7 +1,6 @@
 -- How a rank's sending side stands to its history, and how the two go on. MPI 3.1, 3.4, 3.7.3, 3.8.4.
 use Rattle.std.specs.Prelude.{◌≡◌, ℕ, ◌==◌, ◌&&◌, Bool, true, false, not, List, [], ◌∷◌, ◌++◌}
-use Rattle.std.specs.Prelude.{length, filter, map, replicate, take, is_some, Option, Some, None}
-use Rattle.std.specs.Prelude.{zero, suc, if◌then◌else◌, ◌-◌, ◌≤◌}
+use Rattle.std.specs.Prelude.{length, filter, map, is_some, Option, Some, None, if◌then◌else◌}
 use Rattle.std.specs.List.{AllByRecursion, range_with_len}
 use Rattle.nm_types.specs.declared.packets.What.{What}
 use Rattle.nm_history.specs.declared.events.Event.{Event}
@@ -9,15 +8,13 @@ use Rattle.nm_history.specs.declared.events.Happened.{Happened}
 use Rattle.nm_history.specs.declared.events.Happened.TheVariants.{Send, Out, Recall, Undone}
 use Rattle.nm_history.specs.Delivery.{is_asked}
 use Rattle.nm_history.specs.Happens.{happened, is_send, is_out, is_recall, is_undone}
-use Rattle.nm_history.specs.Outgoing.{Called, AreCalled, bare, eager_packets}
+use Rattle.nm_history.specs.Outgoing.{Called, AreCalled, bare}
 use Rattle.nm_history.specs.Sends.{Sent, sends, is_ask}
-use Rattle.nm_eager.specs.Cutting.{Cutting, IsMessageOf, packet_count}
 use Rattle.nm_history.specs.Clearance.{pushed_out}
 use Rattle.nm_history.specs.Continues.{has}
 use Rattle.nm_history.specs.Effects.{is_empty_send, happenings}
 use Rattle.nm_history.specs.Rules.{AreRight}
-use Rattle.nm_sending.specs.declared.outbox.letters.Letter.{Letter}
-use Rattle.nm_sending.specs.Letters.{packets_for}
+use Rattle.nm_sending.specs.Letters.{Letter, last_ends, packets_for}
 use Rattle.nm_sending.specs.Outboxes.{OutboxView, put_to}
 use Rattle.nm_sending.specs.Departures.{SendingView, departures_to, departure_of, passes, was_undone}
 use Rattle.nm_sending.specs.Departures.{cleared_to, leaving_to}
@@ -49,12 +46,6 @@ Preserves old new ws =
     (h events : List Event) → happenings events ≡ ws → AreSent old h →
     AreSent new (h ++ events) × ((ranks : ℕ) → AreRight ranks h events)
 
--- the messages that leave with so many letters: this one, if there is one, with the last, and none with
--- those before it
-abbrev pub last_ends : ℕ → Option ℕ → List (Option ℕ)
-last_ends zero ends = []
-last_ends (suc before) ends = replicate before None ++ ends ∷ []
-
 -- The letters that were put carry to each rank the packets called for, with the next numbers and with
 -- this stamp. With the last of them leaves this message, if there is one, and with the others none.
 pub record Puts (called : ℕ → List Called) (ends : Option ℕ) (stamp : ℕ) (old new : OutboxView)
@@ -66,25 +57,6 @@ pub record Puts (called : ℕ → List Called) (ends : Option ℕ) (stamp : ℕ)
   pub left : map (λ l. l.ends) added ≡ last_ends (length added) ends
   pub popped : new.popped ≡ old.popped
   pub me : new.me ≡ old.me
-
--- The first so many packets of an eager message were put for its receiver, with the next numbers and
--- with this stamp, and took so much room. With the last of all its packets message n leaves, and with
--- none before that.
-pub record PutsFirst (count : ℕ) (cutting : Cutting) (to n stamp : ℕ) (old new : OutboxView)
-    : Type 0 where
-  pub added : List Letter
-  pub outbox :
-      new ≡ record old { letters = old.letters ++ added; spare = old.spare - count }
-  pub receiver : AllByRecursion (λ l. l.to ≡ to) added
-  pub many : length added ≡ count
-  pub carried :
-      (s : Sent) → IsMessageOf cutting s → s.stamp ≤ stamp →
-      AreCalled old.me (put_to old to) (take count (eager_packets s cutting.body))
-      (map (λ l. l.packet) added)
-  pub stamps : AllByRecursion (λ l. l.packet.stamp ≡ stamp) added
-  pub left :
-      map (λ l. l.ends) added
-      ≡ last_ends count (if count == packet_count cutting then Some n else None)
 
 -- the message that left, if one did
 abbrev pub outs : Option (ℕ × ℕ) → List Happened

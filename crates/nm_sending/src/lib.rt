@@ -20,7 +20,7 @@
 //!   `puts`).
 //! - A message leaves once: with its last packet, with its last piece, or with its clearance where it
 //!   is empty (`PopsFirstPacket`, `PopsNextPiece`, `ClearsMessage`: `kept`). Where no packet is left,
-//!   each eager message has left (`front`: `left`).
+//!   each eager message has left (`fill_front`: `left`).
 //! - A recall and its answer are noted, and change no other message that was asked for
 //!   (`RecallsMessage`, `AnswersRecall`).
 //! - Pieces are those of the first message that was cleared and has not left, in order
@@ -37,7 +37,6 @@ mod putting;
 mod sendings;
 mod tables;
 
-pub use crate::outbox::Letter;
 pub use departures::Departure;
 pub use sendings::Sending;
 

@@ -5,24 +5,21 @@ ghost use Rattle.std.specs.Prelude.{if◌then◌else◌, length, None, Some, OnO
 ghost use Rattle.nm_types.specs.declared.limits.TheConstants.{MAX_BODY, MAX_EAGER, MAX_PACKETS};
 ghost use Rattle.nm_types.specs.declared.limits.TheConstants.{MAX_STAMP};
 ghost use Rattle.nm_types.specs.Bodies.{body_len};
-ghost use Rattle.nm_history.specs.Outgoing.{further_packets};
 ghost use Rattle.nm_history.specs.Sends.{is_ask};
-ghost use Rattle.nm_eager.specs.Cutting.{packet_count};
 ghost use Rattle.nm_rndv.specs.Offers.{state_of};
 ghost use Rattle.nm_sending.specs.Calls.{PutsMessage, sent_as};
 ghost use Rattle.nm_sending.specs.Outboxes.{put_to};
 ghost use Rattle.nm_sending.specs.Departures.{ends_to};
-ghost use Rattle.nm_sending.specs.Sent.{Puts, PutsFirst, only_to};
+ghost use Rattle.nm_sending.specs.Sent.{Puts, only_to};
 
-use crate::outbox::{Letter, Outbox};
+use crate::outbox::Outbox;
 use nm_eager::Cutter;
 use nm_rndv::Offers;
-use nm_types::{Body, How, MAX_PAYLOAD, Memory, What};
+use nm_types::{Body, How, Memory, What};
 
 /// A message, but for its body.
 #[derive(Clone, Copy)]
 pub(crate) struct Heading {
-    pub from: u8,
     pub to: u8,
     pub n: u64,
     pub tag: u16,
@@ -42,43 +39,7 @@ pub(crate) fn put_bare(outbox: &mut Outbox, to: u8, stamp: u64, what: What)
         ends_to other outbox.new.letters ≡ ends_to other outbox.old.letters }
     ensures room { outbox.new.spare ≡ outbox.old.spare - 1 }
 {
-    let packet = outbox.bare(to, stamp, what);
-    outbox.put(Letter {
-        to,
-        packet,
-        ends: None,
-    });
-}
-
-/// How many packets an eager message of this length is cut into.
-fn packets_of(len: u32) -> u32
-    ensures { result ≡ 1 + further_packets len }
-{
-    1 + len.saturating_sub(1) / MAX_PAYLOAD as u32
-}
-
-/// Puts the packets of an eager message, for which there is room. It leaves with the last one.
-fn put_packets(outbox: &mut Outbox, mut cutter: Cutter, count: u32, heading: Heading, stamp: u64)
-    requires to { heading.to < length outbox.old.popped }
-    requires few { put_to outbox.old heading.to + count ≤ MAX_PACKETS }
-    requires room { count ≤ outbox.old.spare }
-    requires in_time { stamp ≤ MAX_STAMP }
-    requires from { cutter.from ≡ outbox.old.me }
-    requires none { cutter.given ≡ 0 }
-    requires all { count ≡ packet_count cutter }
-    ensures { PutsFirst count cutter heading.to heading.n stamp outbox.old outbox.new }
-{
-    for k in 0..count {
-        let Some(packet) = cutter.next(outbox.next_number(heading.to), stamp) else {
-            return;
-        };
-        let ends = (k + 1 == count).then_some(heading.n);
-        outbox.put(Letter {
-            to: heading.to,
-            packet,
-            ends,
-        });
-    }
+    outbox.put_bare(to, stamp, what);
 }
 
 /// Puts the packets of a message, or the one that asks for it, whose body is kept then.
@@ -89,7 +50,6 @@ pub(crate) fn put_message(
     body: Body,
     stamp: u64,
 ) -> Result<(), Memory>
-    requires from { heading.from ≡ outbox.old.me }
     requires to { heading.to < length outbox.old.popped }
     requires offered { heading.to < length offers.old.destinations }
     requires is_new { state_of offers.old heading.to heading.n ≡ None }
@@ -103,7 +63,6 @@ pub(crate) fn put_message(
     ensures unasked { OnErr result (offers.new ≡ offers.old) }
 {
     let Heading {
-        from,
         to,
         n,
         tag,
@@ -113,10 +72,9 @@ pub(crate) fn put_message(
     let len = body.len();
     match how {
         How::Eager => {
-            let count = packets_of(len);
-            outbox.reserve(count as usize)?;
-            let cutter = Cutter::new(from, n, tag, ctx, body);
-            put_packets(outbox, cutter, count, heading, stamp);
+            outbox.reserve(1)?;
+            let cutter = Cutter::new(n, tag, ctx, body);
+            outbox.put_message(to, stamp, cutter);
         }
         How::Ask => {
             outbox.reserve(1)?;

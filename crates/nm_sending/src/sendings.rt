@@ -2,7 +2,8 @@
 
 ghost use Rattle.std.specs.Prelude.{◌≡◌, ◌+◌, ◌-◌, ◌<◌, ◌≤◌, ◌↔◌, ℕ, false, None, List, []};
 ghost use Rattle.std.specs.Prelude.{if◌then◌else◌, length, replicate, slice_get, IfOk, IfSome};
-ghost use Rattle.std.specs.Prelude.{IsSome, IsNone, OnOk, OnErr, option_copied, option_map};
+ghost use Rattle.std.specs.Prelude.{IsSome, IsSomeAnd, IsNone, MatchOption, OnOk, OnErr, option_map};
+ghost use Rattle.std.specs.List.{AllByRecursion};
 ghost use Rattle.nm_types.specs.declared.limits.TheConstants.{MAX_BODY, MAX_EAGER, MAX_PACKETS};
 ghost use Rattle.nm_types.specs.declared.limits.TheConstants.{MAX_STAMP};
 ghost use Rattle.nm_types.specs.Bodies.{body_len};
@@ -14,6 +15,7 @@ ghost use Rattle.nm_history.specs.Happens.{happened, is_recall};
 ghost use Rattle.nm_history.specs.Sends.{sends, is_ask};
 ghost use Rattle.nm_history.specs.Rest.{EagerHaveLeft};
 ghost use Rattle.nm_rndv.specs.Offers.{AllOut, next_offered, no_offers, offered};
+ghost use Rattle.nm_sending.specs.Letters.{packets_for};
 ghost use Rattle.nm_sending.specs.Outboxes.{popped_to, put_to};
 ghost use Rattle.nm_sending.specs.declared.TheConstants.{MAX_MESSAGES};
 ghost use Rattle.nm_sending.specs.Calls.{AnswersRecall, ClearsMessage, HasRoomFor, PopsFirstPacket};
@@ -25,11 +27,11 @@ ghost use Rattle.nm_sending.specs.Sent.{Puts, only_to};
 
 use crate::MAX_MESSAGES;
 use crate::departures::Departure;
-use crate::outbox::{Letter, Outbox};
+use crate::outbox::Outbox;
 use crate::putting::{Heading, put_bare, put_message};
 use crate::tables::Table;
 use nm_rndv::Offers;
-use nm_types::{Answer, Body, How, MAX_PACKETS, Memory, Piece, What};
+use nm_types::{Answer, Body, How, MAX_PACKETS, Memory, Packet, Piece, What};
 use std::alloc::Global;
 use std::marker::Model;
 
@@ -116,11 +118,14 @@ impl Sending {
         self.departures.count(to)
     }
 
-    /// How many packets there are to send.
-    pub fn waiting(&self) -> usize
-        ensures { result ≡ length self.now.outbox.letters }
+    /// How many packets to a rank there are to send.
+    pub fn waiting_for(&self, to: u8) -> u64
+        requires { to < length self.now.outbox.popped }
+        ensures many { result ≡ length (packets_for to self.now.outbox.letters) }
+        ensures in_range { AllByRecursion (λ l. l.to < length self.now.outbox.popped)
+            self.now.outbox.letters }
     {
-        self.outbox.len()
+        self.outbox.waiting_for(to)
     }
 
     /// How many packets to a rank were popped.
@@ -195,7 +200,6 @@ impl Sending {
         let n = self.departures.count(to);
         let len = body.len();
         let heading = Heading {
-            from: self.me,
             to,
             n,
             tag,
@@ -209,13 +213,13 @@ impl Sending {
         Ok(n)
     }
 
-    /// Makes room for so many packets more.
-    pub fn reserve(&mut self, letters: usize) -> Result<(), Memory>
+    /// Makes room for so many messages or packets without bytes more.
+    pub fn reserve(&mut self, notes: usize) -> Result<(), Memory>
         ensures same { SameButRoom self.old self.new }
         ensures kept { self.old.outbox.spare ≤ self.new.outbox.spare }
-        ensures ok { OnOk result (letters ≤ self.new.outbox.spare) }
+        ensures ok { OnOk result (notes ≤ self.new.outbox.spare) }
     {
-        self.outbox.reserve(letters)
+        self.outbox.reserve(notes)
     }
 
     /// Puts a packet without bytes: a clearance, or the answer to a recall. There is room for it.
@@ -318,17 +322,29 @@ impl Sending {
         self.departures.set(to, n, departure.answered(done));
     }
 
-    /// The first packet to be sent, if there is one. Where there is none, each eager message has
-    /// left.
-    pub fn front(&self) -> Option<&Letter>
-        ensures value { option_copied result ≡ slice_get self.now.outbox.letters 0 }
-        ensures to { IfSome result (λ letter. letter.now.to < length self.now.outbox.popped) }
-        ensures from { IfSome result (λ letter. letter.now.packet.from ≡ self.now.outbox.me) }
-        ensures number { IfSome result
-            (λ letter. letter.now.packet.seq ≡ popped_to self.now.outbox letter.now.to) }
+    /// The rank that the first packet goes to, without the packet, if there is one. Where there is none,
+    /// each eager message has left.
+    pub fn front_to(&self) -> Option<u8>
+        ensures first { MatchOption (slice_get self.now.outbox.letters 0) (result ≡ None)
+            (λ letter. IsSomeAnd result (λ to. to ≡ letter.to)) }
+        ensures to { IfSome result (λ to. to < length self.now.outbox.popped) }
         ensures left { IsNone result → (h : List Event) → AreSent self.now h → EagerHaveLeft h }
     {
-        self.outbox.front()
+        self.outbox.front_to()
+    }
+
+    /// Makes it the first packet to be sent, if there is one, and answers the rank that this goes to.
+    /// Where there is none, each eager message has left.
+    pub fn fill_front(&self, into: &mut Packet) -> Option<u8>
+        ensures first { MatchOption (slice_get self.now.outbox.letters 0) (result ≡ None)
+            (λ letter. IsSomeAnd result (λ to. (to ≡ letter.to) × (into.new ≡ letter.packet))) }
+        ensures to { IfSome result (λ to. to < length self.now.outbox.popped) }
+        ensures from { IfSome result (λ to. into.new.from ≡ self.now.outbox.me) }
+        ensures number { IfSome result (λ to. into.new.seq ≡ popped_to self.now.outbox to) }
+        ensures left { IsNone result → (h : List Event) → AreSent self.now h → EagerHaveLeft h }
+        ensures same { IsNone result → into.new ≡ into.old }
+    {
+        self.outbox.fill_front(into)
     }
 
     /// Takes the first packet away. Where it was the last one of an eager message, that one has
@@ -337,12 +353,11 @@ impl Sending {
         requires { 0 < length self.old.outbox.letters }
         ensures { PopsFirstPacket result self.old self.new }
     {
-        let letter = self.outbox.pop_front();
-        let n = letter.ends?;
-        let departure = self.departures.get(letter.to, n).unwrap();
-        self.departures.set(letter.to, n, departure.left());
+        let (to, n) = self.outbox.pop_front()?;
+        let departure = self.departures.get(to, n).unwrap();
+        self.departures.set(to, n, departure.left());
         self.staying -= 1;
-        Some((letter.to, n))
+        Some((to, n))
     }
 
     /// The destination of the next piece to be pushed, without the piece, if there is one.

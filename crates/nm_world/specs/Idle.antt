@@ -4,7 +4,7 @@ use Rattle.std.specs.List.{AllZip, slice_get}
 use Rattle.nm_types.specs.declared.scripts.Line.{Line}
 use Rattle.nm_types.specs.Commands.{commands_of}
 use Rattle.nm_history.specs.Pieces.{due_pieces}
-use Rattle.nm_sending.specs.declared.outbox.letters.Letter.{Letter}
+use Rattle.nm_sending.specs.Letters.{Letter}
 use Rattle.nm_rndv.specs.Offers.{next_offered}
 use Rattle.nm_receiving.specs.Receipts.{drawn_from}
 use Rattle.nm_rank.specs.Ranks.{IsFresh, RankView}

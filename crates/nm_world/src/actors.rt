@@ -19,7 +19,7 @@ ghost use Rattle.nm_world.specs.Looks.{LookedAround, PolledBefore, PolledUnlessW
 ghost use Rattle.nm_world.specs.Rest.{CanMove, IsStill};
 
 use crate::bells::Bells;
-use crate::places::{Places, restore_header};
+use crate::places::{Places, address, restore_header};
 use nm_chain::seats::Steps;
 use nm_copyring::{RingPort, Rings, can_pull, can_push, pull, push};
 use nm_global::standing::laws::passing::{
@@ -109,10 +109,12 @@ impl Actor {
         if rank.is_worn() {
             return Ok(false);
         }
-        let Some((to, packet)) = rank.front() else {
+        let Some(to) = rank.front_to() else {
             return Ok(false);
         };
-        let parcel = self.places.parcel(packet)?;
+        let mut parcel = self.places.parcel()?;
+        rank.fill_front(&mut parcel.item);
+        address(&mut parcel);
         let Sent { path: _, spare } = match send(f, &mut self.port, to, parcel, steps) {
             Ok(sent) => sent,
             Err(back) => {
@@ -496,7 +498,7 @@ impl Actor {
         if rank.is_worn() {
             return true;
         }
-        if rank.front().is_some() {
+        if rank.front_to().is_some() {
             return true;
         }
         if rank.has_piece() {

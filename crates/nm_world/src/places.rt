@@ -1,6 +1,6 @@
 //! The places of an actor for what comes and goes.
 
-ghost use Rattle.std.specs.Prelude.{◌≡◌, IfOk};
+ghost use Rattle.std.specs.Prelude.{◌≡◌};
 ghost use Rattle.nm_world.specs.Parcels.{packet_of, parcel_of};
 
 use crate::bells::{Bells, bit_of};
@@ -64,13 +64,12 @@ fn new_letter(alloc: Global) -> Result<Box<Parcel<Packet>>, Memory> {
     }
 }
 
-// Makes it the parcel of an equal packet.
-fn address(letter: &mut Parcel<Packet>, packet: &Packet)
-    ensures { letter.new ≡ parcel_of packet.now }
+/// Gives a parcel the header of the packet in it.
+pub(crate) fn address(letter: &mut Parcel<Packet>)
+    ensures { letter.new ≡ parcel_of letter.old.item }
 {
-    letter.from = packet.from;
-    letter.seq = packet.seq;
-    letter.item.set(packet);
+    letter.from = letter.item.from;
+    letter.seq = letter.item.seq;
 }
 
 /// Gives the packet in a parcel the parcel's header.
@@ -93,16 +92,12 @@ impl Places {
         }
     }
 
-    /// The parcel that a packet goes in, in the box that is kept, or a new one.
-    pub(crate) fn parcel(&mut self, packet: &Packet) -> Result<Box<Parcel<Packet>>, Memory>
-        ensures { IfOk result (λ letter. letter.value ≡ parcel_of packet.now) }
-    {
-        let mut letter = match self.letter.take() {
-            Some(letter) => letter,
-            None => new_letter(self.alloc)?,
-        };
-        address(&mut letter, packet);
-        Ok(letter)
+    /// A box for a packet: the one that is kept, or a new one.
+    pub(crate) fn parcel(&mut self) -> Result<Box<Parcel<Packet>>, Memory> {
+        match self.letter.take() {
+            Some(letter) => Ok(letter),
+            None => new_letter(self.alloc),
+        }
     }
 
     /// The box for a packet, if there is one.

@@ -13,7 +13,7 @@ use Rattle.nm_history.specs.declared.events.Happened.{Happened}
 use Rattle.nm_history.specs.Sends.{Sent}
 use Rattle.nm_request.specs.declared.Kind.{Kind}
 use Rattle.nm_request.specs.declared.Req.{Req}
-use Rattle.nm_sending.specs.declared.outbox.letters.Letter.{Letter}
+use Rattle.nm_sending.specs.Letters.{Letter}
 use Rattle.nm_sending.specs.Outboxes.{OutboxView, popped_to}
 use Rattle.nm_rndv.specs.Offers.{Offered, Offering, first_leaving, next_in, next_offered}
 use Rattle.nm_rndv.specs.Offers.{offered_of, state_at}

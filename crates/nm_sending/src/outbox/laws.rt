@@ -2,8 +2,7 @@
 
 ghost use Rattle.std.specs.Prelude.{◌≡◌, ◌<◌, ◌+◌, ◌==◌, ℕ, List, [], ◌∷◌, ◌++◌, if◌then◌else◌};
 ghost use Rattle.std.specs.Prelude.{length, slice_set};
-ghost use Rattle.nm_sending.specs.declared.outbox.letters.Letter.{Letter};
-ghost use Rattle.nm_sending.specs.Letters.{packets_for};
+ghost use Rattle.nm_sending.specs.Letters.{Letter, packets_for};
 ghost use Rattle.nm_sending.specs.Outboxes.{OutboxView, popped_to, put_to};
 
 /// The packets to a rank in some letters followed by others. So where the letters that were put are

@@ -1,25 +1,30 @@
 //! The outbox of a rank.
 
-ghost use Rattle.std.specs.Prelude.{◌≡◌, ◌+◌, ◌-◌, ◌<◌, ◌≤◌, ◌↔◌, ℕ, [], ◌∷◌, ◌++◌, length};
+ghost use Rattle.std.specs.Prelude.{◌≡◌, ◌+◌, ◌-◌, ◌<◌, ◌≤◌, ℕ, [], ◌++◌, length};
 ghost use Rattle.std.specs.Prelude.{replicate};
-ghost use Rattle.std.specs.Prelude.{IfOk, IfSome, IsTrue, OnOk, option_copied, slice_get, slice_set};
+ghost use Rattle.std.specs.Prelude.{IfOk, IfSome, IsNone, IsSome, IsSomeAnd, MatchOption, None, OnOk, slice_get};
+ghost use Rattle.std.specs.List.{AllByRecursion};
+ghost use Rattle.std.specs.Prelude.{option_to_list};
+ghost use Rattle.std.specs.VecDeque.{deque_capacity, deque_len};
 ghost use Rattle.nm_types.specs.declared.limits.TheConstants.{MAX_PACKETS, MAX_STAMP};
-ghost use Rattle.nm_history.specs.Outgoing.{IsCalled, bare as bare_lem};
-ghost use Rattle.nm_sending.specs.Letters.{AreLetters};
-ghost use Rattle.nm_sending.specs.Outboxes.{popped_to, put_to};
+ghost use Rattle.nm_eager.specs.Cutting.{packet_count};
+ghost use Rattle.nm_sending.specs.Letters.{AreLetters, Fits, letters_of, packets_for};
+ghost use Rattle.nm_sending.specs.Outboxes.{Pops, PutsBare, PutsPackets, popped_to, put_to};
 
-use crate::outbox::Letter;
-use nm_types::{Memory, Packet, Payload, What};
+use crate::outbox::notes::{Matter, Note};
+use nm_eager::Cutter;
+use nm_types::{Memory, Packet, What};
 use std::alloc::Global;
 use std::collections::VecDeque;
 use std::marker::Model;
 
 /// The packets that a rank has still to send.
 ///
-/// Each call but `new` and `reserve` takes constant time and no memory.
+/// It keeps one note for a message, and a packet is made where it is sent from. Each call but `new` and
+/// `reserve` takes constant time and no memory.
 pub struct Outbox {
     me: u8,
-    letters: VecDeque<Letter>,
+    notes: VecDeque<Note>,
     // by rank, how many packets were popped and how many were put
     popped: Vec<u64>,
     put: Vec<u64>,
@@ -31,7 +36,7 @@ impl Drop for Outbox {
     fn drop(self) {
         let Outbox {
             me: _,
-            letters: _,
+            notes: _,
             popped: _,
             put: _,
             most: _,
@@ -42,19 +47,32 @@ impl Drop for Outbox {
 impl Model for Outbox {
     ghost use Rattle.std.specs.Prelude.{◌-◌};
     ghost use Rattle.std.specs.VecDeque.{deque_capacity, deque_len};
-    ghost use Rattle.nm_sending.specs.Outboxes.{AreFields, OutboxView};
+    ghost use Rattle.nm_sending.specs.Letters.{letters_in};
+    ghost use Rattle.nm_sending.specs.Outboxes.{AreNotes, OutboxView};
 
     ghost Value = { OutboxView };
 
     ghost view = { λ o.
         record {
           me = o.me;
-          letters = o.letters.items;
+          letters = letters_in o.me o.notes.items;
           popped = o.popped.items;
-          spare = deque_capacity o.letters - deque_len o.letters;
+          spare = deque_capacity o.notes - deque_len o.notes;
         } };
 
-    ghost invariant = { λ o. AreFields o.me o.letters.items o.popped.items o.put.items o.most };
+    ghost invariant = { λ o. AreNotes o.me o.notes.items o.popped.items o.put.items o.most };
+}
+
+/// Puts a note in front of the others again, if there is one. There is room for it.
+fn put_back(notes: &mut VecDeque<Note>, note: Option<Note>)
+    requires { IsSome note → deque_len notes.old < deque_capacity notes.old }
+    ensures items { notes.new.items ≡ option_to_list note ++ notes.old.items }
+    ensures room { deque_capacity notes.new ≡ deque_capacity notes.old }
+    ensures len { deque_len notes.new ≡ deque_len notes.old + length (option_to_list note) }
+{
+    if let Some(note) = note {
+        notes.push_front_reserved(note);
+    }
 }
 
 impl Outbox {
@@ -66,25 +84,20 @@ impl Outbox {
     {
         Ok(Outbox {
             me,
-            letters: VecDeque::new(alloc),
+            notes: VecDeque::new(alloc),
             popped: vec![in alloc; 0; ranks as usize]?,
             put: vec![in alloc; 0; ranks as usize]?,
             most: 0,
         })
     }
 
-    /// Whether there is nothing to send.
-    pub fn is_empty(&self) -> bool
-        ensures { IsTrue result ↔ (self.now.letters ≡ []) }
+    /// How many packets to a rank there are to send.
+    pub fn waiting_for(&self, to: u8) -> u64
+        requires { to < length self.now.popped }
+        ensures many { result ≡ length (packets_for to self.now.letters) }
+        ensures in_range { AllByRecursion (λ l. l.to < length self.now.popped) self.now.letters }
     {
-        self.letters.is_empty()
-    }
-
-    /// How many packets there are to send.
-    pub fn len(&self) -> usize
-        ensures { result ≡ length self.now.letters }
-    {
-        self.letters.len()
+        self.put[to as usize] - self.popped[to as usize]
     }
 
     /// How many packets to a rank were popped.
@@ -110,78 +123,101 @@ impl Outbox {
         self.most
     }
 
-    /// The next packet to a rank, without bytes.
-    pub fn bare(&self, to: u8, stamp: u64, what: What) -> Packet
-        requires to { to < length self.now.popped }
-        requires few { put_to self.now to < MAX_PACKETS }
-        requires in_time { stamp ≤ MAX_STAMP }
-        ensures called { IsCalled self.now.me (put_to self.now to) (bare_lem stamp what) result }
-        ensures stamp { result.stamp ≡ stamp }
-    {
-        Packet {
-            from: self.me,
-            seq: self.next_number(to),
-            stamp,
-            what,
-            payload: Payload::of(&[]),
-        }
-    }
-
-    /// Makes room for this many letters more.
+    /// Makes room for this many notes more.
     pub fn reserve(&mut self, extra: usize) -> Result<(), Memory>
         ensures same { self.new ≡ record self.old { spare = self.new.spare } }
         ensures kept { self.old.spare ≤ self.new.spare }
         ensures ok { OnOk result (extra ≤ self.new.spare) }
     {
-        self.letters.reserve(extra)?;
+        self.notes.reserve(extra)?;
         Ok(())
     }
 
-    /// Puts a letter behind the others. Its packet is the rank's next one to that rank, and there is
+    /// Puts a note behind the others. Its first number is the rank's next one to that rank, and there is
     /// room for it.
-    pub fn put(&mut self, letter: Letter)
-        requires to { letter.to < length self.old.popped }
-        requires from { letter.packet.from ≡ self.old.me }
-        requires number { letter.packet.seq ≡ put_to self.old letter.to }
+    fn put(&mut self, note: Note)
+        requires to { note.to < length self.old.popped }
+        requires number { note.seq ≡ put_to self.old note.to }
+        requires few { note.seq + note.left ≤ MAX_PACKETS }
+        requires fits { Fits note.left note.matter }
         requires room { 0 < self.old.spare }
         ensures { self.new
             ≡ record self.old {
-              letters = self.old.letters ++ letter ∷ [];
+              letters = self.old.letters ++ letters_of self.old.me note;
               spare = self.old.spare - 1;
             } }
     {
-        let to = letter.to as usize;
-        let put = letter.packet.seq + 1;
+        let to = note.to as usize;
+        let put = note.seq + u64::from(note.left);
         self.put[to] = put;
         self.most = self.most.max(put);
-        self.letters.push_back_reserved(letter);
+        self.notes.push_back_reserved(note);
     }
 
-    /// The first letter, if there is one.
-    pub fn front(&self) -> Option<&Letter>
-        ensures value { option_copied result ≡ slice_get self.now.letters 0 }
-        ensures to { IfSome result (λ letter. letter.now.to < length self.now.popped) }
-        ensures from { IfSome result (λ letter. letter.now.packet.from ≡ self.now.me) }
-        ensures number { IfSome result
-            (λ letter. letter.now.packet.seq ≡ popped_to self.now letter.now.to) }
+    /// Puts the next packet to a rank, without bytes, behind the others. There is room for it.
+    pub fn put_bare(&mut self, to: u8, stamp: u64, what: What)
+        requires to { to < length self.old.popped }
+        requires few { put_to self.old to < MAX_PACKETS }
+        requires in_time { stamp ≤ MAX_STAMP }
+        requires room { 0 < self.old.spare }
+        ensures { PutsBare to stamp what self.old self.new }
+    {
+        let number = self.next_number(to);
+        let note = Note::new(to, number, stamp, 1, Matter::Bare(what));
+        self.put(note);
+    }
+
+    /// Puts the packets of an eager message to a rank behind the others, with the next numbers. There is
+    /// room for its note. They are cut one by one, where they are sent from.
+    pub fn put_message(&mut self, to: u8, stamp: u64, cutter: Cutter)
+        requires to { to < length self.old.popped }
+        requires few { put_to self.old to + packet_count cutter ≤ MAX_PACKETS }
+        requires in_time { stamp ≤ MAX_STAMP }
+        requires none { cutter.given ≡ 0 }
+        requires room { 0 < self.old.spare }
+        ensures { PutsPackets cutter to stamp self.old self.new }
+    {
+        let number = self.next_number(to);
+        let count = cutter.count();
+        let note = Note::new(to, number, stamp, count, Matter::Cut(cutter));
+        self.put(note);
+    }
+
+    /// The rank that the first packet goes to, without the packet, if there is one.
+    pub fn front_to(&self) -> Option<u8>
+        ensures first { MatchOption (slice_get self.now.letters 0) (result ≡ None)
+            (λ letter. IsSomeAnd result (λ to. to ≡ letter.to)) }
+        ensures to { IfSome result (λ to. to < length self.now.popped) }
+    {
+        let note = self.notes.front()?;
+        Some(note.to)
+    }
+
+    /// Makes it the first packet, if there is one, and answers the rank that this goes to.
+    pub fn fill_front(&self, into: &mut Packet) -> Option<u8>
+        ensures first { MatchOption (slice_get self.now.letters 0) (result ≡ None)
+            (λ letter. IsSomeAnd result (λ to. (to ≡ letter.to) × (into.new ≡ letter.packet))) }
+        ensures to { IfSome result (λ to. to < length self.now.popped) }
+        ensures from { IfSome result (λ to. into.new.from ≡ self.now.me) }
+        ensures number { IfSome result (λ to. into.new.seq ≡ popped_to self.now to) }
+        ensures same { IsNone result → into.new ≡ into.old }
         ensures lawful { AreLetters self.now.me self.now.popped self.now.letters }
     {
-        self.letters.front()
+        let note = self.notes.front()?;
+        note.fill(self.me, into);
+        Some(note.to)
     }
 
-    /// Takes the first letter away.
-    pub fn pop_front(&mut self) -> Letter
+    /// Takes the first packet away, and answers the eager message that leaves with it, if one does: its
+    /// receiver and its number. With a message's last packet its body is let go.
+    pub fn pop_front(&mut self) -> Option<(u8, u64)>
         requires { 0 < length self.old.letters }
-        ensures first { self.old.letters ≡ result ∷ self.new.letters }
-        ensures counted { self.new
-            ≡ record self.old {
-              letters = self.new.letters;
-              popped = slice_set self.old.popped result.to (popped_to self.old result.to + 1);
-              spare = self.old.spare + 1;
-            } }
+        ensures { Pops result self.old self.new }
     {
-        let letter = self.letters.pop_front().unwrap();
-        self.popped[letter.to as usize] = letter.packet.seq + 1;
-        letter
+        let note = self.notes.pop_front().unwrap();
+        let last = note.ended();
+        self.popped[note.to as usize] = note.seq + 1;
+        put_back(&mut self.notes, note.rest());
+        last
     }
 }

@@ -3,7 +3,7 @@
 ghost use Rattle.uses.specs.Steps.{AreInStep};
 
 use nm_rank::Rank;
-use nm_types::{Memory, Piece};
+use nm_types::{Memory, Packet, Piece};
 
 /// Moves the first packet of a rank to the other one, if there is one for it. Its number is the one
 /// that the other awaits, since each took all that left the other.
@@ -14,13 +14,14 @@ pub fn move_packet(from: &mut Rank, to: &mut Rank, here: u8, there: u8) -> Resul
     if from.is_worn() || to.is_worn() {
         return Ok(false);
     }
-    let Some((at, packet)) = from.front() else {
+    let mut packet = Packet::blank();
+    let Some(at) = from.fill_front(&mut packet) else {
         return Ok(false);
     };
     if at != there {
         return Ok(false);
     }
-    to.take_packet(packet)?;
+    to.take_packet(&packet)?;
     from.pop_front();
     Ok(true)
 }

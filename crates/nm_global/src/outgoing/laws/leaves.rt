@@ -8,7 +8,7 @@ ghost use Rattle.nm_rank.specs.Ranks.{RankView};
 ghost use Rattle.nm_global.specs.Emitted.{IsEmitted, Emitted};
 
 /// Where no packet is in the outbox and each cleared message has left, what left is all that the
-/// history calls for (`Rank::front`, `Rank::front_piece`).
+/// history calls for (`Rank::fill_front`, `Rank::front_piece`).
 pub fn all_left()
     ensures packets { (bodies : Sent → List ℕ) (v : RankView) (to : ℕ) (left : Emitted) →
         v.sending.outbox.letters ≡ [] → IsEmitted bodies v to left →

@@ -9,7 +9,7 @@ ghost use Rattle.nm_types.specs.Sizes.{Sizes};
 ghost use Rattle.nm_history.specs.Pieces.{due_pieces};
 ghost use Rattle.nm_history.specs.Rules.{AreRight};
 ghost use Rattle.nm_rndv.specs.Offers.{next_offered, offered};
-ghost use Rattle.nm_sending.specs.declared.outbox.letters.Letter.{Letter};
+ghost use Rattle.nm_sending.specs.Letters.{Letter};
 ghost use Rattle.nm_sending.specs.Departures.{pushed_to};
 ghost use Rattle.nm_sending.specs.Sent.{outs};
 ghost use Rattle.nm_receiving.specs.Receipts.{drawn_from};

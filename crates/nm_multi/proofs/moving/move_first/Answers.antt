@@ -15,18 +15,18 @@ pop_front-requires-clause-first c =
 pub returns-then-not-is_worn-clause-moves : goal.returns-then-not-is_worn-clause-moves
 returns-then-not-is_worn-clause-moves c =
     let e = c.in-Some.ensures.own in
-    let b = begins c.args.rank.now c.take_packet.new.self _ c.in-Some.field-0-0 c.copy-packet.result
-    c.in-Some.first.now c.requires.alone c.requires.fresh c.history.ensures.right (λ none. cc)
-    c.in-Some.ensures.first e.0 e.1 c.copy-packet.ensures c.in_ok-take_packet.ensures.taken in
+    let b = begins c.args.rank.now c.take_packet.new.self _ c.in-Some.field-0 c.fill_front.new.into
+    c.fill_front.new.into c.requires.alone c.requires.fresh c.history.ensures.right (λ none. cc)
+    c.in-Some.ensures.first e.0 e.1 refl c.in_ok-take_packet.ensures.taken in
     moves_of c.args.rank.now c.take_packet.new.self c.pop_front.new.self b
     (inl (c.is_worn.ensures.0 c.if-not-is_worn.true, c.pop_front.ensures))
 
 pub returns-then-not-is_worn-clause-alone : goal.returns-then-not-is_worn-clause-alone
 returns-then-not-is_worn-clause-alone c =
     let e = c.in-Some.ensures.own in
-    let b = begins c.args.rank.now c.take_packet.new.self _ c.in-Some.field-0-0 c.copy-packet.result
-    c.in-Some.first.now c.requires.alone c.requires.fresh c.history.ensures.right (λ none. cc)
-    c.in-Some.ensures.first e.0 e.1 c.copy-packet.ensures c.in_ok-take_packet.ensures.taken in
+    let b = begins c.args.rank.now c.take_packet.new.self _ c.in-Some.field-0 c.fill_front.new.into
+    c.fill_front.new.into c.requires.alone c.requires.fresh c.history.ensures.right (λ none. cc)
+    c.in-Some.ensures.first e.0 e.1 refl c.in_ok-take_packet.ensures.taken in
     moved_one c.args.rank.now c.pop_front.new.self c.requires.alone
     (moves_of c.args.rank.now c.take_packet.new.self c.pop_front.new.self b
     (inl (c.is_worn.ensures.0 c.if-not-is_worn.true, c.pop_front.ensures)))
@@ -34,18 +34,18 @@ returns-then-not-is_worn-clause-alone c =
 pub returns-else-not-is_worn-clause-moves : goal.returns-else-not-is_worn-clause-moves
 returns-else-not-is_worn-clause-moves c =
     let e = c.in-Some.ensures.own in
-    let b = begins c.args.rank.now c.take_packet.new.self _ c.in-Some.field-0-0 c.copy-packet.result
-    c.in-Some.first.now c.requires.alone c.requires.fresh c.history.ensures.right (λ none. cc)
-    c.in-Some.ensures.first e.0 e.1 c.copy-packet.ensures c.in_ok-take_packet.ensures.taken in
+    let b = begins c.args.rank.now c.take_packet.new.self _ c.in-Some.field-0 c.fill_front.new.into
+    c.fill_front.new.into c.requires.alone c.requires.fresh c.history.ensures.right (λ none. cc)
+    c.in-Some.ensures.first e.0 e.1 refl c.in_ok-take_packet.ensures.taken in
     moves_of c.args.rank.now c.take_packet.new.self c.take_packet.new.self b
     (inr (λ fresh. absurd (true≢false (sym c.if-not-is_worn.false ∙ c.is_worn.ensures.1 fresh)), refl))
 
 pub returns-else-not-is_worn-clause-alone : goal.returns-else-not-is_worn-clause-alone
 returns-else-not-is_worn-clause-alone c =
     let e = c.in-Some.ensures.own in
-    let b = begins c.args.rank.now c.take_packet.new.self _ c.in-Some.field-0-0 c.copy-packet.result
-    c.in-Some.first.now c.requires.alone c.requires.fresh c.history.ensures.right (λ none. cc)
-    c.in-Some.ensures.first e.0 e.1 c.copy-packet.ensures c.in_ok-take_packet.ensures.taken in
+    let b = begins c.args.rank.now c.take_packet.new.self _ c.in-Some.field-0 c.fill_front.new.into
+    c.fill_front.new.into c.requires.alone c.requires.fresh c.history.ensures.right (λ none. cc)
+    c.in-Some.ensures.first e.0 e.1 refl c.in_ok-take_packet.ensures.taken in
     moved_one c.args.rank.now c.take_packet.new.self c.requires.alone
     (moves_of c.args.rank.now c.take_packet.new.self c.take_packet.new.self b
     (inr (λ fresh. absurd (true≢false (sym c.if-not-is_worn.false ∙ c.is_worn.ensures.1 fresh)), refl)))

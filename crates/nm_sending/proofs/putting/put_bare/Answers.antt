@@ -1,11 +1,15 @@
 -- A packet without bytes ends no message.
-use Rattle.std.proofs.Common.{ap, refl, ◌∙◌}
-use Rattle.nm_sending.specs.Outboxes.{OutboxView}
-use Rattle.nm_sending.specs.Departures.{ends_to}
-use Rattle.nm_sending.proofs.EndLemmas.{ends-push_none}
+use Rattle.nm_sending.proofs.PutLemmas.{bare_ends, bare_room, puts_bare}
 use Rattle.nm_sending.proofs.putting.put_bare.Goals as goal
+
+pub returns-clause-puts : goal.returns-clause-puts
+returns-clause-puts c =
+    puts_bare c.args.to c.args.stamp c.args.what c.args.outbox.now c.put_bare.new.self c.put_bare.ensures
 
 pub returns-clause-ends : goal.returns-clause-ends
 returns-clause-ends c =
-    λ other. ap (λ (o : OutboxView). ends_to other o.letters) c.put.ensures
-    ∙ ends-push_none other c.args.outbox.now.letters _ refl
+    bare_ends c.args.to c.args.stamp c.args.what c.args.outbox.now c.put_bare.new.self c.put_bare.ensures
+
+pub returns-clause-room : goal.returns-clause-room
+returns-clause-room c =
+    bare_room c.args.to c.args.stamp c.args.what c.args.outbox.now c.put_bare.new.self c.put_bare.ensures

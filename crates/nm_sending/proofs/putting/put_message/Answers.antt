@@ -1,37 +1,39 @@
 -- The packets of a message, or the one that asks for it.
-use Rattle.std.proofs.Common.{◌≡◌, ◌+◌, ℕ, length, refl, sym, ◌∙◌, ap, arith}
-use Rattle.nm_history.specs.Outgoing.{further_packets}
+use Rattle.std.proofs.Common.{◌≡◌, ◌+◌, ◌≤◌, ℕ, Bool, cond, length, refl, ◌∙◌, ap, subst, arith}
+use Rattle.nm_types.specs.Bodies.{body_len}
+use Rattle.nm_types.specs.declared.limits.TheConstants.{MAX_BODY, MAX_EAGER}
 use Rattle.nm_history.specs.Sends.{is_ask}
 use Rattle.nm_eager.specs.Cutting.{Cutting, packet_count}
-use Rattle.nm_sending.proofs.MessageLemmas.{puts_message, ends_message, puts_request, ends_request}
+use Rattle.nm_sending.specs.Outboxes.{OutboxView, put_to}
+use Rattle.nm_sending.proofs.MessageLemmas.{ends_message, ends_request, puts_message, puts_request}
 use Rattle.nm_sending.proofs.putting.put_message.Goals as goal
 use Rattle.nm_types.proofs.BodyLemmas.{bytes_count}
 
-all_packets : (count len : ℕ) (cutting : Cutting) (bytes : ℕ) → count ≡ 1 + further_packets len → len ≡ bytes
-    → length cutting.body ≡ bytes → count ≡ packet_count cutting
-all_packets count len cutting bytes is many body =
-    is ∙ ap (λ (x : ℕ). 1 + further_packets x) (many ∙ sym body)
+-- at most sixteen packets
+few_packets : (cutting : Cutting) (bytes : ℕ) → length cutting.body ≡ bytes → bytes ≤ 4096
+    → packet_count cutting ≤ 16
+few_packets cutting bytes long short = omega (arith, long, short)
 
-pub put_packets-requires-clause-all : goal.put_packets-requires-clause-all
-put_packets-requires-clause-all c =
-    all_packets c.packets_of-count.result c.len-len.result c.new-cutter.result _ c.packets_of-count.ensures
-    c.len-len.ensures
-    (ap (λ (x : Cutting). length x.body) c.new-cutter.ensures ∙ bytes_count c.args.body)
+pub put_message-requires-clause-few : goal.put_message-requires-clause-few
+put_message-requires-clause-few c =
+    let short : body_len c.args.body ≤ 4096 =
+    subst (λ (b : Bool). body_len c.args.body ≤ cond b MAX_BODY MAX_EAGER) (ap is_ask c.in-Eager.is)
+    c.requires.short in
+    let many = few_packets c.new-cutter.result (body_len c.args.body)
+    (ap (λ (x : Cutting). length x.body) c.new-cutter.ensures ∙ bytes_count c.args.body) short in
+    let put : put_to c.reserve.new.self c.args.heading.to ≡ put_to c.args.outbox.now c.args.heading.to =
+    ap (λ (o : OutboxView). put_to o c.args.heading.to) c.reserve.ensures.same in
+    omega (arith, many, put, c.requires.few)
 
 pub returns-in_ok-reserve-in-Eager-clause-put : goal.returns-in_ok-reserve-in-Eager-clause-put
 returns-in_ok-reserve-in-Eager-clause-put c =
-    let all : c.packets_of-count.result ≡ packet_count c.new-cutter.result =
-    all_packets c.packets_of-count.result c.len-len.result c.new-cutter.result _ c.packets_of-count.ensures
-    c.len-len.ensures (ap (λ (x : Cutting). length x.body) c.new-cutter.ensures ∙ bytes_count c.args.body) in
+    let h = c.args.heading in let old = c.args.outbox.now in let reserved = c.reserve.new.self in
+    let new = c.put_message.new.self in let eager = ap is_ask c.in-Eager.is in
     λ line. record {
-      puts = λ h. puts_message c.packets_of-count.result c.new-cutter.result c.args.heading.from
-          c.args.heading.to c.args.heading.n c.args.heading.tag c.args.heading.ctx c.args.stamp c.args.body
-          c.args.heading.how c.args.outbox.now c.reserve.new.self c.put_packets.new.outbox _
-          c.reserve.ensures.same c.new-cutter.ensures all (ap is_ask c.in-Eager.is) c.put_packets.ensures h line;
-      ends = ends_message c.packets_of-count.result c.new-cutter.result c.args.heading.from c.args.heading.to
-          c.args.heading.n c.args.heading.tag c.args.heading.ctx c.args.stamp c.args.body c.args.heading.how
-          c.args.outbox.now c.reserve.new.self c.put_packets.new.outbox _ c.reserve.ensures.same
-          c.new-cutter.ensures all (ap is_ask c.in-Eager.is) c.put_packets.ensures;
+      puts = λ history. puts_message c.new-cutter.result h.to h.n h.tag h.ctx c.args.stamp c.args.body h.how old
+          reserved new _ c.reserve.ensures.same c.new-cutter.ensures eager c.put_message.ensures history line;
+      ends = ends_message c.new-cutter.result h.to h.n h.tag h.ctx c.args.stamp c.args.body h.how old reserved new
+          _ c.reserve.ensures.same c.new-cutter.ensures eager c.put_message.ensures;
       asked = rw c.in-Eager.is refl;
     }
 

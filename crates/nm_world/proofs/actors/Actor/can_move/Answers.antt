@@ -16,8 +16,8 @@ returns-then-is_worn c = record {
 pub returns-then-is_some : goal.returns-then-is_some
 returns-then-is_some c = record {
   exactly = λ shape work. (
-    λ e. letter (some_letters c.args.self.now.process.rank.sending.outbox.letters c.front.result _
-        (rw c.rank-rank.ensures at c.front.ensures.first) (sym c.is_some.ensures ∙ c.if-is_some.true)),
+    λ e. letter (some_letters c.args.self.now.process.rank.sending.outbox.letters c.front_to.result _
+        (rw c.rank-rank.ensures at c.front_to.ensures.first) (sym c.is_some.ensures ∙ c.if-is_some.true)),
     λ moves. refl,
   );
   still = λ stuck work. absurd (clash stuck);
@@ -38,8 +38,8 @@ returns c =
     let no_front = sym c.is_some.ensures ∙ c.if-is_some.false in
     let no_piece = (rw c.rank-rank.ensures at c.has_piece.ensures.none) c.if-has_piece.false in
     let fresh = (rw c.rank-rank.ensures at c.is_worn.ensures).0 c.if-is_worn.false in
-    let outbox = no_letters v.rank.sending.outbox.letters c.front.result _ _
-    (rw c.rank-rank.ensures at c.front.ensures.first) no_front in
+    let outbox = no_letters v.rank.sending.outbox.letters c.front_to.result _ _
+    (rw c.rank-rank.ensures at c.front_to.ensures.first) no_front in
     record {
       exactly = λ shape work. (
         λ e. command (sym (c.can_run.ensures shape work) ∙ e),
@@ -56,7 +56,7 @@ returns c =
         empty = rw c.rank-rank.ensures at c.history.ensures.empty;
         fresh = fresh;
         outbox = outbox;
-        eager = at_none c.front.result _ (rw c.rank-rank.ensures at c.front.ensures.left) no_front;
+        eager = at_none c.front_to.result _ (rw c.rank-rank.ensures at c.front_to.ensures.left) no_front;
         pieces = (rw c.rank-rank.ensures at c.has_piece.ensures.out).0 c.if-has_piece.false;
         cleared = (rw c.rank-rank.ensures at c.has_piece.ensures.left).0 c.if-has_piece.false;
         stuck = sym (c.can_run.ensures v.rank.sizes work) ∙ stuck;

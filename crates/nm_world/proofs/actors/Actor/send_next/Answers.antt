@@ -9,7 +9,7 @@ use Rattle.nm_global.specs.Moments.{acted}
 use Rattle.nm_sending.specs.Departures.{ended_by}
 use Rattle.nm_sending.specs.Sent.{outs}
 use Rattle.std.specs.Prelude.{false, IfSome, length, slice_get}
-use Rattle.nm_sending.specs.declared.outbox.letters.Letter.{Letter}
+use Rattle.nm_sending.specs.Letters.{Letter}
 use Rattle.nm_process.specs.Processes.{ProcessView}
 use Rattle.nm_world.specs.Idle.{NotSent}
 use Rattle.nm_global.specs.ProcessInvariant.{IsOf, with_moment, with_packet_left}
@@ -25,10 +25,9 @@ use Rattle.nm_world.proofs.Grows.{grows_same, port_by, ring_same}
 use Rattle.nm_world.proofs.Idle.{came_back, stepped_fresh}
 use Rattle.nm_world.proofs.Moves.{moves_none}
 use Rattle.nm_world.proofs.Leaves.{send_on}
-use Rattle.nm_world.proofs.Results.{clash, none_first}
+use Rattle.nm_world.proofs.Results.{clash, front_cut, none_first}
 use Rattle.nm_world.proofs.Steps.{back_got, back_sent, nothing_carried, seat_is}
 use Rattle.nm_world.proofs.actors.Actor.send_next.Goals as goal
-use Rattle.nm_sending.proofs.LetterLemmas.{first_letter}
 
 pub returns-then-is_worn : goal.returns-then-is_worn
 returns-then-is_worn g c =
@@ -53,10 +52,13 @@ returns-in_default g c =
 -- the parcel that is sent is the packet's
 pub send-requires-clause-parcel : goal.send-requires-clause-parcel
 send-requires-clause-parcel g c =
-    let made = c.in_ok-parcel.ensures in
+    let made = c.address.ensures ∙ ap (λ (z : Parcel Packet). parcel_of z.item) c.deref_mut-2.ensures.value in
     let s = c.requires.1 in
-    let own = rw c.rank-rank.ensures at c.in-Some.ensures.own in
     let to = c.in-Some.to in
+    let first = front_cut (slice_get c.args.self.now.process.rank.sending.outbox.letters 0) to c.fill_front.result
+    c.fill_front.new.into _ _ (λ none. cc) (rw c.rank-rank.ensures at c.in-Some.ensures.first)
+    (rw c.rank-rank.ensures at c.fill_front.ensures.first) (rw c.rank-rank.ensures at c.fill_front.ensures.own) in
+    let own = first.4 in
     let number = own.2 ∙ sym (s.is.standing.rank.left to own.0).packets.popped ∙ (s.is.sent to own.0).many in (
       ap (λ (x : Parcel Packet). x.from) made ∙ own.1 ∙ s.is.standing.rank.me,
       ap (λ (x : Parcel Packet). x.seq) made ∙ number,
@@ -68,18 +70,20 @@ returns-in-Err g c =
     let a = c.args.self.now in
     let port = c.send.new.port in
     let e = c.send.ensures in
-    let len : ℕ = length c.in-Some.packet.now.payload in
+    let len : ℕ = length c.fill_front.new.into.payload in
     let fits = is_short len in
     let to = c.in-Some.to in
     let miss = subst (λ (x : Parcel Packet). HadMiss free_queue
-    (tried (is_short (length x.item.payload)) to (knows a.port)) (knows port)) c.in_ok-parcel.ensures
+    (tried (is_short (length x.item.payload)) to (knows a.port)) (knows port))
+    (c.address.ensures ∙ ap (λ (z : Parcel Packet). parcel_of z.item) c.deref_mut-2.ensures.value)
     c.in-Err.ensures.back.1.miss in
     let n = c.args.f.now.ranks in
     let fresh = (rw c.rank-rank.ensures at c.is_worn.ensures).0 c.if-is_worn.false in
     let letters = a.process.rank.sending.outbox.letters in
-    let first = first_letter (slice_get letters 0) _ to c.in-Some.packet.now (λ none. cc)
-    (rw c.rank-rank.ensures at c.in-Some.ensures.first) in
-    let own = rw c.rank-rank.ensures at c.in-Some.ensures.own in
+    let first = front_cut (slice_get letters 0) to c.fill_front.result c.fill_front.new.into _ _ (λ none. cc)
+    (rw c.rank-rank.ensures at c.in-Some.ensures.first) (rw c.rank-rank.ensures at c.fill_front.ensures.first)
+    (rw c.rank-rank.ensures at c.fill_front.ensures.own) in
+    let own = first.4 in
     let within = own.0 in
     let ranks = s.is.ranks.0 in
     let wide = s.is.cells.2 in
@@ -119,18 +123,20 @@ returns g c =
     let e = c.send.ensures in
     let p = c.pop_front.ensures in
     let pops = p.pops in
-    let own = rw c.rank-rank.ensures at c.in-Some.ensures.own in
     let to = c.in-Some.to in
-    let packet : Packet = c.in-Some.packet.now in
+    let packet : Packet = c.fill_front.new.into in
     let shape = a.process.rank.sizes in
     let letters = a.process.rank.sending.outbox.letters in
-    let first = first_letter (slice_get letters 0) _ to c.in-Some.packet.now (λ none. cc)
-    (rw c.rank-rank.ensures at c.in-Some.ensures.first) in
+    let first = front_cut (slice_get letters 0) to c.fill_front.result c.fill_front.new.into _ _ (λ none. cc)
+    (rw c.rank-rank.ensures at c.in-Some.ensures.first) (rw c.rank-rank.ensures at c.fill_front.ensures.first)
+    (rw c.rank-rank.ensures at c.fill_front.ensures.own) in
+    let own = first.4 in
     let copied : packet ≡ first.0.packet = first.3 in
     let way = c.in-Ok.sent.path in
     let fits = is_short (length packet.payload) in
     let sends = subst (λ (x : Parcel Packet). SendsBy way (is_short (length x.item.payload)) to x a.port port)
-    c.in_ok-parcel.ensures c.in-Ok.ensures.sends in
+    (c.address.ensures ∙ ap (λ (z : Parcel Packet). parcel_of z.item) c.deref_mut-2.ensures.value)
+    c.in-Ok.ensures.sends in
     let within = own.0 in
     let left = s.is.standing.rank.left to within in
     let number = own.2 ∙ sym left.packets.popped

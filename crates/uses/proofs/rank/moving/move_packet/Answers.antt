@@ -22,15 +22,15 @@ take_packet-requires-clause-number c =
 
 pub pop_front-requires-clause-first : goal.pop_front-requires-clause-first
 pop_front-requires-clause-first c =
-    let l = letter_of _ _ c.in-Some.at c.in-Some.packet.now c.in-Some.ensures.first in
+    let l = letter_of _ _ c.in-Some.at c.fill_front.new.into c.in-Some.ensures.first in
     has_first _ l.0 l.1
 
 pub returns : goal.returns
 returns c =
     let step = c.requires.step in
     let own = c.in-Some.ensures.own in
-    let l = letter_of _ _ c.in-Some.at c.in-Some.packet.now c.in-Some.ensures.first in record {
+    let l = letter_of _ _ c.in-Some.at c.fill_front.new.into c.in-Some.ensures.first in record {
       step = packet_moved c.args.from.now c.pop_front.new.self c.args.to.now c.take_packet.new.self
-          c.in-Some.packet.now l.0 step (own.1 ∙ step.first.me) c.in_ok-take_packet.ensures.taken l.1
+          c.fill_front.new.into l.0 step (own.1 ∙ step.first.me) c.in_ok-take_packet.ensures.taken l.1
           (sym l.2 ∙ c.if-at-there.false) c.pop_front.ensures;
     }

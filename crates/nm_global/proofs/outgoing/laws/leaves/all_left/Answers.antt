@@ -6,7 +6,7 @@ use Rattle.nm_history.specs.Outgoing.{AreCalled, AreCalledPieces, CalledPiece, o
 use Rattle.nm_history.specs.Sends.{sends}
 use Rattle.nm_rndv.specs.declared.asked.State.{State}
 use Rattle.nm_rndv.specs.Offers.{state_of}
-use Rattle.nm_sending.specs.declared.outbox.letters.Letter.{Letter}
+use Rattle.nm_sending.specs.Letters.{Letter}
 use Rattle.nm_sending.specs.Letters.{packets_for}
 use Rattle.nm_sending.specs.Departures.{cleared_to}
 use Rattle.nm_global.specs.Emitted.{begun_of, first_of}
