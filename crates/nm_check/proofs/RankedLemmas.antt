@@ -2,17 +2,10 @@
 use Rattle.std.proofs.Common.{◌≡◌, ℕ, ◌<◌, Option, List, length, get_or, sym, subst}
 use Rattle.std.specs.Prelude.{IsSomeAnd}
 use Rattle.std.specs.List.{slice_get}
-use Rattle.nm_types.specs.declared.scripts.Line.{Line}
 use Rattle.nm_history.specs.Quiescence.{Ended}
 use Rattle.nm_report.specs.declared.accounts.RankAccount.{RankAccount}
 use Rattle.nm_report.specs.Ends.{ends_of}
-use Rattle.nm_check_rank.specs.Tabled.{AreRankTables}
-use Rattle.nm_check_rank.specs.declared.paired.tables.Tables.{Tables}
 use Rattle.nm_check_ranks.proofs.RankLemmas.{end_at, ended}
-
--- the tables of the rank at a place
-abbrev pub TabledAt : List Line → List Ended → ℕ → Tables → Type 0
-TabledAt lines ranks i tables = IsSomeAnd (slice_get ranks i) (λ rank. AreRankTables i lines rank.events tables)
 
 -- what is so of the rank at a place
 pub of_end : (ranks : List RankAccount) (i : ℕ) (a : RankAccount) (P : Ended → Type 0) → i < length ranks →

@@ -1,9 +1,6 @@
 -- What is said of what was called for at a claim, at a start and at the answer to a cancel.
 use Rattle.std.specs.Prelude.{ℕ, List, ◌++◌, Option, Some, None, codes, decimal}
-use Rattle.nm_types.specs.declared.messages.Peer.{Peer}
-use Rattle.nm_types.specs.declared.messages.Peer.TheVariants as peer
-use Rattle.nm_types.specs.declared.messages.TagPick.{TagPick}
-use Rattle.nm_types.specs.declared.messages.TagPick.TheVariants as pick
+use Rattle.nm_types.specs.Text.{peer_word, tag_word}
 use Rattle.nm_lookups.specs.declared.asked.requests.Request.{Request}
 use Rattle.nm_lookups.specs.declared.asked.requests.Request.TheVariants.{Sending, Receiving}
 use Rattle.nm_match.specs.declared.names.Message.{Message}
@@ -61,16 +58,6 @@ sort_word sort.Send = codes "a send"
 sort_word sort.Receive = codes "a receive"
 sort_word sort.Matched = codes "a receive of a claimed message"
 
--- the source that a receive names
-abbrev pub source_word : Peer → List ℕ
-source_word peer.Any = codes "any"
-source_word (peer.One rank) = decimal rank
-
--- .. and the tag
-abbrev pub tag_word : TagPick → List ℕ
-tag_word pick.Any = codes "any"
-tag_word (pick.One tag) = decimal tag
-
 -- the name of an argument
 abbrev pub name_word : Argument → List ℕ
 name_word (arg.Sort s) = codes "; it"
@@ -87,7 +74,7 @@ name_word (arg.Line line) = codes "; its command"
 abbrev pub value_words : Argument → List ℕ
 value_words (arg.Sort s) = sort_word s
 value_words (arg.To to) = decimal to
-value_words (arg.From from) = source_word from
+value_words (arg.From from) = peer_word from
 value_words (arg.Tag tag) = tag_word tag
 value_words (arg.Context ctx) = decimal ctx
 value_words (arg.Length len) = decimal len

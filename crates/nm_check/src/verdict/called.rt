@@ -1,6 +1,7 @@
 //! What was called for at a claim, at a start and at the answer to a cancel.
 
 ghost use Rattle.std.specs.Prelude.{◌≡◌, IfOk, string_bytes};
+ghost use Rattle.nm_types.specs.Text.{peer_word, tag_word as tag_word_lem};
 ghost use Rattle.nm_check.specs.VerdictCalled as spec;
 
 use crate::verdict::incidents::{from_words, receive_words, to_words};
@@ -107,7 +108,7 @@ fn sort_word(sort: Sort) -> &'static str
 
 /// The source that a receive names.
 fn source_word(alloc: Global, from: Peer) -> Result<String, AllocError>
-    ensures { IfOk result (λ text. string_bytes text ≡ spec.source_word from) }
+    ensures { IfOk result (λ text. string_bytes text ≡ peer_word from) }
 {
     match from {
         Peer::Any => format!(in alloc; "any"),
@@ -117,7 +118,7 @@ fn source_word(alloc: Global, from: Peer) -> Result<String, AllocError>
 
 /// .. and the tag.
 fn tag_word(alloc: Global, tag: TagPick) -> Result<String, AllocError>
-    ensures { IfOk result (λ text. string_bytes text ≡ spec.tag_word tag) }
+    ensures { IfOk result (λ text. string_bytes text ≡ tag_word_lem tag) }
 {
     match tag {
         TagPick::Any => format!(in alloc; "any"),
