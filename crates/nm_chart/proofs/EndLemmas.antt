@@ -7,8 +7,10 @@ use Rattle.nm_report.specs.declared.records.RunRecord.{RunRecord}
 use Rattle.nm_chart.specs.Answers.{Charts, IsAnswer, IsAnswerTo, Tells, WasQuiet, WasRead, status_of}
 use Rattle.nm_chart.specs.Given.{IsReadFor}
 use Rattle.nm_check.specs.Done.{Ending}
-use Rattle.nm_chart.specs.Endings.{IsBadTrace, IsDrawn, IsRefused, IsStatus, IsTrace, IsTraceOfOne, OrFails}
-use Rattle.nm_chart.specs.Endings.{OrUnwritten, read_of, unread, usage}
+use Rattle.nm_chart.specs.Endings.{IsBadTrace, IsDrawn, IsRefused, IsStatus, IsTrace, IsTraceOfOne, usage}
+use Rattle.nm_check.specs.Answers.{read_of, unread}
+use Rattle.nm_check.specs.Endings.{OrFails, OrUnwritten}
+use Rattle.nm_check.proofs.FailLemmas.{to_fails}
 use Rattle.nm_chart.specs.declared.answers.Response.{Response}
 use Rattle.nm_chart.specs.declared.answers.Response.TheVariants.{Usage, Unread, Refused, Drawn}
 use Rattle.nm_chart.proofs.WidenedLemmas.{picture_of_each}
@@ -39,10 +41,6 @@ or_fails ends make = elim ends.said.2 [ inl p ↦ inl (make p.0) | inr p ↦ inr
 -- a source that failed was answered by 4 or 5
 unread_fails : {P : Type 0} {e : Ending} → Charts e Unread → OrFails P e.status
 unread_fails ends = elim ends.said.2 [ inl p ↦ inr (inl p.0) | inr p ↦ inr (inr (inl p.0)) ]
-
-to_fails : {P : Type 0} (status : ℕ) → OrUnwritten P status → OrFails P status
-to_fails status (inl h) = inl h
-to_fails status (inr h) = inr (inr h)
 
 weaker : (input : Option (List ℕ)) (P Q : List ℕ → Type 0) → ((bytes : List ℕ) → P bytes → Q bytes) →
     IfSome input P → IfSome input Q

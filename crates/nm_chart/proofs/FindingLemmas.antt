@@ -10,13 +10,14 @@ use Rattle.nm_check.specs.declared.verdicts.Verdict.{Verdict}
 use Rattle.nm_check.specs.Checks.{sizes}
 use Rattle.nm_check.specs.Inputs.{HasNoCut, IsOnlyCut}
 use Rattle.nm_picture.specs.declared.flags.Flag.{Flag}
-use Rattle.nm_chart.specs.Endings.{read_of, widest}
+use Rattle.nm_chart.specs.Endings.{widest}
+use Rattle.nm_check.specs.Answers.{IsAsked, read_of}
 use Rattle.nm_chart.specs.Widened.{widened}
 use Rattle.nm_check.specs.declared.breaks.evidence.Evidence.{Evidence}
 use Rattle.nm_check.specs.declared.breaks.finding.Found.{Found}
 use Rattle.nm_check.specs.declared.breaks.finding.Found.TheVariants as found
 use Rattle.nm_check.specs.declared.breaks.places.Place.{Place}
-use Rattle.nm_chart.specs.Findings.{HasTrace, IsAnswer, IsAnswerIn, IsAsked, IsFinding, IsFindingOf, IsFoundIn}
+use Rattle.nm_chart.specs.Findings.{HasTrace, IsAnswer, IsAnswerIn, IsFinding, IsFindingOf, IsFoundIn}
 use Rattle.nm_chart.specs.Findings.{flag_of}
 use Rattle.nm_chart.specs.declared.check.findings.Finding.{Finding}
 use Rattle.nm_chart.specs.declared.check.findings.Finding.TheVariants.{Usage, Unread, NoScript, NoTrace, Drawn}

@@ -6,14 +6,15 @@ use Rattle.nm_chart.specs.declared.answers.Response.TheVariants.{Usage, Unread, 
 use Rattle.nm_picture.specs.Pictures.{IsPictureOf}
 use Rattle.nm_check.specs.Done.{Ending}
 use Rattle.nm_chart.specs.Given.{IsReadFor, IsSaid}
-use Rattle.nm_chart.specs.Endings.{IsBadTrace, IsTraceOfOne, fault_text, read_of}
-use Rattle.nm_chart.specs.Endings.{unread, usage}
+use Rattle.nm_chart.specs.Endings.{IsBadTrace, IsTraceOfOne, usage}
+use Rattle.nm_check.specs.Answers.{read_of, unread}
+use Rattle.nm_check.specs.Texts.{trace_fault_text}
 
 -- the text is that of the answer
 abbrev pub Tells : Response → List ℕ → Type 0
 Tells Usage text = text ≡ usage
 Tells Unread text = text ≡ unread
-Tells (Refused line) text = text ≡ fault_text line
+Tells (Refused line) text = text ≡ trace_fault_text line
 Tells (Drawn run) text = IsPictureOf run text
 
 -- the status of an answer that was written

@@ -1,15 +1,12 @@
 -- How the program ends: what was said, with which status.
-use Rattle.std.specs.Prelude.{◌≡◌, ℕ, ◌<◌, ◌≤◌, ◌⊎◌, List, ◌++◌, Option, codes, decimal, length, take}
+use Rattle.std.specs.Prelude.{◌≡◌, ℕ, ◌<◌, ◌≤◌, ◌⊎◌, List, Option, codes, length}
 use Rattle.nm_outside.specs.Told.{Appends}
 use Rattle.nm_types.specs.Sizes.{Sizes}
 use Rattle.nm_report.specs.declared.records.RunRecord.{RunRecord}
 use Rattle.nm_report.specs.Lawful.{SameRun}
 use Rattle.nm_trace.specs.Traces.{IsFirstBad, IsTraceOf}
+use Rattle.nm_check.specs.Texts.{trace_fault_text}
 use Rattle.nm_picture.specs.Pictures.{IsPictureOf}
-
--- what is read of a source: all of it, or one byte more than a trace may have
-abbrev pub read_of : List ℕ → List ℕ
-read_of bytes = take 67108865 bytes
 
 -- The widest shape. A trace tells neither cells nor eager limit, and a rank of which it says nothing takes
 -- no line, so the trace of a record of fewer ranks is one of this shape.
@@ -35,19 +32,11 @@ IsBadTrace bytes line =
 abbrev pub usage : List ℕ
 usage = codes "usage: chart <TRACE >PICTURE\n"
 
--- what is said of bytes that are no trace
-abbrev pub fault_text : ℕ → List ℕ
-fault_text line = codes "fault trace " ++ (decimal line ++ codes "\n")
-
--- what is said of a source that failed
-abbrev pub unread : List ℕ
-unread = codes "fault read\n"
-
 -- the bytes are no trace, and their first bad line was said
 pub record IsRefused (bytes : List ℕ) (old new : Option (List ℕ)) : Type 0 where
   pub line : ℕ
   pub bad : IsBadTrace bytes line
-  pub said : Appends old new (fault_text line)
+  pub said : Appends old new (trace_fault_text line)
 
 -- the bytes are the trace of a record, and what was written is the picture of each record, of whatever
 -- shape, whose trace they are
@@ -63,11 +52,3 @@ pub record IsDrawn (bytes : List ℕ) (old new : Option (List ℕ)) : Type 0 whe
 abbrev pub IsStatus : ℕ → Type 0
 IsStatus status =
     (status ≡ 0) ⊎ ((status ≡ 2) ⊎ ((status ≡ 4) ⊎ ((status ≡ 5) ⊎ ((status ≡ 6) ⊎ (status ≡ 9)))))
-
--- it is so, or a write failed, or memory ran out
-abbrev pub OrUnwritten : Type 0 → ℕ → Type 0
-OrUnwritten holds status = holds ⊎ ((status ≡ 5) ⊎ (status ≡ 6))
-
--- it is so, or a read or a write failed, or memory ran out
-abbrev pub OrFails : Type 0 → ℕ → Type 0
-OrFails holds status = holds ⊎ ((status ≡ 4) ⊎ ((status ≡ 5) ⊎ (status ≡ 6)))

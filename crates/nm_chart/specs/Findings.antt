@@ -4,9 +4,7 @@ use Rattle.std.specs.Prelude.{slice_get}
 use Rattle.nm_types.specs.Sizes.{Sizes}
 use Rattle.nm_history.specs.declared.events.Event.{Event}
 use Rattle.nm_outside.specs.Told.{Rose}
-use Rattle.nm_script.specs.CommandWords.{IsTaken as AreTaken}
 use Rattle.nm_script.specs.declared.command_line.CommandLine.{CommandLine}
-use Rattle.nm_script.specs.declared.command_line.Mode.TheVariants.{Check}
 use Rattle.nm_report.specs.declared.accounts.RankAccount.{RankAccount}
 use Rattle.nm_report.specs.declared.records.RunRecord.{RunRecord}
 use Rattle.nm_trace.specs.Traces.{IsTraceOf}
@@ -17,7 +15,8 @@ use Rattle.nm_picture.specs.declared.flags.Flag.TheVariants as flag
 use Rattle.nm_picture.specs.Flags.{IsFlaggedIn}
 use Rattle.nm_check.specs.Done.{Ending}
 use Rattle.nm_chart.specs.Given.{IsReadFor, IsSaid}
-use Rattle.nm_chart.specs.Endings.{read_of, unread, widest}
+use Rattle.nm_chart.specs.Endings.{widest}
+use Rattle.nm_check.specs.Answers.{IsAsked, NotAsked, read_of, unread}
 use Rattle.nm_check.specs.Found.{IsFound}
 use Rattle.nm_check.specs.declared.breaks.finding.Found.{Found}
 use Rattle.nm_check.specs.declared.breaks.finding.Found.TheVariants as found
@@ -95,14 +94,6 @@ IsFindingOf bytes found.NoTrace finding = finding ≡ NoTrace 0
 IsFindingOf bytes (found.NoScript line kind) finding = finding ≡ NoScript line
 IsFindingOf bytes (found.BadTrace before line stop) finding = finding ≡ NoTrace line
 IsFindingOf bytes (found.Judged before verdict where_broken evidence) finding = IsFinding bytes where_broken finding
-
--- the words are those of a check
-abbrev pub IsAsked : List (List ℕ) → CommandLine → Type 0
-IsAsked words line = AreTaken words line × (line.mode ≡ Check)
-
--- they are not
-abbrev pub NotAsked : List (List ℕ) → Type 0
-NotAsked words = (line : CommandLine) → ¬ (IsAsked words line)
 
 -- what there is to say of bytes in these sizes
 pub record IsAnswerIn (line : CommandLine) (finding : Finding) (bytes : List ℕ) : Type 0 where

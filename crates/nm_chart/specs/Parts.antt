@@ -12,7 +12,9 @@ use Rattle.nm_chart.specs.Given.{IsReadFor, IsSaid}
 use Rattle.nm_chart.specs.PartWords.{InRange, asked_of}
 use Rattle.nm_chart.specs.declared.outcomes.Outcome.{Outcome}
 use Rattle.nm_chart.specs.declared.outcomes.Outcome.TheVariants.{Usage, Unread, Refused, Drawn}
-use Rattle.nm_chart.specs.Endings.{IsBadTrace, IsTraceOfOne, fault_text, read_of, unread}
+use Rattle.nm_chart.specs.Endings.{IsBadTrace, IsTraceOfOne}
+use Rattle.nm_check.specs.Texts.{trace_fault_text}
+use Rattle.nm_check.specs.Answers.{read_of, unread}
 
 -- what is left of a rank: all where it is chosen, and nothing where it is not
 abbrev pub IsKept : Bool → RankAccount → RankAccount → Type 0
@@ -33,7 +35,7 @@ part_usage = codes "usage: chart [--from STAMP] [--to STAMP] [--ranks A,B,..] [-
 abbrev pub Says : Outcome → List ℕ → Type 0
 Says Usage text = text ≡ part_usage
 Says Unread text = text ≡ unread
-Says (Refused line) text = text ≡ fault_text line
+Says (Refused line) text = text ≡ trace_fault_text line
 Says (Drawn run part) text = IsPictureIn part run text
 
 -- the status of an outcome that was written

@@ -2,8 +2,8 @@
 
 ghost use Rattle.std.specs.Prelude.{◌≡◌, IfOk};
 ghost use Rattle.nm_chart.specs.Answers.{CanBeDrawn, Tells, status_of};
-ghost use Rattle.nm_chart.specs.Endings.{fault_text};
 
+use nm_check::checked::trace_fault_text;
 use nm_picture::picture;
 use nm_report::RunRecord;
 use nm_types::Memory;
@@ -33,14 +33,6 @@ pub fn line(alloc: Global, text: &str) -> Result<Vec<u8>, AllocError>
     Vec::from_slice(alloc, text.as_bytes())
 }
 
-/// The line of a trace's first bad line.
-pub fn fault(alloc: Global, line: u32) -> Result<Vec<u8>, AllocError>
-    ensures { IfOk result (λ bytes. bytes.items ≡ fault_text line) }
-{
-    let text = format!(in alloc; "fault trace {}\n", line)?;
-    Ok(text.into_bytes())
-}
-
 /// The text of an answer, whole and in memory.
 pub fn text(alloc: Global, answer: &Response) -> Result<Vec<u8>, Memory>
     requires { CanBeDrawn answer.now }
@@ -49,7 +41,7 @@ pub fn text(alloc: Global, answer: &Response) -> Result<Vec<u8>, Memory>
     match answer {
         Response::Usage => Ok(line(alloc, USAGE)?),
         Response::Unread => Ok(line(alloc, "fault read\n")?),
-        Response::Refused { line } => Ok(fault(alloc, *line)?),
+        Response::Refused { line } => Ok(trace_fault_text(alloc, *line)?),
         Response::Drawn { run } => picture(alloc, run),
     }
 }

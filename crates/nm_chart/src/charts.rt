@@ -6,7 +6,8 @@ ghost use Rattle.nm_chart.specs.Answers.{CanBeDrawn, Charts, IsAnswer, IsAnswerT
 ghost use Rattle.nm_chart.specs.Answers.{WasRead, status_of};
 ghost use Rattle.nm_check.specs.Done.{IsDone};
 ghost use Rattle.nm_chart.specs.Given.{IsReadFor, IsSaid};
-ghost use Rattle.nm_chart.specs.Endings.{IsDrawn, read_of};
+ghost use Rattle.nm_chart.specs.Endings.{IsDrawn};
+ghost use Rattle.nm_check.specs.Answers.{read_of};
 
 use crate::answers::{Response, status, text};
 use nm_outside::{Sink, Source, Unread, read_up_to, write_all};

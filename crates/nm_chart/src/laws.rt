@@ -9,8 +9,10 @@ ghost use Rattle.nm_outside.specs.Told.{Appends, AppendsPart, Rose};
 ghost use Rattle.nm_chart.specs.declared.answers.Response.{Response};
 ghost use Rattle.nm_chart.specs.Answers.{Charts, IsAnswer, Tells, WasQuiet, WasRead};
 ghost use Rattle.nm_chart.specs.Given.{IsReadFor};
-ghost use Rattle.nm_chart.specs.Endings.{IsBadTrace, IsRefused, IsStatus, IsTrace, OrFails};
-ghost use Rattle.nm_chart.specs.Endings.{OrUnwritten, read_of, unread, usage, widest};
+ghost use Rattle.nm_chart.specs.Endings.{IsBadTrace, IsRefused, IsStatus, IsTrace};
+ghost use Rattle.nm_chart.specs.Endings.{usage, widest};
+ghost use Rattle.nm_check.specs.Answers.{read_of, unread};
+ghost use Rattle.nm_check.specs.Endings.{OrFails, OrUnwritten};
 ghost use Rattle.nm_chart.specs.Widened.{widened};
 
 /// The trace of a record of any shape is one of the widest shape: of the same record, with silent

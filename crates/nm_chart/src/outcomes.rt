@@ -4,7 +4,8 @@ ghost use Rattle.std.specs.Prelude.{◌≡◌, IfOk};
 ghost use Rattle.nm_chart.specs.Parts.{CanBeShown, Says};
 ghost use Rattle.nm_chart.specs.Parts.{outcome_status as outcome_status_lem};
 
-use crate::answers::{fault, line};
+use crate::answers::line;
+use nm_check::checked::trace_fault_text;
 use nm_diagram::Part;
 use nm_picture::picture_in;
 use nm_report::RunRecord;
@@ -37,7 +38,7 @@ pub fn outcome_text(alloc: Global, outcome: &Outcome) -> Result<Vec<u8>, Memory>
     match outcome {
         Outcome::Usage => Ok(line(alloc, USAGE)?),
         Outcome::Unread => Ok(line(alloc, "fault read\n")?),
-        Outcome::Refused { line } => Ok(fault(alloc, *line)?),
+        Outcome::Refused { line } => Ok(trace_fault_text(alloc, *line)?),
         Outcome::Drawn { run, part } => picture_in(alloc, run, *part),
     }
 }

@@ -3,6 +3,7 @@ mod DueLemmas
 mod EndLemmas
 mod EventLemmas
 mod ExactLemmas
+pub mod FailLemmas
 mod FedLemmas
 mod HeldLemmas
 mod InputLemmas

@@ -1,11 +1,11 @@
 -- What the program answers: a text and a status.
-use Rattle.std.specs.Prelude.{◌≡◌, ℕ, ◌⊎◌, List, IfSome, Option, Some, codes, drop, take}
+use Rattle.std.specs.Prelude.{◌≡◌, ℕ, List, IfSome, Option, Some, codes, drop, take}
 use Rattle.nm_types.specs.declared.scripts.Line.{Line}
 use Rattle.nm_script.specs.CommandWords.{IsTaken}
 use Rattle.nm_script.specs.declared.command_line.CommandLine.{CommandLine}
 use Rattle.nm_script.specs.declared.command_line.Mode.TheVariants.{Check}
 use Rattle.nm_script.specs.Spelled.{IsTextOf}
-use Rattle.nm_outside.specs.Told.{Appends, AppendsPart, Rose}
+use Rattle.nm_outside.specs.Told.{Rose}
 use Rattle.nm_report.specs.Lawful.{IsRunIn}
 use Rattle.nm_report.specs.declared.records.RunRecord.{RunRecord}
 use Rattle.nm_trace.specs.Traces.{IsTraceOf}
@@ -13,7 +13,7 @@ use Rattle.nm_check.specs.declared.verdicts.Verdict.{Verdict}
 use Rattle.nm_check.specs.declared.verdicts.Verdict.TheVariants.{Holds}
 use Rattle.nm_check.specs.Checks.{IsChecked, IsInput, sizes}
 use Rattle.nm_check.specs.declared.checked.checks.Checked.TheVariants as what
-use Rattle.nm_check.specs.Done.{Ending}
+use Rattle.nm_check.specs.Done.{Ending, IsSaid}
 use Rattle.nm_check.specs.Found.{IsFound, checked_of}
 use Rattle.nm_check.specs.declared.breaks.finding.Found.{Found}
 use Rattle.nm_check.specs.declared.breaks.finding.Found.TheVariants.{NoTrace, NoScript, BadTrace, Judged}
@@ -125,15 +125,9 @@ pub record IsRead (words : List (List ℕ)) (input left : Option (List ℕ)) (ol
   pub quiet : WasRead answer → new ≡ old
   pub whole : WasRead answer → AreAsked words → IfSome input (λ bytes. left ≡ Some (drop 67108865 bytes))
 
--- the text of an answer was written, whole and with its status, or the sink failed
-abbrev pub IsSaid : Response → ℕ → Option (List ℕ) → Option (List ℕ) → Type 0 → Type 0
-IsSaid answer status old new fails =
-    ((status ≡ status_of answer) × Appends old new (text_of answer))
-    ⊎ ((status ≡ 5) × fails × AppendsPart old new (text_of answer))
-
 -- It ends with this answer: it is right, the source was read for it, and its text was written, whole and with its
 -- status, or the sink failed.
 pub record SaysVerdict (e : Ending) (answer : Response) : Type 0 where
   pub right : IsAnswer e.words e.input e.read_old e.read_new answer
   pub read : IsRead e.words e.input e.left e.read_old e.read_new answer
-  pub said : IsSaid answer e.status e.before e.after (Rose e.write_old e.write_new)
+  pub said : IsSaid (text_of answer) (status_of answer) e.status e.before e.after (Rose e.write_old e.write_new)

@@ -1,6 +1,7 @@
 -- How a call of a program ends that answers words and a source with a text: one relation of what is seen of it,
 -- whatever its answers are.
 use Rattle.std.specs.Prelude.{◌≡◌, ℕ, ◌⊎◌, List, Option}
+use Rattle.nm_outside.specs.Told.{Appends, AppendsPart}
 
 -- What is seen of a call: its words, what the source told and has left, with its counts of faults, what the sink
 -- took before and after, with its counts, and the status.
@@ -15,6 +16,11 @@ pub record Ending : Type 0 where
   pub write_old : ℕ
   pub write_new : ℕ
   pub status : ℕ
+
+-- a text was written, whole and with its status, or the sink failed, which took a front of it
+abbrev pub IsSaid : List ℕ → ℕ → ℕ → Option (List ℕ) → Option (List ℕ) → Type 0 → Type 0
+IsSaid text its_status status old new fails =
+    ((status ≡ its_status) × Appends old new text) ⊎ ((status ≡ 5) × fails × AppendsPart old new text)
 
 -- memory ran out before the first write
 pub record RanShort (e : Ending) : Type 0 where

@@ -6,13 +6,15 @@ use Rattle.nm_script.specs.CommandWords.{IsTaken}
 use Rattle.nm_script.specs.declared.command_line.CommandLine.{CommandLine}
 use Rattle.nm_script.specs.declared.command_line.Mode.{Mode}
 use Rattle.nm_cli.specs.Answers.{IsAnswer, IsAnswerTo, NotTaken, end_status, log_of, run_of, status_of, text_of}
-use Rattle.nm_cli.specs.Answers.{IsReadFor, WasRead, unread, usage, ways_of}
+use Rattle.nm_cli.specs.Answers.{IsReadFor, WasRead, usage, ways_of}
+use Rattle.nm_check.specs.Answers.{unread}
 use Rattle.nm_check.specs.declared.verdicts.Verdict.TheVariants.{Holds}
 use Rattle.nm_check.specs.declared.checked.checks.Checked.{Checked as CheckedText}
 use Rattle.nm_check.specs.declared.checked.checks.Checked.TheVariants.{NoTrace, NoScript, BadTrace, Judged}
 use Rattle.nm_cli.specs.Checks.{checked_status}
 use Rattle.nm_cli.specs.Done.{Ending, Ends}
-use Rattle.nm_cli.specs.Endings.{IsStatus, OrFails, OrUnwritten}
+use Rattle.nm_cli.specs.Endings.{IsStatus}
+use Rattle.nm_check.specs.Endings.{OrFails, OrUnwritten}
 use Rattle.nm_cli.specs.declared.answers.Response.{Response}
 use Rattle.nm_cli.specs.declared.answers.Response.TheVariants.{Usage, Unread, Refused, Ran, Free, Determinate}
 use Rattle.nm_cli.specs.declared.answers.Response.TheVariants.{Checked, NoPlan, Planned, Logged}
@@ -48,10 +50,6 @@ or_unwritten s a e make = elim e.said [ inl h ↦ inl (make h.0 h.1) | inr h ↦
 pub unless_failed : {P : Type 0} (s : Ending) (a : Response) → Ends s a → (Rose s.write_old s.write_new → ⊥) →
     (s.status ≡ status_of a → Appends s.before s.after (text_of a) → P) → (s.status ≡ 6) ⊎ P
 unless_failed s a e write make = elim e.said [ inl h ↦ inr (make h.0 h.1) | inr h ↦ absurd (write h.1) ]
-
-pub to_fails : {P : Type 0} (status : ℕ) → OrUnwritten P status → OrFails P status
-to_fails status (inl h) = inl h
-to_fails status (inr h) = inr (inr h)
 
 -- the source failed
 pub or_unread : {P : Type 0} (s : Ending) → Ends s Unread → OrFails P s.status

@@ -31,6 +31,7 @@ use Rattle.nm_plans.specs.Expansion.{expand}
 use Rattle.nm_plans.specs.declared.lines.PlanLine.{PlanLine}
 use Rattle.nm_persist.specs.Report.{run_text as plan_run_text}
 use Rattle.nm_persist.specs.Rules.{IsTextOf as IsPlanText}
+use Rattle.nm_check.specs.Answers.{unread}
 use Rattle.nm_cli.specs.Checks.{IsCheckedAs, IsCheckedIn, checked_status, checked_text}
 use Rattle.nm_cli.specs.Faults.{fault_text}
 use Rattle.nm_cli.specs.Plains.{IsNotPlain, IsPlain, free_text}
@@ -48,10 +49,6 @@ usage =
     ++ codes "       nemesis check [--cells N] [--eager N]\n"
     ++ codes "       nemesis parts [--cells N] [--eager N]\n"
     ++ codes "       nemesis multi THREADS ROUNDS\n"
-
--- what is said of a source that failed
-abbrev pub unread : List ℕ
-unread = codes "fault read\n"
 
 -- what is said of a run: its report, its report with each event, or its summary
 abbrev pub run_text : Mode → RunRecord → List ℕ

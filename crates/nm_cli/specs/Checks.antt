@@ -1,20 +1,15 @@
 -- What is said of a script and its trace.
 use Rattle.std.specs.Prelude.{◌≡◌, ℕ, List, take, Option, IfSome}
-use Rattle.nm_types.specs.declared.scripts.Line.{Line}
 use Rattle.nm_outside.specs.Told.{Appends}
 use Rattle.nm_script.specs.declared.command_line.CommandLine.{CommandLine}
-use Rattle.nm_script.specs.Spelled.{IsTextOf}
-use Rattle.nm_report.specs.Lawful.{IsRunIn}
-use Rattle.nm_report.specs.declared.records.RunRecord.{RunRecord}
-use Rattle.nm_trace.specs.Traces.{IsTraceOf}
-use Rattle.nm_check.specs.declared.verdicts.Verdict.{Verdict}
 use Rattle.nm_check.specs.declared.verdicts.Verdict.TheVariants.{Holds}
-use Rattle.nm_check.specs.Checks.{IsChecked, IsInput}
+use Rattle.nm_check.specs.Answers.{IsTraced, verdict_status}
+use Rattle.nm_check.specs.Checks.{IsChecked}
 use Rattle.nm_check.specs.Texts.{trace_fault_text, verdict_text}
 use Rattle.nm_check.specs.declared.checked.checks.Checked.{Checked}
 use Rattle.nm_check.specs.declared.checked.checks.Checked.TheVariants.{NoTrace, NoScript, BadTrace, Judged}
 use Rattle.nm_cli.specs.Faults.{fault_text}
-use Rattle.nm_cli.specs.Scripts.{limit_of, sizes_for}
+use Rattle.nm_cli.specs.Scripts.{limit_of}
 
 -- what is said of a script and its trace: of a script that is none, what is said of it without a trace
 abbrev pub checked_text : Checked → List ℕ
@@ -23,11 +18,6 @@ checked_text (NoScript line kind) = fault_text line kind
 checked_text (BadTrace line) = trace_fault_text line
 checked_text (Judged verdict) = verdict_text verdict
 
--- the status of a verdict: whether it holds
-abbrev pub verdict_status : Verdict → ℕ
-verdict_status Holds = 0
-verdict_status _ = 8
-
 -- the status of what is said
 abbrev pub checked_status : Checked → ℕ
 checked_status NoTrace = 9
@@ -35,19 +25,7 @@ checked_status (NoScript line kind) = 3
 checked_status (BadTrace line) = 9
 checked_status (Judged verdict) = verdict_status verdict
 
--- what was read is a script and the trace of one of its runs
-pub record IsTraced (line : CommandLine) (read : List ℕ) : Type 0 where
-  pub front : List ℕ
-  pub rest : List ℕ
-  pub ranks : ℕ
-  pub lines : List Line
-  pub run : RunRecord
-  pub input : IsInput read front rest
-  pub script : IsTextOf front ranks lines
-  pub trace : IsTraceOf (sizes_for line ranks) rest run
-  pub lawful : IsRunIn (sizes_for line ranks) lines run
-
--- the bytes are, as far as they are read
+-- the bytes are, as far as they are read, a script and the trace of one of its runs
 abbrev pub IsWritten : CommandLine → List ℕ → Type 0
 IsWritten line bytes = IsTraced line (take (limit_of line.mode) bytes)
 

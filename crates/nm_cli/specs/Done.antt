@@ -6,8 +6,8 @@ use Rattle.nm_script.specs.declared.command_line.CommandLine.{CommandLine}
 use Rattle.nm_report.specs.declared.records.RunRecord.{RunRecord}
 use Rattle.nm_world.specs.declared.whole.Ways.{Ways}
 use Rattle.nm_multi.specs.Calls.{Logged as Log}
-use Rattle.nm_cli.specs.Answers.{IsAnswer, IsReadFor, NotTaken, log_of, run_of, ways_of}
-use Rattle.nm_cli.specs.Endings.{IsSaid}
+use Rattle.nm_cli.specs.Answers.{IsAnswer, IsReadFor, NotTaken, log_of, run_of, status_of, text_of, ways_of}
+use Rattle.nm_check.specs.Done.{IsSaid}
 use Rattle.nm_cli.specs.Scripts.{ReadsSource, limit_of}
 use Rattle.nm_cli.specs.declared.answers.Response.{Response}
 
@@ -33,7 +33,7 @@ pub record Ending : Type 0 where
 pub record Ends (e : Ending) (answer : Response) : Type 0 where
   pub right : IsAnswer e.words e.input e.read_old e.read_new answer
   pub read : IsReadFor e.words e.input e.left e.read_old e.read_new answer
-  pub said : IsSaid answer e.status e.before e.after (Rose e.write_old e.write_new)
+  pub said : IsSaid (text_of answer) (status_of answer) e.status e.before e.after (Rose e.write_old e.write_new)
   pub run_given : e.run ≡ run_of answer
   pub ways_given : e.closed ≡ ways_of answer
   pub log_given : e.log ≡ log_of answer

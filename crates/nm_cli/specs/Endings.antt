@@ -1,6 +1,6 @@
 -- How the program ends: what was said, with which status, and what is handed out.
 use Rattle.std.specs.Prelude.{◌≡◌, ℕ, ◌⊎◌, Bool, List, Option, Some, IfSome}
-use Rattle.nm_outside.specs.Told.{Appends, AppendsPart}
+use Rattle.nm_outside.specs.Told.{Appends}
 use Rattle.nm_script.specs.declared.command_line.CommandLine.{CommandLine}
 use Rattle.nm_script.specs.declared.faults.Kind.{Kind}
 use Rattle.nm_script.specs.declared.faults.TextFault.TheVariants as fault
@@ -9,21 +9,14 @@ use Rattle.nm_world.specs.declared.whole.Ways.{Ways}
 use Rattle.nm_multi.specs.Calls.{Logged as Log}
 use Rattle.nm_multi.specs.Programs.{IsWhole}
 use Rattle.nm_multi.specs.Text.{log_text}
-use Rattle.nm_cli.specs.Answers.{Refuses, end_status, run_text, status_of, text_of}
+use Rattle.nm_cli.specs.Answers.{Refuses, end_status, run_text}
 use Rattle.nm_cli.specs.Faults.{fault_text}
 use Rattle.nm_persist.specs.Report.{run_text as plan_run_text}
 use Rattle.nm_plans.specs.declared.faults.PlanKind.{PlanKind}
 use Rattle.nm_plans.specs.declared.lines.PlanLine.{PlanLine}
 use Rattle.nm_cli.specs.Plans.{IsRunOfPlan, KeepsPromises, PlanRefuses, plan_fault_text}
 use Rattle.nm_cli.specs.Plains.{IsNotPlain, IsPlain, free_text}
-use Rattle.nm_cli.specs.declared.answers.Response.{Response}
 use Rattle.nm_cli.specs.Scripts.{IsRunOfWords, read_of}
-
--- the text of an answer was written, whole and with its status, or the sink failed
-abbrev pub IsSaid : Response → ℕ → Option (List ℕ) → Option (List ℕ) → Type 0 → Type 0
-IsSaid answer status old new fails =
-    ((status ≡ status_of answer) × Appends old new (text_of answer))
-    ⊎ ((status ≡ 5) × fails × AppendsPart old new (text_of answer))
 
 -- the bytes spell no script, and their first fault was said
 pub record IsRefused (old new : Option (List ℕ)) (bytes : List ℕ) : Type 0 where
@@ -104,11 +97,3 @@ abbrev pub IsStatus : ℕ → Type 0
 IsStatus status =
     (status ≡ 0) ⊎ ((status ≡ 1) ⊎ ((status ≡ 2) ⊎ ((status ≡ 3) ⊎ ((status ≡ 4)
     ⊎ ((status ≡ 5) ⊎ ((status ≡ 6) ⊎ ((status ≡ 7) ⊎ ((status ≡ 8) ⊎ (status ≡ 9)))))))))
-
--- it is so, or a write failed, or memory ran out
-abbrev pub OrUnwritten : Type 0 → ℕ → Type 0
-OrUnwritten holds status = holds ⊎ ((status ≡ 5) ⊎ (status ≡ 6))
-
--- it is so, or a read or a write failed, or memory ran out
-abbrev pub OrFails : Type 0 → ℕ → Type 0
-OrFails holds status = holds ⊎ ((status ≡ 4) ⊎ ((status ≡ 5) ⊎ (status ≡ 6)))

@@ -46,9 +46,11 @@ ghost use Rattle.nm_outside.specs.Told.{Appends, AppendsPart, Rose};
 ghost use Rattle.nm_script.specs.CommandWords.{IsTaken};
 ghost use Rattle.nm_script.specs.declared.command_line.CommandLine.{CommandLine};
 ghost use Rattle.nm_cli.specs.declared.answers.Response.{Response};
-ghost use Rattle.nm_cli.specs.Answers.{IsAnswer, IsReadFor, log_of, run_of, text_of, unread, ways_of};
+ghost use Rattle.nm_cli.specs.Answers.{IsAnswer, IsReadFor, log_of, run_of, status_of, text_of, ways_of};
+ghost use Rattle.nm_check.specs.Answers.{unread};
 ghost use Rattle.nm_cli.specs.Done.{IsDone, TakesInput};
-ghost use Rattle.nm_cli.specs.Endings.{IsReported, IsSaid, IsStatus};
+ghost use Rattle.nm_cli.specs.Endings.{IsReported, IsStatus};
+ghost use Rattle.nm_check.specs.Done.{IsSaid};
 ghost use Rattle.nm_cli.specs.Scripts.{Runs};
 
 mod answers;
@@ -134,8 +136,8 @@ fn hand_out(status: u8, answer: Response) -> Ended
 // Writes what is due to the sink, and answers the status.
 fn deliver<K: Sink>(sink: &mut K, due: &[u8], answer: &Response) -> u8
     requires { due.now ≡ text_of answer.now }
-    ensures said { IsSaid answer.now result (K.taken sink.old) (K.taken sink.new)
-        (Rose (K.faults sink.old) (K.faults sink.new)) }
+    ensures said { IsSaid (text_of answer.now) (status_of answer.now) result (K.taken sink.old)
+        (K.taken sink.new) (Rose (K.faults sink.old) (K.faults sink.new)) }
     ensures quiet { (result ≡ 5) ⊎ (K.faults sink.new ≡ K.faults sink.old) }
 {
     match write_all(sink, due) {

@@ -12,9 +12,12 @@ use Rattle.nm_outcomes_top.specs.declared.words.Asked.{Asked}
 use Rattle.nm_outcomes_top.specs.declared.words.Question.TheVariants as question
 use Rattle.nm_outcomes_top.specs.Answers.{HasNoReport, IsAnswer, IsAnswerOf, IsAnswerTo, IsInputOf}
 use Rattle.nm_outcomes_top.specs.Answers.{TellsOutcomes, read_of, status_of, text_of}
-use Rattle.nm_outcomes_top.specs.Endings.{IsOutgrown, IsRefused, IsSpoken, IsStatus, OrFails, OrUnwritten}
+use Rattle.nm_outcomes_top.specs.Endings.{IsOutgrown, IsRefused, IsSpoken, IsStatus}
+use Rattle.nm_check.specs.Endings.{OrFails, OrUnwritten}
+use Rattle.nm_check.proofs.FailLemmas.{to_fails}
 use Rattle.nm_outcomes_top.specs.Endings.{Speaks}
-use Rattle.nm_outcomes_top.specs.Texts.{no_report, outgrown_text, unread, usage}
+use Rattle.nm_outcomes_top.specs.Texts.{no_report, outgrown_text, usage}
+use Rattle.nm_check.specs.Answers.{unread}
 use Rattle.nm_outcomes_top.specs.declared.answers.Response.{Response}
 use Rattle.nm_outcomes_top.specs.declared.answers.Response.TheVariants.{NoReport, Outgrown, Refused, Told, Unread, Usage}
 use Rattle.nm_outcomes_top.specs.declared.tellings.Telling.{Telling}
@@ -27,10 +30,6 @@ abbrev pub NotBoth : Type 0
 NotBoth =
     (bytes : List ℕ) (ranks line : ℕ) (lines : List Line) (kind : Kind) →
     IsTextOf bytes ranks lines → IsFirstFault bytes line kind → ⊥
-
-to_fails : {P : Type 0} (status : ℕ) → OrUnwritten P status → OrFails P status
-to_fails status (inl h) = inl h
-to_fails status (inr h) = inr (inr h)
 
 pub weaker : {X : Type 0} (input : Option X) (P Q : X → Type 0) → ((x : X) → P x → Q x) → IfSome input P →
     IfSome input Q

@@ -1,12 +1,12 @@
 -- What the program answers: a text and a status.
 use Rattle.std.specs.Prelude.{◌≡◌, ℕ, ◌<◌, ◌⊎◌, List, [], Option, IfSome, if◌then◌else◌, length, nat_lt, take}
-use Rattle.nm_outside.specs.Told.{Appends, AppendsPart, Rose}
+use Rattle.nm_outside.specs.Told.{Rose}
 use Rattle.nm_types.specs.declared.scripts.Line.{Line}
 use Rattle.nm_types.specs.Sizes.{Sizes}
 use Rattle.nm_script.specs.Rules.{IsFirstFault}
 use Rattle.nm_script.specs.Spelled.{IsTextOf}
 use Rattle.nm_check.specs.Checks.{IsInput}
-use Rattle.nm_check.specs.Done.{Ending}
+use Rattle.nm_check.specs.Done.{Ending, IsSaid}
 use Rattle.nm_check.specs.Inputs.{HasNoCut}
 use Rattle.nm_outcomes.specs.Outcomes.{AreOutcomes}
 use Rattle.nm_explored.specs.Met.{AreTooMany}
@@ -24,7 +24,8 @@ use Rattle.nm_outcomes_top.specs.declared.words.Asked.{Asked}
 use Rattle.nm_outcomes_top.specs.declared.words.Question.{Question}
 use Rattle.nm_outcomes_top.specs.declared.words.Question.TheVariants.{All, Trace, Among}
 use Rattle.nm_outcomes_top.specs.Texts.{fault_text, fewer_text, is_stuck, no_report, outcomes_text, outgrown_text}
-use Rattle.nm_outcomes_top.specs.Texts.{place_text, stuck_count, unread, usage}
+use Rattle.nm_outcomes_top.specs.Texts.{place_text, stuck_count, usage}
+use Rattle.nm_check.specs.Answers.{unread}
 use Rattle.nm_outcomes_top.specs.OptionWords.{IsTaken, NotTaken, sizes_for}
 
 -- how many bytes are read at most: one more than a script's text may have, or than a script and a report may
@@ -169,13 +170,7 @@ abbrev pub IsAnswer : List (List ℕ) → Option (List ℕ) → ℕ → ℕ → 
 IsAnswer words input old new Usage = NotTaken words
 IsAnswer words input old new answer = IsAnswerToWords words input old new answer
 
--- the text of an answer was written, whole and with its status, or the sink failed
-abbrev pub IsSaid : Response → ℕ → Option (List ℕ) → Option (List ℕ) → Type 0 → Type 0
-IsSaid answer status old new fails =
-    ((status ≡ status_of answer) × Appends old new (text_of answer))
-    ⊎ ((status ≡ 5) × fails × AppendsPart old new (text_of answer))
-
 -- it ends with this answer: it is right, and its text was written, whole and with its status, or the sink failed
 pub record TellsOutcomes (e : Ending) (answer : Response) : Type 0 where
   pub right : IsAnswer e.words e.input e.read_old e.read_new answer
-  pub said : IsSaid answer e.status e.before e.after (Rose e.write_old e.write_new)
+  pub said : IsSaid (text_of answer) (status_of answer) e.status e.before e.after (Rose e.write_old e.write_new)

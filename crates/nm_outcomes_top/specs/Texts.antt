@@ -57,10 +57,6 @@ usage =
     ++ codes "       outcomes --trace K [--cells N] [--eager N] STATES <SCRIPT\n"
     ++ codes "       outcomes --among [--cells N] [--eager N] STATES <SCRIPT_AND_REPORT\n"
 
--- what is said of a source that failed
-abbrev pub unread : List ℕ
-unread = codes "fault read\n"
-
 -- the name of a kind of fault
 abbrev pub kind_text : Kind → List ℕ
 kind_text kind.TooLong = codes "toolong"

@@ -12,7 +12,8 @@ ghost use Rattle.nm_outcomes_top.specs.declared.words.Asked.{Asked};
 ghost use Rattle.nm_outcomes_top.specs.declared.words.Question.TheVariants as question;
 ghost use Rattle.nm_outcomes_top.specs.Answers.{HasNoReport, IsInputOf, TellsOutcomes, read_of};
 ghost use Rattle.nm_outcomes_top.specs.Endings.{IsAmong, IsFewerSaid, IsNotAmong, IsOutgrown};
-ghost use Rattle.nm_outcomes_top.specs.Endings.{IsRefused, IsTraceSaid, OrFails, OrUnwritten, Speaks};
+ghost use Rattle.nm_outcomes_top.specs.Endings.{IsRefused, IsTraceSaid, Speaks};
+ghost use Rattle.nm_check.specs.Endings.{OrFails, OrUnwritten};
 ghost use Rattle.nm_outcomes_top.specs.Texts.{no_report, usage};
 ghost use Rattle.nm_outcomes_top.specs.OptionWords.{IsTaken, NotTaken};
 

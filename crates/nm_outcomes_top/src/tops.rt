@@ -2,14 +2,14 @@
 
 ghost use Rattle.std.specs.Prelude.{◌≡◌, ◌⊎◌, map, string_bytes, IfOk, IfSome};
 ghost use Rattle.nm_outside.specs.Told.{Appends, AppendsPart, Rose};
-ghost use Rattle.nm_check.specs.Done.{IsDone};
+ghost use Rattle.nm_check.specs.Done.{IsDone, IsSaid};
 ghost use Rattle.nm_outcomes_top.specs.declared.answers.Response.{Response};
 ghost use Rattle.nm_outcomes_top.specs.declared.words.Asked.{Asked};
 ghost use Rattle.nm_outcomes_top.specs.declared.words.Question.TheVariants as question;
-ghost use Rattle.nm_outcomes_top.specs.Answers.{IsAnswer, IsAnswerIn, IsAnswerOf, IsAnswerTo, IsSaid};
-ghost use Rattle.nm_outcomes_top.specs.Answers.{TellsOutcomes, limit_of, text_of};
+ghost use Rattle.nm_outcomes_top.specs.Answers.{IsAnswer, IsAnswerIn, IsAnswerOf, IsAnswerTo};
+ghost use Rattle.nm_outcomes_top.specs.Answers.{TellsOutcomes, limit_of, status_of, text_of};
 ghost use Rattle.nm_outcomes_top.specs.Endings.{IsListed, IsStatus};
-ghost use Rattle.nm_outcomes_top.specs.Texts.{unread};
+ghost use Rattle.nm_check.specs.Answers.{unread};
 ghost use Rattle.nm_outcomes_top.specs.OptionWords.{InRange, IsTaken, NotTaken};
 
 use crate::answers::{Response, status, text};
@@ -118,8 +118,8 @@ fn find_answer<S: Source>(
 // Writes what is due to the sink, and answers the status.
 fn deliver<K: Sink>(sink: &mut K, due: &[u8], answer: &Response) -> u8
     requires { due.now ≡ text_of answer.now }
-    ensures { IsSaid answer.now result (K.taken sink.old) (K.taken sink.new)
-        (Rose (K.faults sink.old) (K.faults sink.new)) }
+    ensures { IsSaid (text_of answer.now) (status_of answer.now) result (K.taken sink.old)
+        (K.taken sink.new) (Rose (K.faults sink.old) (K.faults sink.new)) }
 {
     match write_all(sink, due) {
         Ok(()) => status(answer),

@@ -9,7 +9,8 @@ ghost use Rattle.nm_chart.specs.Endings.{widest};
 ghost use Rattle.nm_check.specs.Done.{IsDone};
 ghost use Rattle.nm_chart.specs.Given.{IsReadFor, IsSaid};
 ghost use Rattle.nm_chart.specs.Findings.{CanBeDrawn, ChartsCheck, HasTrace, IsAnswer, IsAnswerIn};
-ghost use Rattle.nm_chart.specs.Findings.{IsAsked, IsFinding, IsFindingOf, IsFoundIn, NotAsked, Says};
+ghost use Rattle.nm_chart.specs.Findings.{IsFinding, IsFindingOf, IsFoundIn, Says};
+ghost use Rattle.nm_check.specs.Answers.{IsAsked, NotAsked};
 ghost use Rattle.nm_chart.specs.Findings.{WasQuiet, WasRead, status_of};
 
 use crate::check::findings::{Finding, status, text};

@@ -5,9 +5,9 @@ ghost use Rattle.nm_script.specs.CommandWords.{InRange};
 ghost use Rattle.nm_script.specs.declared.command_line.CommandLine as the_line;
 ghost use Rattle.nm_outside.specs.Told.{Appends, AppendsPart, LosesAtMost, Rose};
 ghost use Rattle.nm_check.specs.declared.verdict.answers.Response.{Response};
-ghost use Rattle.nm_check.specs.Answers.{IsAnswer, IsAsked, IsRead, IsSaid, NotAsked, SaysVerdict};
-ghost use Rattle.nm_check.specs.Answers.{text_of, unread};
-ghost use Rattle.nm_check.specs.Done.{IsDone};
+ghost use Rattle.nm_check.specs.Answers.{IsAnswer, IsAsked, IsRead, NotAsked, SaysVerdict};
+ghost use Rattle.nm_check.specs.Answers.{status_of, text_of, unread};
+ghost use Rattle.nm_check.specs.Done.{IsDone, IsSaid};
 ghost use Rattle.nm_check.specs.Endings.{IsSpoken, IsTold};
 
 use crate::breaks::find;
@@ -74,8 +74,8 @@ fn find_answer<S: Source>(
 /// Writes what is due to the sink, and answers the status.
 fn deliver<K: Sink>(sink: &mut K, due: &[u8], answer: &Response) -> u8
     requires { due.now ≡ text_of answer.now }
-    ensures said { IsSaid answer.now result (K.taken sink.old) (K.taken sink.new)
-        (Rose (K.faults sink.old) (K.faults sink.new)) }
+    ensures said { IsSaid (text_of answer.now) (status_of answer.now) result (K.taken sink.old)
+        (K.taken sink.new) (Rose (K.faults sink.old) (K.faults sink.new)) }
     ensures quiet { (result ≡ 5) ⊎ (K.faults sink.new ≡ K.faults sink.old) }
 {
     match write_all(sink, due) {

@@ -1,8 +1,9 @@
 -- How the program ends, clause by clause.
 use Rattle.std.proofs.Common.{◌≡◌, ◌⊎◌, inl, inr, map, refl, string_bytes, sym, subst}
 use Rattle.nm_outside.specs.Told.{Rose}
+use Rattle.nm_cli.specs.Answers.{status_of, text_of}
 use Rattle.nm_cli.specs.Done.{Ending, Ends}
-use Rattle.nm_cli.specs.Endings.{IsSaid}
+use Rattle.nm_check.specs.Done.{IsSaid}
 use Rattle.nm_cli.proofs.EndLemmas.{not_memory, status_is, unread_is, unwritten_is}
 use Rattle.nm_cli.proofs.RunEnds.{reported_is}
 use Rattle.nm_cli.proofs.nemesis.Goals as goal
@@ -56,8 +57,8 @@ known g c =
     record {
       right = c.in-Ok.ensures.answer;
       read = c.in-Ok.ensures.read;
-      said = subst (λ status. IsSaid c.in-Ok.answer status (g.K.Sink.taken c.args.sink.now)
-          (g.K.Sink.taken c.deliver-status.new.sink)
+      said = subst (λ status. IsSaid (text_of c.in-Ok.answer) (status_of c.in-Ok.answer) status
+          (g.K.Sink.taken c.args.sink.now) (g.K.Sink.taken c.deliver-status.new.sink)
           (Rose (g.K.Sink.faults c.args.sink.now) (g.K.Sink.faults c.deliver-status.new.sink)))
           (sym c.hand_out.ensures.status) c.deliver-status.ensures.said;
       run_given = c.hand_out.ensures.run;
