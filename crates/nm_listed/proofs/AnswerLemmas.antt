@@ -64,7 +64,7 @@ use Rattle.nm_explored.specs.Successors.{received_at, seen_at, shown_at, started
 use Rattle.nm_explored.specs.Settings.{IsAt}
 use Rattle.nm_explored.proofs.PlacedLemmas.{arrival_said, first_said, in_pairs, numbers_in}
 use Rattle.nm_explored.proofs.SendLemmas.{sent_deed}
-use Rattle.nm_explored.proofs.SinceLemmas.{idle as is_idle}
+use Rattle.nm_explored.proofs.SinceLemmas.{idle as is_idle, is_claiming}
 use Rattle.nm_listed.proofs.ArrivedLemmas.{sent_of_pair}
 use Rattle.nm_listed.proofs.BeginLemmas.{last_deed, kind_cancel, kind_claim, kind_start}
 use Rattle.nm_listed.proofs.HushLemmas.{AreHushed, hushed_answer}
@@ -72,7 +72,7 @@ use Rattle.nm_listed.specs.Tellings.{clock, pushed}
 use Rattle.nm_listed.proofs.ReachLemmas.{IsReached, is_at, next_log}
 use Rattle.nm_listed.proofs.LineLemmas.{lines_apart}
 use Rattle.nm_listed.proofs.SteadyLemmas.{HasCancelled, HasClaimed, HasMatched, HasRecalled, IsBegun, IsIdle}
-use Rattle.nm_listed.proofs.SteadyLemmas.{IsPast, IsSteady, is_claim_event}
+use Rattle.nm_listed.proofs.SteadyLemmas.{IsPast, IsSteady}
 use Rattle.nm_listed.proofs.SteadyLemmas.{steady_ran}
 use Rattle.nm_listed.proofs.TellLemmas.{IsTold, MayBe, each_but, moved_spots, now, step_at, told_push}
 
@@ -260,9 +260,9 @@ module _ (shape : Sizes) (lines : List Line) (commands : AreCommands shape.ranks
     busy_cancel b so =
         busy_by b (λ d is. no_answer_cancel d (kind_cancel lines d (ap is_cancelling is ∙ so)))
 
-    busy_claim : (b : IsBegun shape.eager mine h) → is_claim_event b.last ≡ true → is_idle_at spot ≡ false
+    busy_claim : (b : IsBegun shape.eager mine h) → is_claiming b.last ≡ true → is_idle_at spot ≡ false
     busy_claim b so =
-        busy_by b (λ d is. no_answer_claim d (kind_claim lines d (ap is_claim_event is ∙ so)))
+        busy_by b (λ d is. no_answer_claim d (kind_claim lines d (ap is_claiming is ∙ so)))
 
     -- the answer to a start
     pub started : (q : ℕ) (c : Command) → x.command ≡ c →

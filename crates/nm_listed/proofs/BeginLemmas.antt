@@ -65,7 +65,8 @@ use Rattle.nm_listed.proofs.SteadyLemmas.{AreClaimed, AreOfCommands, Begins, Has
 use Rattle.nm_listed.proofs.SteadyLemmas.{HasRecalled}
 use Rattle.nm_listed.proofs.SteadyLemmas.{IsBegun, IsIdle, IsPast, IsSteady, cancels_more, cancels_same}
 use Rattle.nm_listed.proofs.SteadyLemmas.{claim_push, claimed_as_before}
-use Rattle.nm_listed.proofs.SteadyLemmas.{claims_more, claims_same, is_claim_event, last_now, last_own}
+use Rattle.nm_listed.proofs.SteadyLemmas.{claims_more, claims_same, last_now, last_own}
+use Rattle.nm_explored.proofs.SinceLemmas.{is_claiming}
 use Rattle.nm_listed.proofs.SteadyLemmas.{past_same, ran_same}
 use Rattle.nm_listed.proofs.SteadyLemmas.{sent_as_before, starts_more, starts_same, steady_begun}
 use Rattle.nm_listed.proofs.TellLemmas.{MayBe, now}
@@ -89,7 +90,7 @@ kind_cancel lines (deed.Match number from n cap line) so = absurd (false≢true 
 kind_cancel lines (deed.Claim from n line) so = absurd (false≢true so)
 kind_cancel lines (deed.Ran line reply) so = absurd (false≢true so)
 
-pub kind_claim : (lines : List Line) (d : Deed) → is_claim_event (happening lines d) ≡ true → is_claim_any d ≡ true
+pub kind_claim : (lines : List Line) (d : Deed) → is_claiming (happening lines d) ≡ true → is_claim_any d ≡ true
 kind_claim lines (deed.Claim from n line) so = refl
 kind_claim lines (deed.Cancel number done) so = absurd (false≢true so)
 kind_claim lines (deed.Recall to n) so = absurd (false≢true so)
@@ -225,7 +226,7 @@ module _ (shape : Sizes) (lines : List Line) (commands : AreCommands shape.ranks
           let found = mapped_some (λ (a : Arrival). deed.Claim a.env.from a.n line) _ d start in
           held d last.0 last.1
           (subst (λ (d : Deed). is_held_by last.0 d ≡ true) found.2
-          (kind_claim lines last.0 (ap is_claim_event last.2 ∙ begun.kind))) may
+          (kind_claim lines last.0 (ap is_claiming last.2 ∙ begun.kind))) may
       by_command line (command.Wait q) begun start = begun
       by_command line (command.Test q) begun start = begun
       by_command line (command.Probe from tag ctx) begun start = begun

@@ -43,6 +43,7 @@ use Rattle.nm_history.proofs.MatchingLemmas.{matched_pairs-append, matched_pairs
 use Rattle.nm_history.proofs.RankRunLemmas.{no_answer, not_answer, ran_lines-push, since-push, take_next}
 use Rattle.nm_outcomes.specs.Places.{or_else}
 use Rattle.nm_outcomes.specs.RankStates.{own_of}
+use Rattle.nm_explored.proofs.SinceLemmas.{is_claiming}
 use Rattle.nm_listed.proofs.LineLemmas.{first_of_two}
 
 -- nothing of a packet is a deed
@@ -64,11 +65,6 @@ not_claim what packet = refl
 pub not_sent : (stamp : ℕ) (what : Happened) → is_start what ≡ false → sent_of stamp what ≡ None
 not_sent stamp (event.Send to n tag ctx len how line) none = absurd (false≢true (sym none))
 not_sent stamp what none = refl
-
--- a claim
-abbrev pub is_claim_event : Happened → Bool
-is_claim_event (event.Claim from n line) = true
-is_claim_event _ = false
 
 -- the last that a rank did
 abbrev pub last_own : List Event → Option Happened
@@ -297,7 +293,7 @@ pub record HasClaimed (h : List Event) (line : ℕ) (last : Happened) : Type 0 w
   pub starts : starts_since h ≡ []
   pub cancels : cancels_since h ≡ []
   pub claims : claims_since h ≡ line ∷ []
-  pub kind : is_claim_event last ≡ true
+  pub kind : is_claiming last ≡ true
 
 -- the next command has done what it does before its answer, which is the last that was done
 abbrev pub Begins : ℕ → List Numbered → List Event → ℕ → Command → Happened → Type 0
