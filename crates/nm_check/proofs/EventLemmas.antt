@@ -33,12 +33,14 @@ many_lines rank (e ∷ es) =
     let more = many_lines rank es in
     let split : length (flat_map (event_line rank) (e ∷ es))
     ≡ length (event_line rank e) + length (flat_map (event_line rank) es) =
-    ap length (flat_map-cons (event_line rank) e es) ∙ length-append (event_line rank e) (flat_map (event_line rank) es) in
+    ap length (flat_map-cons (event_line rank) e es) ∙ length-append (event_line rank e)
+    (flat_map (event_line rank) es) in
     let some : 1 ≤ length (event_line rank e) =
     one_byte (join_with_byte 32 (codes "@" ∷ decimal rank ∷ decimal e.stamp ∷ event_words e.what)) in
     omega (arith, more, split, some)
 
-many_from : (rank : ℕ) (ranks : List RankAccount) → events_in (ends_of ranks) ≤ length (from_rank event_lines rank ranks)
+many_from : (rank : ℕ) (ranks : List RankAccount) → events_in (ends_of ranks) ≤ length
+    (from_rank event_lines rank ranks)
 many_from rank [] = omega arith
 many_from rank (account ∷ ranks) =
     let more = many_from (rank + 1) ranks in
@@ -56,7 +58,8 @@ many_counts : (pairs : List PairCount) → length pairs ≤ length (flat_map pai
 many_counts [] = omega arith
 many_counts (pair ∷ pairs) =
     let more = many_counts pairs in
-    let split : length (flat_map pair_line (pair ∷ pairs)) ≡ length (pair_line pair) + length (flat_map pair_line pairs) =
+    let split : length (flat_map pair_line (pair ∷ pairs)) ≡ length (pair_line pair) + length
+    (flat_map pair_line pairs) =
     ap length (flat_map-cons pair_line pair pairs) ∙ length-append (pair_line pair) (flat_map pair_line pairs) in
     let some : 1 ≤ length (pair_line pair) =
     one_byte (join_with_byte 32 (codes "pair" ∷ decimal pair.from ∷ decimal pair.to ∷ decimal pair.packets ∷ [])) in
@@ -72,7 +75,8 @@ few_lines shape bytes run trace =
     let rest = by_rank answer_lines run.ranks ⧺ cells_line run.cells ⧺ end_line run.done in
     let many : events_in (ends_of run.ranks) ≤ length (by_rank event_lines run.ranks) = many_from 0 run.ranks in
     let counts : length run.pairs ≤ length (flat_map pair_line run.pairs) = many_counts run.pairs in
-    let first : length (trace_text run) ≡ length (by_rank event_lines run.ranks) + length (flat_map pair_line run.pairs) =
+    let first : length (trace_text run) ≡ length (by_rank event_lines run.ranks) + length
+    (flat_map pair_line run.pairs) =
     length-append (by_rank event_lines run.ranks) (flat_map pair_line run.pairs) in
     let second : length (trace_text run) ≤ length (report_text true run) = front_le (trace_text run) rest in
     let all : length bytes ≡ length (report_text true run) = ap length trace.spelled in

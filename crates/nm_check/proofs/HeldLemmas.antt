@@ -76,7 +76,8 @@ module _ (shape : Sizes) (bytes : List ℕ) (run : RunRecord) (trace : IsTraceOf
       subst Told (sym is) (sent_told x (pair_shown (commands_of x lines) before (Ran line answer)))
   against_told lines x before w y other is = subst Told (sym is) (first_told y (is_mate x w))
 
-  other_told : (lines : List Line) (i j x at : ℕ) (other : Option ℕ) → IsOtherLine lines ends i j x at other → Told other
+  other_told : (lines : List Line) (i j x at : ℕ) (other : Option ℕ) → IsOtherLine lines ends i j x at other →
+      Told other
   other_told lines i j x at other is = by_event (slice_get (history_of ends x) at) is
     where
       by_event : (o : Option Event) → MatchOption o (other ≡ None) (λ e. IsAgainst lines ends x

@@ -23,7 +23,8 @@ module _ (lines : List Line) (run : RunRecord) where
   no_count (LastLine line) not = refl
 
   -- of another rule of rest
-  pub not_of_counts : (c : RestClause) (place : Place) → (c ≡ rest.Counts → ⊥) → IsMiscount lines run (Rest c) place None
+  pub not_of_counts : (c : RestClause) (place : Place) →
+      (c ≡ rest.Counts → ⊥) → IsMiscount lines run (Rest c) place None
   not_of_counts rest.Arrived place not = refl
   not_of_counts rest.Eager place not = refl
   not_of_counts rest.Asked place not = refl
@@ -32,7 +33,8 @@ module _ (lines : List Line) (run : RunRecord) where
   not_of_counts rest.Counts place not = absurd (not refl)
 
   -- of a rule of another kind
-  pub not_of_rest : (v : Verdict) (place : Place) → ((c : RestClause) → v ≡ Rest c → ⊥) → IsMiscount lines run v place None
+  pub not_of_rest : (v : Verdict) (place : Place) → ((c : RestClause) → v ≡ Rest c → ⊥) →
+      IsMiscount lines run v place None
   not_of_rest Holds place not = refl
   not_of_rest (Own c rank) place not = refl
   not_of_rest (Carried c from to) place not = refl

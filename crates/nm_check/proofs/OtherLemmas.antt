@@ -52,7 +52,8 @@ none_of lines run Done place not = refl
 
 -- an event of another kind is held against its mate
 pub against_mate : (lines : List Line) (ranks : List Ended) (x : ℕ) (before : List Event) (what : Happened) (y : ℕ)
-    (other : Option ℕ) → ((to n : ℕ) → what ≡ Out to n → ⊥) → ((line : ℕ) (answer : Answer) → what ≡ Ran line answer → ⊥) →
+    (other : Option ℕ) → ((to n : ℕ) → what ≡ Out to n → ⊥) →
+    ((line : ℕ) (answer : Answer) → what ≡ Ran line answer → ⊥) →
     other ≡ first_line ranks y (is_mate x what) → IsAgainst lines ranks x before what y other
 against_mate lines ranks x before (Out to n) y other not_out not_ran is = absurd (not_out to n refl)
 against_mate lines ranks x before (Ran line answer) y other not_out not_ran is = absurd (not_ran line answer refl)

@@ -84,7 +84,8 @@ module _ (shape : Sizes) (text line : List ℕ) (n : ℕ) (is : text ≡ line ++
     pub begins_none : n ≤ lines_in text → Begins shape text → ⊥
     begins_none few begins =
         let split : ended_lines (take n (whole_lines text)) ++ ended_lines (drop n (whole_lines text)) ≡ text =
-        sym (flat_map-append (λ (line : List ℕ). line ++ 10 ∷ []) (take n (whole_lines text)) (drop n (whole_lines text)))
+        sym (flat_map-append (λ (line : List ℕ). line ++ 10 ∷ []) (take n (whole_lines text))
+        (drop n (whole_lines text)))
         ∙ ap ended_lines (take-append-drop n (whole_lines text)) ∙ all_lines in
         bad.bad (
           omega (arith, few, many text),

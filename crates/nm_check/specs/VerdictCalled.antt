@@ -28,7 +28,8 @@ found_word many.More = codes "are two or more"
 -- another number of events is called for than was found
 abbrev pub many_words : Many → Many → List ℕ
 many_words called found =
-    codes "; since the answer before there is to be " ++ (many_word called ++ (codes ", and there " ++ found_word found))
+    codes "; since the answer before there is to be "
+    ++ (many_word called ++ (codes ", and there " ++ found_word found))
 
 -- another message is claimed than is to be, if one is
 abbrev pub claim_words : Option Message → Message → List ℕ

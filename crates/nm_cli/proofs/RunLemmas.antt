@@ -100,7 +100,8 @@ told line ranks lines a h = absurd h
 
 -- a plan that the bytes spell, and its run
 pub plan_of_bytes : (line : CommandLine) (bytes : List ℕ) (ranks : ℕ) (lines : List PlanLine) →
-    line.mode ≡ Parts → IsPlanText bytes ranks lines → (a : Response) → IsAnswerForPlan line ranks lines a → IsAnswerForBytes line bytes a
+    line.mode ≡ Parts → IsPlanText bytes ranks lines → (a : Response) → IsAnswerForPlan line ranks lines a →
+    IsAnswerForBytes line bytes a
 plan_of_bytes line bytes ranks lines parts text (answer.Planned plan run ways) h =
     let spelled : IsPlanText bytes ranks plan.lines = subst (λ ls. IsPlanText bytes ranks ls) (sym h.0) text in
     let of_script : IsRunOfScript line ranks (expand plan.lines) run ways =

@@ -125,8 +125,8 @@ module _ {s : Ending} where
       IsTaken s.words other →
       IsAnswerOf other s.input s.read_old s.read_new answer → IsAnswerOf asked s.input s.read_old s.read_new answer
   right_of {answer} e asked taken other also right =
-      subst (λ (a : Asked). IsAnswerOf a s.input s.read_old s.read_new answer) (one_asked answer e other asked also taken)
-      right
+      subst (λ (a : Asked). IsAnswerOf a s.input s.read_old s.read_new answer)
+      (one_asked answer e other asked also taken) right
 
   pub refuses_is : NotBoth → (answer : Response) → TellsOutcomes s answer → (asked : Asked) → IsTaken s.words asked →
       IfSome s.input (λ bytes. (script report : List ℕ) (line : ℕ) (kind : Kind) →

@@ -7,8 +7,9 @@ use Rattle.nm_outcomes_top.proofs.asking.tell.Goals as goal
 
 pub returns-in-All : goal.returns-in-All
 returns-in-All c =
-    subst (λ (q : Question). IfOk c.tell_all.result (IsFinding q c.args.shape c.args.script.now.lines c.args.report.now))
-    (sym c.in-All.is) (c.tell_all.ensures c.args.report.now)
+    subst (λ (q : Question). IfOk c.tell_all.result
+    (IsFinding q c.args.shape c.args.script.now.lines c.args.report.now)) (sym c.in-All.is)
+    (c.tell_all.ensures c.args.report.now)
 
 pub returns-in-Trace : goal.returns-in-Trace
 returns-in-Trace c =

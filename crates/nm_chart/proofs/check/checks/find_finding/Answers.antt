@@ -12,7 +12,8 @@ returns-in-Ok-clause-answer g c =
     IfOk-weaker c.finding_in.result _ _
     (λ finding h. answer_of (map string_bytes c.args.words.now) line (g.S.Source.left c.args.source.now)
     (g.S.Source.faults c.args.source.now) (g.S.Source.faults c.read_up_to.new.source) c.in-Ok.bytes.items
-    c.in-Some.ensures.asked c.in-Ok.ensures.bytes finding (subst (λ b. IsAnswerIn line finding b) c.deref.ensures.value h))
+    c.in-Some.ensures.asked c.in-Ok.ensures.bytes finding
+    (subst (λ b. IsAnswerIn line finding b) c.deref.ensures.value h))
     c.finding_in.ensures.finding
 
 pub returns-in-Ok-clause-read : goal.returns-in-Ok-clause-read

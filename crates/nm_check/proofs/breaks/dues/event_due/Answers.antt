@@ -7,7 +7,8 @@ use Rattle.nm_check.proofs.breaks.dues.event_due.Goals as goal
 
 pub tables_due-requires : goal.tables_due-requires
 tables_due-requires c =
-    let Keeps = KeepsOwn c.args.shape (commands_of c.args.rank c.args.lines.now) c.requires.broken.0 c.args.events.now in
+    let Keeps = KeepsOwn c.args.shape (commands_of c.args.rank c.args.lines.now) c.requires.broken.0 c.args.events.now
+    in
     record {
       inside = c.requires.inside;
       judged = (c.in_default.not-Stamps, c.in_default.not-Numbers);

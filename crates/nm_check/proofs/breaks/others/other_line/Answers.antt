@@ -36,5 +36,6 @@ returns c =
     subst (λ (o : Option Event). IfOk c.line_against.result (λ other. MatchOption o (other ≡ None)
     (λ e. IsAgainst c.args.lines.now ends c.args.x (take c.args.at h) e.what
     (cond (c.args.x == c.args.i) c.args.j c.args.i) other))) (sym there)
-    (subst (λ (y : ℕ). IfOk c.line_against.result (IsAgainst c.args.lines.now ends c.args.x (take c.args.at h) e.what y))
+    (subst (λ (y : ℕ). IfOk c.line_against.result
+    (IsAgainst c.args.lines.now ends c.args.x (take c.args.at h) e.what y))
     c.other_rank-y.ensures (c.line_against.ensures e there refl))

@@ -13,6 +13,7 @@ line_at-requires-clause-inside c = λ k is.
 pub returns : goal.returns
 returns c = (
   c.taken_at-at.result,
-  c.taken_at-at.ensures c.args.y c.args.lines.now (history_of (ends_of c.args.ranks.now) c.args.y) c.in_ok-tables.ensures,
+  c.taken_at-at.ensures c.args.y c.args.lines.now (history_of (ends_of c.args.ranks.now) c.args.y)
+      c.in_ok-tables.ensures,
   c.line_at.ensures,
 )

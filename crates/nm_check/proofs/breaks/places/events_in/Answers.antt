@@ -10,7 +10,8 @@ loop-rank-init c = refl
 
 -- the events with one rank more, which are no more than all
 more : (c : After-as_slice) →
-    c.loop-rank.events + length c.as_slice.result.now ≡ events_in (take (c.loop-rank.rank-index + 1) (ends_of c.args.ranks.now))
+    c.loop-rank.events + length c.as_slice.result.now ≡ events_in
+    (take (c.loop-rank.rank-index + 1) (ends_of c.args.ranks.now))
 more c =
     ap (λ n. n + length c.as_slice.result.now) c.loop-rank.invariant
     ∙ ap (λ n. events_in (take c.loop-rank.rank-index (ends_of c.args.ranks.now)) + n) (ap length c.as_slice.ensures)

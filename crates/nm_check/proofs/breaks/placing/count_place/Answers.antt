@@ -24,7 +24,8 @@ pub count_line-line-requires : goal.count_line-line-requires
 count_line-line-requires c =
     let inside = differ_inside (packets_of c.args.pairs.now) (packets_of c.as_slice-called.result.now) c.in-Some.at
     c.in-Some.ensures in
-    let many : length (packets_of c.args.pairs.now) ≡ length c.args.pairs.now = length-map c.args.pairs.now counted_pair in
+    let many : length (packets_of c.args.pairs.now) ≡ length c.args.pairs.now =
+    length-map c.args.pairs.now counted_pair in
     omega (arith, inside, many, c.requires.short)
 
 pub returns-in-Some : goal.returns-in-Some

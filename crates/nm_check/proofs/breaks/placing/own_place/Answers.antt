@@ -29,7 +29,8 @@ own_break-requires c =
     c.index-ranks-i.is in
     let events = events_here ranks i a c.as_slice-events.result.now c.as_slice-events.ensures c.index-ranks-i.is in (
       a.at,
-      first_here c.args.script.now.lines c.as_slice-lines.result.now c.args.run.now c.args.clause i (Own c.args.clause i) a
+      first_here c.args.script.now.lines c.as_slice-lines.result.now c.args.run.now c.args.clause i
+          (Own c.args.clause i) a
           c.as_slice-events.result.now refl there c.as_slice-lines.ensures events c.requires.judged,
     )
 
@@ -44,7 +45,8 @@ place_in-requires-clause-early c =
     let first = first_here c.args.script.now.lines c.as_slice-lines.result.now c.args.run.now c.args.clause i
     (Own c.args.clause i) a c.as_slice-events.result.now refl there c.as_slice-lines.ensures events
     c.requires.judged in
-    early_here c.args.script.now.lines c.as_slice-lines.result.now c.args.run.now c.args.clause i (Own c.args.clause i) a
+    early_here c.args.script.now.lines c.as_slice-lines.result.now c.args.run.now c.args.clause i
+    (Own c.args.clause i) a
     c.as_slice-events.result.now refl there c.as_slice-lines.ensures events c.requires.short c.in_ok-place.place
     (c.in_ok-place.ensures a.at first.broken)
 
@@ -59,6 +61,7 @@ returns c =
     let first = first_here c.args.script.now.lines c.as_slice-lines.result.now c.args.run.now c.args.clause i
     (Own c.args.clause i) a c.as_slice-events.result.now refl there c.as_slice-lines.ensures events
     c.requires.judged in
-    placed_here c.args.script.now.lines c.as_slice-lines.result.now c.args.run.now c.args.clause i (Own c.args.clause i) a
+    placed_here c.args.script.now.lines c.as_slice-lines.result.now c.args.run.now c.args.clause i
+    (Own c.args.clause i) a
     c.as_slice-events.result.now refl there c.as_slice-lines.ensures events c.in_ok-place.place c.place_in.result
     ranks c.as_slice-ranks.ensures (c.in_ok-place.ensures a.at first.broken) c.place_in.ensures
