@@ -19,6 +19,7 @@ use Rattle.nm_types.specs.declared.scripts.Command.{Command}
 use Rattle.nm_types.specs.declared.scripts.Command.TheVariants as command
 use Rattle.nm_types.specs.Bodies.{body_len}
 use Rattle.nm_types.specs.Commands.{Numbered, command_at}
+use Rattle.nm_types.proofs.TruthLemmas.{neither}
 use Rattle.nm_history.specs.declared.events.Event.{Event}
 use Rattle.nm_history.specs.declared.events.Happened.{Happened}
 use Rattle.nm_history.specs.declared.events.Happened.TheVariants as what
@@ -39,7 +40,8 @@ use Rattle.nm_lookups.specs.declared.asked.requests.Request.TheVariants.{Sending
 use Rattle.nm_match.specs.declared.names.Message.{Message}
 use Rattle.nm_check_rank.specs.Arguments.{IsFirstMismatch, arguments}
 use Rattle.nm_check_rank.specs.Cancellings.{cancel_due, cancels_due, receive_cancels, receive_due, send_cancels, send_due}
-use Rattle.nm_check_rank.specs.Claimings.{claim_due, claims_due, message_due, named}
+use Rattle.nm_check_rank.specs.Claimings.{claim_due, claims_due, message_due}
+use Rattle.nm_match.specs.Names.{id_of_arrival}
 use Rattle.nm_check_rank.specs.Kinds.{is_canceller}
 use Rattle.nm_check_rank.specs.Manies.{many_due, many_of}
 use Rattle.nm_check_rank.specs.Objections.{either, end_objection, once_after, whole_objection, word_after}
@@ -90,13 +92,13 @@ module _ (before : List Event) (from n line : ℕ) where
   abbrev found : Message
   found = record { rank = from; n = n }
 
-  by_found : (o : Option Arrival) → message_due (option_map named o) found ≡ None →
+  by_found : (o : Option Arrival) → message_due (option_map id_of_arrival o) found ≡ None →
       option_map_or (λ a. what.Claim a.env.from a.n line ∷ []) o [] ≡ what.Claim from n line ∷ []
   by_found None none = absurd (not_none _ none)
   by_found (Some a) none = by_test (a.env.from == from && a.n == n) refl none
     where
       by_test : (b : Bool) → (a.env.from == from && a.n == n) ≡ b →
-          cond b None (Some (due.Claim (Some (named a)) found)) ≡ None →
+          cond b None (Some (due.Claim (Some (id_of_arrival a)) found)) ≡ None →
           (what.Claim a.env.from a.n line ∷ []) ≡ (what.Claim from n line ∷ [])
       by_test true is none =
           let both = subst (λ (b : Bool). Decides b ((a.env.from ≡ from) × (a.n ≡ n))) is
@@ -105,7 +107,7 @@ module _ (before : List Event) (from n line : ℕ) where
           λ i. what.Claim (both.0 i) (both.1 i) line ∷ []
       by_test false is none = absurd (not_none _ none)
 
-  by_command : (o : Option Command) → message_due (option_map named
+  by_command : (o : Option Command) → message_due (option_map id_of_arrival
       (option_and_then (λ c. cond (is_matched_probe c) (found_by before c) None) o)) found ≡ None →
       IsSomeAnd o (λ c. claim_of before line c ≡ what.Claim from n line ∷ [])
   by_command None none = absurd (not_none _ none)
@@ -393,10 +395,6 @@ taken_kept : (asking taken : Bool) →
 taken_kept true true none = refl
 taken_kept true false none = absurd (not_none _ none)
 taken_kept false taken none = tt
-
-neither : (a b : Bool) → (a || b) ≡ false → (a ≡ false) × (b ≡ false)
-neither false b none = (refl, none)
-neither true b none = absurd (false≢true (sym none))
 
 pub whole_kept : (before : List Event) (w : Happened) → option_map due.Against (whole_objection before w) ≡ None →
     WholeAt before w

@@ -15,7 +15,8 @@ use Rattle.nm_history.specs.RankRun.{claims_since, is_matched_probe, line_of_cla
 use Rattle.nm_lookups.specs.Looks.{found_by}
 use Rattle.nm_lookups.specs.SinceAnswer.{IsSince}
 use Rattle.nm_lookups.specs.declared.asked.since.Since.TheVariants as since
-use Rattle.nm_check_rank.specs.Claimings.{claim_due, claims_due, named}
+use Rattle.nm_check_rank.specs.Claimings.{claim_due, claims_due}
+use Rattle.nm_match.specs.Names.{id_of_arrival}
 use Rattle.nm_check_rank.specs.Kinds.{is_claiming}
 use Rattle.nm_check_rank.specs.Manies.{many_due}
 use Rattle.nm_check_rank.specs.declared.paired.dues.Due.{Due}
@@ -26,13 +27,14 @@ use Rattle.nm_check_rank.proofs.ManyLemmas.{more_left, none_left}
 -- the message that the matched probe of a line found
 pub probed_by : (before : List Event) (o : Option Command) (found : Option Arrival) →
     found ≡ option_and_then (found_by before) o →
-    cond (option_map_or is_matched_probe o false) (option_map named found) None
-    ≡ option_map named (option_and_then (λ c. cond (is_matched_probe c) (found_by before c) None) o)
+    cond (option_map_or is_matched_probe o false) (option_map id_of_arrival found) None
+    ≡ option_map id_of_arrival (option_and_then (λ c. cond (is_matched_probe c) (found_by before c) None) o)
 probed_by before None found is = refl
 probed_by before (Some c) found is = by_test (is_matched_probe c)
   where
-    by_test : (b : Bool) → cond b (option_map named found) None ≡ option_map named (cond b (found_by before c) None)
-    by_test true = ap (λ (o : Option Arrival). option_map named o) is
+    by_test : (b : Bool) → cond b (option_map id_of_arrival found) None
+        ≡ option_map id_of_arrival (cond b (found_by before c) None)
+    by_test true = ap (λ (o : Option Arrival). option_map id_of_arrival o) is
     by_test false = refl
 
 -- more than one claim

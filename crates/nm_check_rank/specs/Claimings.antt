@@ -3,7 +3,6 @@ use Rattle.std.specs.Prelude.{ℕ, ◌==◌, ◌&&◌, false, if◌then◌else�
 use Rattle.std.specs.Prelude.{option_and_then, option_map}
 use Rattle.std.specs.Option.{option_map_or}
 use Rattle.nm_types.specs.declared.answers.Answer.{Answer}
-use Rattle.nm_types.specs.declared.messages.Arrival.{Arrival}
 use Rattle.nm_types.specs.Commands.{Numbered, command_at}
 use Rattle.nm_history.specs.declared.events.Event.{Event}
 use Rattle.nm_history.specs.declared.events.Happened.{Happened}
@@ -11,20 +10,16 @@ use Rattle.nm_history.specs.declared.events.Happened.TheVariants.{Claim, Ran}
 use Rattle.nm_history.specs.Answers.{is_seen}
 use Rattle.nm_history.specs.RankRun.{claims_since, is_matched_probe}
 use Rattle.nm_match.specs.declared.names.Message.{Message}
-use Rattle.nm_match.specs.Names.{same_message}
+use Rattle.nm_match.specs.Names.{id_of_arrival, same_message}
 use Rattle.nm_lookups.specs.Looks.{found_by}
 use Rattle.nm_check_rank.specs.Manies.{many_due, many_of}
 use Rattle.nm_check_rank.specs.declared.paired.dues.Due.{Due}
 use Rattle.nm_check_rank.specs.declared.paired.dues.Due.TheVariants as due
 
--- the message of an arrival
-abbrev pub named : Arrival → Message
-named a = record { rank = a.env.from; n = a.n }
-
 -- the message that is to be claimed for a line: the first free one that its matched probe selects
 abbrev pub claim_called : List Numbered → List Event → ℕ → Option Message
 claim_called commands before line =
-    option_map named
+    option_map id_of_arrival
     (option_and_then (λ c. if is_matched_probe c then found_by before c else None) (command_at commands line))
 
 -- no message is to be claimed, or another one
