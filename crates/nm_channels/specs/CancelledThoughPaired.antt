@@ -1,6 +1,6 @@
 -- Refused: a cancel that is done on a paired receive.
 use Rattle.std.specs.Prelude.{true, false, List, [], ◌∷◌}
-use Rattle.nm_types.specs.Commands.{commands_of}
+use Rattle.nm_types.specs.Commands.{commands_of, rank_line}
 use Rattle.nm_types.specs.declared.messages.How.TheVariants.{Eager}
 use Rattle.nm_types.specs.declared.messages.Peer.TheVariants as peer
 use Rattle.nm_types.specs.declared.messages.TagPick.TheVariants as pick
@@ -12,7 +12,7 @@ use Rattle.nm_history.specs.declared.events.Event.{Event}
 use Rattle.nm_history.specs.declared.events.Happened.TheVariants.{Send, Post, Arrive, Whole, Out, Cancel, Recall}
 use Rattle.nm_history.specs.declared.events.Happened.TheVariants.{Withdraw, Undone, Ran}
 use Rattle.nm_history.specs.RankRun.{IsRankRun}
-use Rattle.nm_channels.specs.Small.{at, run_on, rank_line}
+use Rattle.nm_channels.specs.Small.{at, run_on}
 
 -- the script
 abbrev pub script : List Line

@@ -7,10 +7,11 @@ use Rattle.nm_types.specs.declared.scripts.Body.TheVariants.{Hex}
 use Rattle.nm_types.specs.declared.scripts.Command.TheVariants as command
 use Rattle.nm_types.specs.declared.scripts.Line.{Line}
 use Rattle.nm_types.specs.declared.answers.Answer.TheVariants as answer
+use Rattle.nm_types.specs.Commands.{rank_line}
 use Rattle.nm_history.specs.declared.events.Event.{Event}
 use Rattle.nm_history.specs.declared.events.Happened.TheVariants.{Send, Post, Out, Ran}
 use Rattle.nm_history.specs.Quiescence.{AreQuiescent}
-use Rattle.nm_channels.specs.Small.{at, rank_line}
+use Rattle.nm_channels.specs.Small.{at}
 
 -- the script
 abbrev pub script : List Line

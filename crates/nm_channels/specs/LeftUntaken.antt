@@ -1,6 +1,6 @@
 -- Refused: a synchronous send that is complete when its asking has left.
 use Rattle.std.specs.Prelude.{true, List, [], ◌∷◌}
-use Rattle.nm_types.specs.Commands.{commands_of}
+use Rattle.nm_types.specs.Commands.{commands_of, rank_line}
 use Rattle.nm_types.specs.declared.messages.How.TheVariants.{Ask}
 use Rattle.nm_types.specs.declared.messages.Peer.TheVariants as peer
 use Rattle.nm_types.specs.declared.messages.TagPick.TheVariants as pick
@@ -11,7 +11,7 @@ use Rattle.nm_types.specs.declared.answers.Answer.TheVariants as answer
 use Rattle.nm_history.specs.declared.events.Event.{Event}
 use Rattle.nm_history.specs.declared.events.Happened.TheVariants.{Send, Arrive, Out, Ran}
 use Rattle.nm_history.specs.Delivery.{AreDelivered}
-use Rattle.nm_channels.specs.Small.{at, rank_line}
+use Rattle.nm_channels.specs.Small.{at}
 
 -- the script
 abbrev pub script : List Line

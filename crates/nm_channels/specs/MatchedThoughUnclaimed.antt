@@ -1,6 +1,6 @@
 -- Refused: a matched receive of a message that was not claimed.
 use Rattle.std.specs.Prelude.{false, List, [], ◌∷◌}
-use Rattle.nm_types.specs.Commands.{commands_of}
+use Rattle.nm_types.specs.Commands.{commands_of, rank_line}
 use Rattle.nm_types.specs.declared.messages.How.TheVariants.{Eager}
 use Rattle.nm_types.specs.declared.messages.Peer.TheVariants as peer
 use Rattle.nm_types.specs.declared.messages.TagPick.TheVariants as pick
@@ -11,7 +11,7 @@ use Rattle.nm_types.specs.declared.answers.Answer.TheVariants as answer
 use Rattle.nm_history.specs.declared.events.Event.{Event}
 use Rattle.nm_history.specs.declared.events.Happened.TheVariants.{Send, Arrive, Whole, Claim, Match, Ran}
 use Rattle.nm_history.specs.RankRun.{IsRankRun}
-use Rattle.nm_channels.specs.Small.{at, run_on, rank_line}
+use Rattle.nm_channels.specs.Small.{at, run_on}
 
 -- the script
 abbrev pub script : List Line

@@ -1,6 +1,6 @@
 -- Refused: a message whose number is not the next one.
 use Rattle.std.specs.Prelude.{false, List, [], ◌∷◌}
-use Rattle.nm_types.specs.Commands.{commands_of}
+use Rattle.nm_types.specs.Commands.{commands_of, rank_line}
 use Rattle.nm_types.specs.declared.messages.How.TheVariants.{Eager}
 use Rattle.nm_types.specs.declared.scripts.Body.TheVariants.{Hex}
 use Rattle.nm_types.specs.declared.scripts.Command.TheVariants as command
@@ -9,7 +9,7 @@ use Rattle.nm_types.specs.declared.answers.Answer.TheVariants as answer
 use Rattle.nm_history.specs.declared.events.Event.{Event}
 use Rattle.nm_history.specs.declared.events.Happened.TheVariants.{Send, Out, Ran}
 use Rattle.nm_history.specs.RankRun.{IsRankRun}
-use Rattle.nm_channels.specs.Small.{at, run_on, rank_line}
+use Rattle.nm_channels.specs.Small.{at, run_on}
 
 -- the script
 abbrev pub script : List Line

@@ -1,13 +1,13 @@
 -- Refused: a rank that runs its second command before its first.
 use Rattle.std.specs.Prelude.{List, [], ◌∷◌}
-use Rattle.nm_types.specs.Commands.{commands_of}
+use Rattle.nm_types.specs.Commands.{commands_of, rank_line}
 use Rattle.nm_types.specs.declared.scripts.Command.TheVariants as command
 use Rattle.nm_types.specs.declared.scripts.Line.{Line}
 use Rattle.nm_types.specs.declared.answers.Answer.TheVariants as answer
 use Rattle.nm_history.specs.declared.events.Event.{Event}
 use Rattle.nm_history.specs.declared.events.Happened.TheVariants.{Ran}
 use Rattle.nm_history.specs.RankRun.{IsRankRun}
-use Rattle.nm_channels.specs.Small.{at, run_on, rank_line}
+use Rattle.nm_channels.specs.Small.{at, run_on}
 
 -- the script
 abbrev pub script : List Line

@@ -1,7 +1,5 @@
 -- What the worked runs are written with.
 use Rattle.std.specs.Prelude.{ℕ}
-use Rattle.nm_types.specs.declared.scripts.Command.{Command}
-use Rattle.nm_types.specs.declared.scripts.Line.{Line}
 use Rattle.nm_types.specs.Sizes.{Sizes}
 use Rattle.nm_history.specs.declared.events.Event.{Event}
 use Rattle.nm_history.specs.declared.events.Happened.{Happened}
@@ -13,7 +11,3 @@ at stamp what = record { stamp = stamp; what = what }
 -- a run on this many ranks, with eight cells each and an eager limit of 1024 bytes
 abbrev pub run_on : ℕ → Sizes
 run_on ranks = record { ranks = ranks; cells = 8; eager = 1024 }
-
--- a command of a rank
-abbrev pub rank_line : ℕ → Command → Line
-rank_line rank command = record { rank = rank; command = command }

@@ -7,11 +7,12 @@ use Rattle.nm_types.specs.declared.scripts.Body.TheVariants.{Hex}
 use Rattle.nm_types.specs.declared.scripts.Command.TheVariants as command
 use Rattle.nm_types.specs.declared.scripts.Line.{Line}
 use Rattle.nm_types.specs.declared.answers.Answer.TheVariants as answer
+use Rattle.nm_types.specs.Commands.{rank_line}
 use Rattle.nm_history.specs.declared.events.Event.{Event}
 use Rattle.nm_history.specs.declared.events.Happened.TheVariants.{Send, Post, Arrive, Whole, Out, Ran}
 use Rattle.nm_history.specs.Quiescence.{Ended, Packets}
 use Rattle.nm_history.specs.Run.{IsRunOf}
-use Rattle.nm_channels.specs.Small.{at, run_on, rank_line}
+use Rattle.nm_channels.specs.Small.{at, run_on}
 
 -- the script
 abbrev pub script : List Line

@@ -1,6 +1,6 @@
 -- Refused: a message that is withdrawn though its sender did not ask for it.
 use Rattle.std.specs.Prelude.{true, false, List, [], ◌∷◌}
-use Rattle.nm_types.specs.Commands.{commands_of}
+use Rattle.nm_types.specs.Commands.{commands_of, rank_line}
 use Rattle.nm_types.specs.declared.messages.How.TheVariants.{Eager}
 use Rattle.nm_types.specs.declared.scripts.Body.TheVariants.{Hex}
 use Rattle.nm_types.specs.declared.scripts.Command.TheVariants as command
@@ -9,7 +9,7 @@ use Rattle.nm_types.specs.declared.answers.Answer.TheVariants as answer
 use Rattle.nm_history.specs.declared.events.Event.{Event}
 use Rattle.nm_history.specs.declared.events.Happened.TheVariants.{Send, Arrive, Whole, Out, Withdraw, Ran}
 use Rattle.nm_history.specs.Delivery.{AreDelivered}
-use Rattle.nm_channels.specs.Small.{at, rank_line}
+use Rattle.nm_channels.specs.Small.{at}
 
 -- the script
 abbrev pub script : List Line

@@ -4,7 +4,7 @@ use Rattle.std.proofs.Common.{◌∷◌, zero, suc, length}
 use Rattle.std.specs.Prelude.{Contains, IfOk, Result, Ok, Err, option_map, slice_index_or}
 use Rattle.std.specs.List.{range_with_len, slice_get}
 use Rattle.nm_types.specs.declared.scripts.Line.{Line}
-use Rattle.nm_types.specs.Commands.{commands_of}
+use Rattle.nm_types.specs.Commands.{StandAtLines, commands_of}
 use Rattle.nm_types.specs.declared.limits.TheConstants.{MAX_LINES}
 use Rattle.nm_types.specs.Limits.{IsScript}
 use Rattle.nm_types.specs.Sizes.{Sizes}
@@ -20,7 +20,7 @@ use Rattle.nm_outcomes.specs.Outcomes.{told_at}
 use Rattle.nm_outcomes.specs.Places.{IsPlaceOf}
 use Rattle.nm_outcomes.specs.Searches as searches
 use Rattle.nm_outcomes.proofs.CallLemmas.{events_are_due}
-use Rattle.nm_outcomes.proofs.FoundLemmas.{StandAtLines, all_told as run_told, commands_in_range, script_commands}
+use Rattle.nm_outcomes.proofs.FoundLemmas.{all_told as run_told, commands_in_range, script_commands}
 use Rattle.nm_outcomes.proofs.LogLemmas.{at_of, own_run, runs_have_logs}
 use Rattle.nm_outcomes.proofs.PathLemmas.{sent_within}
 use Rattle.nm_outcomes.proofs.RestLemmas.{at_rest as places_at_rest}

@@ -15,11 +15,11 @@ use Rattle.nm_types.specs.declared.answers.Answer.TheVariants as answer
 use Rattle.nm_types.specs.declared.messages.Arrival.{Arrival}
 use Rattle.nm_types.specs.declared.messages.Envelope.{Envelope}
 use Rattle.nm_types.specs.declared.scripts.Body.{Body}
-use Rattle.nm_types.specs.Bodies.{body_len, bytes_of}
+use Rattle.nm_types.specs.Bodies.{HaveTheirLength, body_len, bytes_of}
 use Rattle.nm_types.specs.declared.scripts.Command.{Command}
 use Rattle.nm_types.specs.declared.scripts.Command.TheVariants as command
 use Rattle.nm_types.specs.declared.scripts.Line.{Line}
-use Rattle.nm_types.specs.Commands.{Numbered, commands_from, commands_of}
+use Rattle.nm_types.specs.Commands.{Numbered, StandAtLines, commands_from, commands_of}
 use Rattle.nm_types.specs.Limits.{IsScript, sent_len}
 use Rattle.nm_types.specs.Sizes.{Sizes}
 use Rattle.nm_types.proofs.ListLemmas.{get_from_map, map_length, place_below}
@@ -67,7 +67,7 @@ use Rattle.nm_outcomes.specs.declared.spots.deeds.Reply.TheVariants as reply
 use Rattle.nm_outcomes.specs.Deeds.{happening}
 use Rattle.nm_outcomes.specs.Looks.{IsSaid, is_answer_by, is_recall_by}
 use Rattle.nm_outcomes.proofs.EndLemmas.{all_follow, all_rising, results_may_come}
-use Rattle.nm_outcomes.proofs.FoundLemmas.{StandAtLines, script_commands}
+use Rattle.nm_outcomes.proofs.FoundLemmas.{script_commands}
 use Rattle.nm_outcomes.proofs.HappenedLemmas.{sent_so, split_any}
 use Rattle.nm_outcomes.proofs.LogLemmas.{all_delivered}
 use Rattle.nm_outcomes.proofs.SaidLemmas.{first_own, said}
@@ -98,10 +98,6 @@ use Rattle.nm_listed.proofs.ResultLemmas.{left_said, past_said, recall_said, wit
 use Rattle.nm_listed.proofs.SteadyLemmas.{Begins, IsBegun, IsIdle}
 use Rattle.nm_listed.proofs.TellLemmas.{IsTold}
 use Rattle.nm_listed.proofs.WayLemmas.{way_reached}
-
--- the law of bodies
-abbrev pub HaveTheirLength : Type 0
-HaveTheirLength = (body : Body) → length (bytes_of body) ≡ body_len body
 
 unasked_here : (ss : List Sent) (k : ℕ) (s : Sent) → slice_get ss k ≡ Some s → is_ask s.how ≡ false →
     is_unasked ss s.n ≡ true

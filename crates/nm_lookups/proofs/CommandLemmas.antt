@@ -5,11 +5,8 @@ use Rattle.std.specs.Prelude.{option_and_then, option_map}
 use Rattle.std.specs.List.{find, slice_get}
 use Rattle.std.proofs.lemmas.Bool.Decides.{nat_tests}
 use Rattle.nm_types.specs.declared.scripts.Line.{Line}
-use Rattle.nm_types.specs.Commands.{Numbered, command_at, commands_from, commands_of}
+use Rattle.nm_types.specs.Commands.{Numbered, command_at, commands_from, commands_of, numbered}
 use Rattle.nm_types.proofs.NumberLemmas.{eq_less, eq_false}
-
-abbrev numbered : ℕ → Line → Numbered
-numbered number l = record { line = number; command = l.command }
 
 itself : (n : ℕ) → (n == n) ≡ true
 itself n = grind (arith, nat_tests)

@@ -93,8 +93,3 @@ none_at (Some x) never = absurd (false≢true (sym never))
 -- where nothing is found
 pub none_found : {X : Type 0} (o : Option X) → is_some o ≡ false → o ≡ None
 none_found o none = none_at o none
-
--- what holds anyway holds where there is an error
-pub on_err : {T E P : Type 0} (r : Result T E) → P → OnErr r P
-on_err (Ok x) holds = tt
-on_err (Err e) holds = holds

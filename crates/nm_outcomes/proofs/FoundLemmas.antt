@@ -9,7 +9,7 @@ use Rattle.nm_types.specs.declared.scripts.Command.TheVariants as command
 use Rattle.nm_types.specs.Bodies.{body_len}
 use Rattle.nm_types.specs.Limits.{IsScript, is_in_range}
 use Rattle.nm_types.specs.declared.scripts.Line.{Line}
-use Rattle.nm_types.specs.Commands.{Numbered, command_at, commands_from, commands_of}
+use Rattle.nm_types.specs.Commands.{Numbered, StandAtLines, command_at, commands_from, commands_of}
 use Rattle.nm_types.specs.Sizes.{Sizes}
 use Rattle.nm_history.specs.Quiescence.{Ended}
 use Rattle.nm_report.specs.declared.accounts.RankAccount.{RankAccount}
@@ -68,11 +68,6 @@ sends_within ranks (command.Send q to tag ctx body sync) fine =
     (second_of_five (nat_le q MAX_NAME) (nat_lt to ranks) (nat_le tag MAX_TAG) (nat_le ctx MAX_CONTEXT)
     (nat_le (body_len body) MAX_BODY) fine)
 sends_within ranks c fine = tt
-
-abbrev pub StandAtLines : Type 0
-StandAtLines =
-    (rank : ℕ) (lines : List Line) (k : ℕ) (c : Numbered) → slice_get (commands_of rank lines) k ≡ Some c →
-    command_at (commands_of rank lines) c.line ≡ Some c.command
 
 pub commands_in_range : (ranks : ℕ) (lines : List Line) → IsScript ranks lines → (i line : ℕ) (c : Command) →
     command_at (commands_of i lines) line ≡ Some c → is_in_range ranks c ≡ true

@@ -16,7 +16,6 @@ use Rattle.nm_types.specs.Sizes.{Sizes}
 use Rattle.nm_history.specs.declared.events.Event.{Event}
 use Rattle.nm_history.specs.Answers.{is_started}
 use Rattle.nm_sure.proofs.Rising.{Rising}
-use Rattle.nm_sure.proofs.Shown.{HaveTheirLength}
 use Rattle.nm_plans.specs.declared.lines.PlanCommand.{PlanCommand}
 use Rattle.nm_plans.specs.declared.lines.PlanCommand.TheVariants.{SendInit, RecvInit, PsendInit, PrecvInit, Fill}
 use Rattle.nm_plans.specs.declared.lines.PlanCommand.TheVariants.{Start, Ready, Arrived, Wait}
@@ -48,6 +47,7 @@ use Rattle.nm_persist.proofs.Tracked.{AreFine, few_parts, own-more, part_low}
 use Rattle.nm_persist.proofs.Waited.{arrived_shown, wait_shown}
 use Rattle.nm_types.proofs.NumberLemmas.{same_number}
 use Rattle.nm_types.proofs.ListLemmas.{all_split}
+use Rattle.nm_types.specs.Bodies.{HaveTheirLength}
 
 -- the entry of a line, by its command and its request
 abbrev entry_of : ℕ → ℕ → PlanCommand → Option Request → List Answer → List Named → Entry

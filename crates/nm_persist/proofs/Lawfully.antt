@@ -11,7 +11,7 @@ use Rattle.nm_types.specs.declared.answers.Answer.{Answer}
 use Rattle.nm_types.specs.declared.messages.Peer.TheVariants as peer
 use Rattle.nm_types.specs.declared.scripts.Command.{Command}
 use Rattle.nm_types.specs.declared.scripts.Command.TheVariants as command
-use Rattle.nm_types.specs.Commands.{Numbered, command_at, commands_of}
+use Rattle.nm_types.specs.Commands.{Numbered, StandAtLines, command_at, commands_of}
 use Rattle.nm_types.specs.Limits.{IsScript}
 use Rattle.nm_types.specs.Sizes.{Sizes}
 use Rattle.nm_history.specs.declared.events.Event.{Event}
@@ -24,9 +24,8 @@ use Rattle.nm_report.specs.declared.records.RunRecord.{RunRecord}
 use Rattle.nm_report.specs.Ends.{ends_of}
 use Rattle.nm_report.specs.Lawful.{IsRunIn}
 use Rattle.nm_report.specs.Told.{Told, told_by}
-use Rattle.nm_sure.proofs.Assembled.{Begins, StandAtLines, at_in, from_line, hist_in}
+use Rattle.nm_sure.proofs.Assembled.{Begins, at_in, from_line, hist_in}
 use Rattle.nm_sure.proofs.Rising.{commands_rise}
-use Rattle.nm_sure.proofs.Shown.{HaveTheirLength}
 use Rattle.nm_sure.proofs.Worlds.{IsWithin, line_place}
 use Rattle.nm_plans.specs.declared.lines.PlanLine.{PlanLine}
 use Rattle.nm_plans.specs.Expansion.{expand, name_of}
@@ -46,6 +45,7 @@ use Rattle.nm_persist.proofs.Waited.{owned}
 use Rattle.nm_persist.proofs.Walked.{IsWalked, answer_in, answers_in, walked}
 use Rattle.nm_types.proofs.ListLemmas.{get_some, get_map, all_at, place_below}
 use Rattle.nm_types.proofs.OptionLemmas.{if_some}
+use Rattle.nm_types.specs.Bodies.{HaveTheirLength}
 use Rattle.nm_sure.proofs.Assembled.{within_range}
 
 low_of : (a b : ℕ) → ltb a b ≡ true → a < b

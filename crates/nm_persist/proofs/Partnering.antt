@@ -9,7 +9,7 @@ use Rattle.std.proofs.lemmas.List.Elements.{filter-append}
 use Rattle.nm_types.specs.declared.answers.Answer.{Answer}
 use Rattle.nm_types.specs.declared.scripts.Command.{Command}
 use Rattle.nm_types.specs.declared.scripts.Command.TheVariants as command
-use Rattle.nm_types.specs.Bodies.{bytes_of}
+use Rattle.nm_types.specs.Bodies.{HaveTheirLength, bytes_of}
 use Rattle.nm_types.specs.Commands.{Numbered, command_at, commands_of}
 use Rattle.nm_types.specs.Sizes.{Sizes}
 use Rattle.nm_history.specs.declared.events.Event.{Event}
@@ -21,7 +21,6 @@ use Rattle.nm_sure.proofs.Gathered.{send_line, sends_it, sends_read}
 use Rattle.nm_sure.proofs.Lists.{kept_from}
 use Rattle.nm_sure.proofs.Made.{send_lines}
 use Rattle.nm_sure.proofs.Rising.{Rising}
-use Rattle.nm_sure.proofs.Shown.{HaveTheirLength}
 use Rattle.nm_plans.specs.declared.lines.PlanLine.{PlanLine}
 use Rattle.nm_plans.specs.declared.requests.ends.End.{End}
 use Rattle.nm_plans.specs.declared.requests.requests.Owner.{Owner}

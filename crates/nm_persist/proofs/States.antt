@@ -37,7 +37,6 @@ use Rattle.nm_sure.proofs.Lists.{kept_at, kept_from, place_behind}
 use Rattle.nm_sure.proofs.Made.{post_lines, send_made}
 use Rattle.nm_sure.proofs.Named.{started_fact}
 use Rattle.nm_sure.proofs.Rising.{Rising}
-use Rattle.nm_sure.proofs.Shown.{HaveTheirLength}
 use Rattle.nm_persist.specs.Report.{is_result as is_end}
 use Rattle.nm_persist.specs.Names.{Done, are_apart, end_after, is_named, is_no, is_shut, is_shut_after}
 use Rattle.nm_persist.specs.Names.{is_wait_of, last_end, waits_for}
@@ -52,6 +51,7 @@ use Rattle.nm_persist.proofs.Walk.{shut_from, start_is_one}
 use Rattle.nm_types.proofs.ListLemmas.{get_map, all_split, get_before, get_from_map, place_below}
 use Rattle.nm_types.proofs.OptionLemmas.{no_some, same_some}
 use Rattle.nm_types.proofs.TruthLemmas.{and_left}
+use Rattle.nm_types.specs.Bodies.{HaveTheirLength}
 use Rattle.nm_sure.proofs.Rising.{rising_kept}
 
 -- the commands that ran

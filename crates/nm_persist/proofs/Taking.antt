@@ -38,11 +38,12 @@ use Rattle.nm_sure.proofs.Fitting.{EachFits}
 use Rattle.nm_sure.proofs.Flown.{arrive_front, as_many_before, goes_in, sent_at}
 use Rattle.nm_sure.proofs.Lists.{kept_at, kept_from, of_some_and}
 use Rattle.nm_sure.proofs.Made.{channel_sends, post_lines, post_made, send_lines, sends_told_by_lines}
-use Rattle.nm_sure.proofs.Shown.{HaveTheirLength, length_sent, sent_fits}
+use Rattle.nm_sure.proofs.Shown.{length_sent, sent_fits}
 use Rattle.nm_sure.proofs.Worlds.{no_cancel, on_true}
 use Rattle.nm_persist.proofs.Quiet.{NamedRun, fits, plain_events}
 use Rattle.nm_types.proofs.ListLemmas.{get_map, all_split, place_below}
 use Rattle.nm_types.proofs.OptionLemmas.{if_some, no_some, same_some}
+use Rattle.nm_types.specs.Bodies.{HaveTheirLength}
 use Rattle.nm_sure.proofs.Shown.{got_case, cut_case}
 use Rattle.nm_history.proofs.AppendLemmas.{arrivals-append}
 

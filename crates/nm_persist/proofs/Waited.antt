@@ -19,7 +19,6 @@ use Rattle.nm_history.specs.Answers.{is_start_of}
 use Rattle.nm_history.proofs.OnceLemmas.{eqb_self}
 use Rattle.nm_sure.proofs.Lists.{kept_from}
 use Rattle.nm_sure.proofs.Rising.{Rising}
-use Rattle.nm_sure.proofs.Shown.{HaveTheirLength}
 use Rattle.nm_sure.proofs.Worlds.{IsWithin}
 use Rattle.nm_plans.specs.declared.lines.PlanCommand.{PlanCommand}
 use Rattle.nm_plans.specs.declared.lines.PlanCommand.TheVariants.{SendInit, RecvInit, PsendInit, PrecvInit, Fill}
@@ -57,6 +56,7 @@ use Rattle.nm_persist.proofs.Walk.{receive_is, shut_from}
 use Rattle.nm_types.proofs.ListLemmas.{get_before}
 use Rattle.nm_types.proofs.OptionLemmas.{same_some}
 use Rattle.nm_types.proofs.TruthLemmas.{and_left, and_right}
+use Rattle.nm_types.specs.Bodies.{HaveTheirLength}
 
 -- each request has a part
 le_true : (a b : ℕ) → nat_le a b ≡ true → a ≤ b

@@ -9,6 +9,7 @@ use Rattle.std.proofs.lemmas.List.{length-map, map-append}
 use Rattle.nm_types.specs.declared.answers.Answer.{Answer}
 use Rattle.nm_types.specs.Commands.{Numbered, command_at}
 use Rattle.nm_types.specs.Sizes.{Sizes}
+use Rattle.nm_types.specs.Bodies.{HaveTheirLength}
 use Rattle.nm_history.specs.declared.events.Event.{Event}
 use Rattle.nm_history.specs.declared.events.Happened.{Happened}
 use Rattle.nm_history.specs.declared.events.Happened.TheVariants as event
@@ -19,7 +20,6 @@ use Rattle.nm_history.specs.Underway.{is_answer}
 use Rattle.nm_sure.proofs.Fronts.{answered, started_so}
 use Rattle.nm_sure.proofs.Lists.{place_behind}
 use Rattle.nm_sure.proofs.Rising.{Rising}
-use Rattle.nm_sure.proofs.Shown.{HaveTheirLength}
 use Rattle.nm_persist.specs.Names.{Done, are_apart}
 use Rattle.nm_persist.proofs.Quiet.{NamedRun}
 use Rattle.nm_persist.proofs.LinesRead.{starts_one}

@@ -11,13 +11,10 @@ use Rattle.std.proofs.lemmas.List.{take_all}
 use Rattle.std.proofs.lemmas.Option.{slice_get_cases, slice_get_read, slice_get_past}
 use Rattle.nm_types.specs.declared.scripts.Command.{Command}
 use Rattle.nm_types.specs.declared.scripts.Line.{Line}
-use Rattle.nm_types.specs.Commands.{Numbered, commands_from, commands_of, command_at}
+use Rattle.nm_types.specs.Commands.{Numbered, commands_from, commands_of, command_at, numbered}
 use Rattle.nm_process.specs.Places.{IsNextLine, IsOwnLine, NoneBetween}
 use Rattle.nm_process.specs.Steps.{is_look}
 use Rattle.nm_types.proofs.TruthLemmas.{and_left, and_right}
-
-abbrev numbered : ℕ → Line → Numbered
-numbered number l = record { line = number; command = l.command }
 
 -- the command of a rank at a place is the next one after those before the place
 pub command_here : (me number place : ℕ) (lines : List Line) (l : Line) → slice_get lines place ≡ Some l →

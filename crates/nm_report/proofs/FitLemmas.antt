@@ -20,7 +20,7 @@ use Rattle.nm_types.specs.declared.scripts.Body.{Body}
 use Rattle.nm_types.specs.declared.scripts.Command.{Command}
 use Rattle.nm_types.specs.declared.scripts.Command.TheVariants as command
 use Rattle.nm_types.specs.declared.scripts.Line.{Line}
-use Rattle.nm_types.specs.Bodies.{body_len, bytes_of}
+use Rattle.nm_types.specs.Bodies.{HaveTheirLength, body_len, bytes_of}
 use Rattle.nm_types.specs.Commands.{Numbered, command_at, commands_from, commands_of}
 use Rattle.nm_types.specs.Limits.{IsScript, is_in_range}
 use Rattle.nm_types.specs.Sizes.{Sizes}
@@ -48,10 +48,6 @@ use Rattle.nm_report.proofs.GotLemmas.{ShowsPair, got_shown, low_senders}
 use Rattle.nm_report.proofs.TotalsLemmas.{all_answers}
 use Rattle.nm_types.proofs.OptionLemmas.{mapped_some}
 use Rattle.nm_types.proofs.TruthLemmas.{and_left, and_right}
-
--- the laws of bodies and of pairs
-abbrev pub HaveTheirLength : Type 0
-HaveTheirLength = (body : Body) → length (bytes_of body) ≡ body_len body
 
 abbrev pub HaveReceives : Type 0
 HaveReceives = (h : List Event) → All (IsOfReceive h) (matched_pairs h)

@@ -3,11 +3,6 @@ use Rattle.std.proofs.Common.{◌≡◌, Result, Ok, Err, Option, Some, None, On
 use Rattle.std.proofs.Common.{MutBor, refl, subst}
 use Rattle.std.specs.Option.{option_copied_mut}
 
--- a fact holds of a refusal
-pub on_err : {T E P : Type 0} (r : Result T E) → P → OnErr r P
-on_err (Ok x) p = tt
-on_err (Err e) p = p
-
 -- what is lent is there
 pub lent : {T : Type 0} (o : Option (MutBor T)) (x : T) → option_copied_mut o ≡ Some x → IsSome o
 lent None x h = absurd cc

@@ -10,7 +10,7 @@ use Rattle.nm_types.specs.declared.messages.Peer.TheVariants as peer
 use Rattle.nm_types.specs.declared.scripts.Command.{Command}
 use Rattle.nm_types.specs.declared.scripts.Command.TheVariants as command
 use Rattle.nm_types.specs.declared.scripts.Line.{Line}
-use Rattle.nm_types.specs.Commands.{Numbered, command_at, commands_from, commands_of}
+use Rattle.nm_types.specs.Commands.{Numbered, StandAtLines, command_at, commands_from, commands_of}
 use Rattle.nm_types.specs.Limits.{IsScript, is_in_range}
 use Rattle.nm_types.specs.Sizes.{Sizes}
 use Rattle.nm_history.specs.declared.events.Event.{Event}
@@ -30,11 +30,7 @@ use Rattle.nm_types.proofs.NumberLemmas.{same_number}
 use Rattle.nm_types.proofs.OptionLemmas.{if_some, no_some, same_some}
 use Rattle.nm_types.proofs.TruthLemmas.{second_of_five as second, and_left, and_right}
 
--- the law of a rank's commands, and that of a run without events
-abbrev pub StandAtLines : Type 0
-StandAtLines = (rank : ℕ) (lines : List Line) (k : ℕ) (c : Numbered) → slice_get (commands_of rank lines) k ≡ Some c →
-    command_at (commands_of rank lines) c.line ≡ Some c.command
-
+-- the law of a run without events
 abbrev pub Begins : Type 0
 Begins = (shape : Sizes) (commands : List Numbered) → IsRankRun shape commands 0 []
 

@@ -12,7 +12,7 @@ use Rattle.nm_types.specs.declared.messages.TagPick.TheVariants as pick
 use Rattle.nm_types.specs.declared.scripts.Body.{Body}
 use Rattle.nm_types.specs.declared.scripts.Command.{Command}
 use Rattle.nm_types.specs.declared.scripts.Command.TheVariants as command
-use Rattle.nm_types.specs.Bodies.{body_len, bytes_of}
+use Rattle.nm_types.specs.Bodies.{HaveTheirLength, body_len, bytes_of}
 use Rattle.nm_types.specs.Commands.{Numbered, command_at}
 use Rattle.nm_history.specs.declared.events.Event.{Event}
 use Rattle.nm_history.specs.declared.events.Happened.{Happened}
@@ -24,10 +24,6 @@ use Rattle.nm_sure.proofs.Fitting.{EachFits, Fits}
 use Rattle.nm_sure.proofs.Floor.{is_sending}
 use Rattle.nm_sure.proofs.Worlds.{fits}
 use Rattle.nm_types.proofs.OptionLemmas.{no_some, same_some}
-
--- the law of bodies: their length is the number of their bytes
-abbrev pub HaveTheirLength : Type 0
-HaveTheirLength = (body : Body) → length (bytes_of body) ≡ body_len body
 
 -- a send of a history is one that a command calls for
 pub sent_fits : (eager : ℕ) (commands : List Numbered) (h : List Event) (to k : ℕ) (s : Sent) →

@@ -61,8 +61,9 @@ use Rattle.nm_sure.proofs.Worlds.{PlainRun, answers_counted, fits, lined, no_can
 use Rattle.nm_sure.proofs.Worlds.{seen}
 use Rattle.nm_types.proofs.ListLemmas.{get_map, all_split, get_before, get_from_map, place_below}
 use Rattle.nm_types.proofs.OptionLemmas.{if_some, no_some, same_some}
+use Rattle.nm_types.specs.Bodies.{HaveTheirLength}
 use Rattle.nm_history.proofs.AppendLemmas.{arrivals-append}
-use Rattle.nm_sure.proofs.Shown.{HaveTheirLength, sent_fits, length_sent, cap_called, answer_shown, plain_as_it_is}
+use Rattle.nm_sure.proofs.Shown.{sent_fits, length_sent, cap_called, answer_shown, plain_as_it_is}
 
 module _ (shape : Sizes) (lines : List Line) (at : ℕ → ℕ) (hist : ℕ → List Event) (run : PlainRun shape lines at hist)
     (lengths : HaveTheirLength) where

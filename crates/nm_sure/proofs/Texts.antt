@@ -6,7 +6,7 @@ use Rattle.std.specs.List.{filter_map, list_all, range_with_len, slice_get}
 use Rattle.std.specs.Option.{option_map_or}
 use Rattle.std.proofs.lemmas.List.{length-map, length-replicate}
 use Rattle.nm_types.specs.declared.scripts.Line.{Line}
-use Rattle.nm_types.specs.Commands.{Numbered, commands_of}
+use Rattle.nm_types.specs.Commands.{Numbered, StandAtLines, commands_of}
 use Rattle.nm_types.specs.Limits.{IsScript}
 use Rattle.nm_types.specs.Sizes.{Sizes}
 use Rattle.nm_history.specs.declared.events.Event.{Event}
@@ -22,12 +22,12 @@ use Rattle.nm_sure.specs.Agree.{ArePlain}
 use Rattle.nm_sure.specs.Plain.{at_of, next_of, plain_end}
 use Rattle.nm_sure.specs.PlainText.{are_at_end, plain_done, plain_text, plain_told, rank_text, rank_told, told_after}
 use Rattle.nm_sure.specs.PlainText.{waits_at}
-use Rattle.nm_sure.proofs.Assembled.{Begins, StandAtLines, as_far, assembled, at_in, hist_in}
+use Rattle.nm_sure.proofs.Assembled.{Begins, as_far, assembled, at_in, hist_in}
 use Rattle.nm_sure.proofs.Fuel.{end_length}
-use Rattle.nm_sure.proofs.Shown.{HaveTheirLength}
 use Rattle.nm_sure.proofs.ShownAnswers.{told_all}
 use Rattle.nm_types.proofs.ListLemmas.{get_map}
 use Rattle.nm_types.proofs.OptionLemmas.{if_some}
+use Rattle.nm_types.specs.Bodies.{HaveTheirLength}
 
 -- the law of reports
 abbrev pub SayWhatWasTold : Type 0

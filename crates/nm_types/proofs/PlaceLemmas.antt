@@ -4,11 +4,8 @@ use Rattle.std.proofs.Common.{refl, ◌∙◌, subst, arith}
 use Rattle.std.specs.List.{find, slice_get}
 use Rattle.std.proofs.lemmas.Bool.Decides.{nat_tests}
 use Rattle.nm_types.specs.declared.scripts.Line.{Line}
-use Rattle.nm_types.specs.Commands.{Numbered, command_at, commands_from, commands_of}
+use Rattle.nm_types.specs.Commands.{Numbered, command_at, commands_from, commands_of, numbered}
 use Rattle.nm_types.proofs.NumberLemmas.{eq_later}
-
-abbrev numbered : ℕ → Line → Numbered
-numbered number l = record { line = number; command = l.command }
 
 itself : (n : ℕ) → (n == n) ≡ true
 itself n = grind (arith, nat_tests)

@@ -4,8 +4,9 @@ use Rattle.std.specs.List.{find}
 use Rattle.std.specs.Map.{lookup}
 use Rattle.std.specs.Prelude.{nat_eq}
 use Rattle.nm_types.specs.declared.messages.Post.{Post}
+use Rattle.nm_types.proofs.ResultLemmas.{on_err}
 use Rattle.nm_match.specs.declared.names.Standing.{Standing}
-use Rattle.nm_match.proofs.HeldLemmas.{all_same, on_err}
+use Rattle.nm_match.proofs.HeldLemmas.{all_same}
 use Rattle.nm_match.proofs.NameLemmas.{named_kept, named_put, same_number-true}
 use Rattle.nm_match.proofs.posted.Posted.put.Goals as goal
 

@@ -2,11 +2,12 @@
 use Rattle.std.proofs.Common.{◌≡◌, ◌∙◌, List, None, ap, refl, subst}
 use Rattle.std.specs.List.{find}
 use Rattle.std.specs.Map.{lookup}
+use Rattle.nm_types.proofs.ResultLemmas.{on_err}
 use Rattle.nm_match.specs.declared.names.Message.{Message}
 use Rattle.nm_match.specs.declared.names.Standing.{Standing}
 use Rattle.nm_match.specs.Deeds.{is_message}
 use Rattle.nm_match.specs.Names.{id_of_arrival, same_message}
-use Rattle.nm_match.proofs.HeldLemmas.{all_same, on_err}
+use Rattle.nm_match.proofs.HeldLemmas.{all_same}
 use Rattle.nm_match.proofs.NameLemmas.{named_kept, named_put, same_message-true}
 use Rattle.nm_match.proofs.unexpected.Unexpected.put.Goals as goal
 

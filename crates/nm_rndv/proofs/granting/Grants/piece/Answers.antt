@@ -1,6 +1,7 @@
 use Rattle.std.proofs.Common.{ap, ◌∙◌}
+use Rattle.nm_types.proofs.ResultLemmas.{on_err}
 use Rattle.nm_rndv.specs.Grants.{grants_from, with_piece}
-use Rattle.nm_rndv.proofs.Results.{on_err, on_ok}
+use Rattle.nm_rndv.proofs.Results.{on_ok}
 use Rattle.nm_rndv.proofs.SenderLemmas.{grants_there, grants-set, grants-set_same, ready-set}
 use Rattle.nm_rndv.proofs.SenderLemmas.{continues_within}
 use Rattle.nm_rndv.proofs.granting.Grants.piece.Goals as goal

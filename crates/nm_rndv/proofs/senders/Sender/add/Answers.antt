@@ -1,10 +1,11 @@
 use Rattle.std.proofs.Common.{◌≡◌, ◌∙◌, sym, ap, Some, nat_eq}
 use Rattle.std.specs.Option.{option_copied_mut, option_map}
 use Rattle.std.proofs.lemmas.Map.Steps.{set_value_same}
+use Rattle.nm_types.proofs.ResultLemmas.{on_err}
 use Rattle.nm_rndv.specs.Grants.{FromSender, expected_in, is_open, grant_in, with_grant}
 use Rattle.nm_rndv.proofs.GrantLemmas.{expected_is_open}
 use Rattle.nm_rndv.proofs.Places.{position_or_len-set_value, position_or_len-set_value_le}
-use Rattle.nm_rndv.proofs.Results.{on_err, lent}
+use Rattle.nm_rndv.proofs.Results.{lent}
 use Rattle.nm_rndv.proofs.senders.Sender.add.Goals as goal
 
 pub unwrap-requires : goal.unwrap-requires
