@@ -2,17 +2,16 @@
 use Rattle.std.proofs.Common.{◌≡◌, ℕ, ◌+◌, ◌<◌, ◌≤◌, ◌==◌, max, Bool, true, false, ◌&&◌, ◌||◌, cond, Some, None, List}
 use Rattle.std.proofs.Common.{[], ◌∷◌, ◌++◌, length, map, refl, sym, ◌∙◌, ap, subst, append-nil, append_assoc, arith}
 use Rattle.std.specs.Prelude.{nat_lt, fold}
-use Rattle.std.specs.List.{AllByRecursion, list_any, filter, filter_map, cons_option}
+use Rattle.std.specs.List.{AllByRecursion, list_any, filter, cons_option}
 use Rattle.std.proofs.lemmas.List.Elements.{filter-append}
 use Rattle.nm_types.specs.Commands.{Numbered}
 use Rattle.nm_types.specs.declared.packets.What.{What}
 use Rattle.nm_types.specs.declared.packets.What.TheVariants as what
 use Rattle.nm_history.specs.declared.events.Event.{Event}
 use Rattle.nm_history.specs.declared.events.Happened.{Happened}
-use Rattle.nm_history.specs.declared.events.Happened.TheVariants.{Send}
-use Rattle.nm_history.specs.Sends.{Sent, sends, sent_of, is_ask}
-use Rattle.nm_history.specs.Happens.{happened, is_recall}
-use Rattle.nm_history.specs.Delivery.{is_asked, earlier_than}
+use Rattle.nm_history.specs.Sends.{Sent}
+use Rattle.nm_history.specs.Happens.{happened, is_asked_send, is_recall}
+use Rattle.nm_history.specs.Delivery.{earlier_than}
 use Rattle.nm_channels.proofs.Streams.{clashes, NoClash}
 use Rattle.nm_channels.specs.Moments.{LogEntry, Cause, history_of, taken_from, taken_of, clock_at, clock_after, clock_of}
 use Rattle.nm_channels.specs.Moments.{EachMomentAfter}
@@ -27,43 +26,15 @@ use Rattle.nm_channels.proofs.Delivering.{history-push}
 use Rattle.nm_history.proofs.Basic.{lt_true}
 use Rattle.nm_history.proofs.Growing.{fold-append}
 use Rattle.nm_history.specs.Outgoing.{bare}
+use Rattle.nm_history.proofs.AskedLemmas.{asked_sends}
 use Rattle.nm_types.proofs.NumberLemmas.{eq_true, lt_false, same_number}
 use Rattle.nm_types.proofs.ListLemmas.{all_append, all_along}
-
--- a send by asking of message n to this rank
-abbrev pub is_asked_send : ℕ → ℕ → Happened → Bool
-is_asked_send to n (Send to' n' tag ctx len how line) = to' == to && (n' == n && is_ask how)
-is_asked_send to n _ = false
 
 -- what an answer of this rank answers
 abbrev pub asks : ℕ → What → Happened → Bool
 asks from (what.Clear n) w = is_asked_send from n w
 asks from (what.Withdrawn n done) w = is_recall from n w
 asks from _ w = false
-
-asked_is : (h : List Event) (to n : ℕ) → is_asked (sends h to) n ≡ happened (is_asked_send to n) h
-asked_is [] to n = refl
-asked_is (e ∷ h) to n = by_what e.what (asked_is h to n) where
-  by_what : (w : Happened) → is_asked (sends h to) n ≡ happened (is_asked_send to n) h →
-      is_asked (filter (λ s. s.to == to) (cons_option (sent_of e.stamp w) (filter_map (λ e. sent_of e.stamp e.what) h)))
-      n ≡ (is_asked_send to n w || happened (is_asked_send to n) h)
-  by_what (Send to' n' tag ctx len how line) same = by_to (to' == to) same where
-    by_to : (b : Bool) → is_asked (sends h to) n ≡ happened (is_asked_send to n) h →
-        list_any (λ s. s.n == n && is_ask s.how)
-        (cond b (record {
-          stamp = e.stamp;
-          to = to';
-          n = n';
-          tag = tag;
-          ctx = ctx;
-          len = len;
-          how = how;
-          line =
-              line;
-        } ∷ sends h to) (sends h to)) ≡ ((b && (n' == n && is_ask how)) || happened (is_asked_send to n) h)
-    by_to true same = ap (λ (b : Bool). (n' == n && is_ask how) || b) same
-    by_to false same = same
-  by_what w same = same
 
 -- what an answer finds known, where it clashes with none before
 pub record KnownSeen (known : Known) (seen : List What) : Type 0 where
@@ -122,7 +93,7 @@ answer_fits : (known : Known) (h : List Event) (from size : ℕ) (w : What) (see
     is_of_stream w ≡ false → size ≡ 0 → happened (asks from w) h ≡ true → KnownSeen known seen →
     AllByRecursion (λ v. clashes v w ≡ false) seen → continues_answer known h from w size ≡ true
 answer_fits known h from size (what.Clear n) seen other bare asked is apart =
-    rw (asked_is h from n, asked, (is.clear n apart).0, (is.clear n apart).1, eq_true size 0 bare) refl
+    rw (asked_sends h from n, asked, (is.clear n apart).0, (is.clear n apart).1, eq_true size 0 bare) refl
 answer_fits known h from size (what.Withdrawn n done) seen other bare asked is apart =
     rw (asked, (is.undo n done apart).0, (is.undo n done apart).1, eq_true size 0 bare) refl
 answer_fits known h from size w seen other bare asked is apart = cc

@@ -10,7 +10,7 @@ use Rattle.nm_history.specs.declared.events.Event.{Event}
 use Rattle.nm_history.specs.declared.plain.Pair.{Pair}
 use Rattle.nm_history.specs.AtEach.{AtEach}
 use Rattle.nm_history.specs.Sends.{Sent, sends, is_ask, Arrived, arrivals}
-use Rattle.nm_history.specs.Happens.{happened}
+use Rattle.nm_history.specs.Happens.{happened, is_asked_send}
 use Rattle.nm_history.specs.Matching.{matched_pairs, new_pair}
 use Rattle.nm_history.specs.Delivery.{earlier_than}
 use Rattle.nm_history.specs.RankRun.{StampAt}
@@ -21,7 +21,7 @@ use Rattle.nm_history.proofs.Basic.{by-both}
 use Rattle.nm_channels.proofs.Numbers.{SentAs, SentBefore, messages_sent, pairs_came, send_at}
 use Rattle.nm_channels.proofs.Causes.{Source, HasSource}
 use Rattle.nm_channels.proofs.Ordered.{rise, happened_at}
-use Rattle.nm_channels.proofs.Answering.{Goes, asks, is_asked_send}
+use Rattle.nm_channels.proofs.Answering.{Goes, asks}
 use Rattle.nm_channels.proofs.Recalls.{earlier_more}
 use Rattle.nm_channels.proofs.Streams.{StreamContinued, UndoneContinued}
 use Rattle.nm_types.specs.declared.messages.Envelope.{Envelope}

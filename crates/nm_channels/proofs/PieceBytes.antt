@@ -15,7 +15,7 @@ use Rattle.nm_history.specs.declared.plain.Pair.{Pair}
 use Rattle.nm_history.specs.Sends.{Sent}
 use Rattle.nm_history.specs.Outgoing.{CalledPiece, AreCalledPieces, message_pieces, part_at, is_clear}
 use Rattle.nm_history.specs.Once.{TwoMessages}
-use Rattle.nm_history.specs.Continues.{has}
+use Rattle.nm_history.specs.Continues.{AreApart, has}
 use Rattle.nm_history.specs.Pieces.{Pulled, Due, due_from, due_of, due_of_all, is_granted}
 use Rattle.nm_history.specs.Bytes.{piece_bytes, pulled_bytes}
 use Rattle.nm_history.proofs.Basic.{self_true, or_false, refuted}
@@ -61,13 +61,8 @@ message_bytes n s body (k ∷ ks) rest =
     by_test true = sym (append_assoc (part_at MAX_PIECE body k) (joined MAX_PIECE body ks) (ring_bytes n rest))
     by_test false = refl
 
--- no number stands twice
-abbrev pub Distinct : List ℕ → Type 0
-Distinct [] = Unit {0}
-Distinct (n ∷ ns) = (has ns n ≡ false) × Distinct ns
-
 -- the pieces of messages carry their bodies
-pub all_bytes : (bodies : Sent → List ℕ) (ss : List Sent) (n : ℕ) (s : Sent) (ns : List ℕ) → Distinct ns →
+pub all_bytes : (bodies : Sent → List ℕ) (ss : List Sent) (n : ℕ) (s : Sent) (ns : List ℕ) → AreApart ns →
     NumberedFrom (λ (s : Sent). s.n) 0 ss → Sized bodies ss → slice_get ss n ≡ Some s →
     ring_bytes n (pieces_of_all bodies ss ns) ≡ cond (has ns n) (bodies s) []
 all_bytes bodies ss n s [] distinct numbered sized at = refl
@@ -166,7 +161,7 @@ none_due n (pair ∷ pairs) none = by_test (pair.arrival.n == n) refl none (none
   by_test false test none later = no_due_from n pair.arrival.n pair.arrival.env.len (due_of_all pairs) test
       (later none) pair.arrival.env.len 0
 
-lasts_of : (pairs : List Pair) → Distinct (numbers_in pairs) → LastsAreLast (due_of_all pairs)
+lasts_of : (pairs : List Pair) → AreApart (numbers_in pairs) → LastsAreLast (due_of_all pairs)
 lasts_of [] distinct = tt
 lasts_of (pair ∷ pairs) distinct = lasts_from pair.arrival.n pair.arrival.env.len (due_of_all pairs)
     (none_due pair.arrival.n pairs distinct.0) (lasts_of pairs distinct.1) pair.arrival.env.len 0
@@ -221,7 +216,7 @@ after_last n (d ∷ past) dues lasts found = by_test (d.n == n) refl d.last refl
     by_test false test b last found later = later found
 
 -- no more pieces of a message are due where its last one was
-pub no_more_due : (n : ℕ) (pairs : List Pair) (past dues : List Due) → Distinct (numbers_in pairs) →
+pub no_more_due : (n : ℕ) (pairs : List Pair) (past dues : List Due) → AreApart (numbers_in pairs) →
     AllByRecursion (λ (pair : Pair). 0 < pair.arrival.env.len) pairs → has (numbers_in pairs) n ≡ true →
     due_of_all pairs ≡ past ++ dues → has_last n dues ≡ false →
     list_any (λ d. d.n == n) dues ≡ false
@@ -266,7 +261,7 @@ not_among i x (y ∷ pairs) from each = by_granted (is_granted i y) refl (not_am
 
 -- messages that come in pieces have different numbers
 pub granted_distinct : (i : ℕ) (pairs : List Pair) → AllPairs TwoMessages pairs →
-    Distinct (numbers_in (filter (is_granted i) pairs))
+    AreApart (numbers_in (filter (is_granted i) pairs))
 granted_distinct i [] each = tt
 granted_distinct i (x ∷ pairs) each =
     by_granted (is_granted i x) refl
@@ -274,8 +269,8 @@ granted_distinct i (x ∷ pairs) each =
     (granted_distinct i pairs (λ p q d lt inside. each (suc p) (suc q) d (omega arith) (omega arith)))
   where
     by_granted : (b : Bool) → is_granted i x ≡ b → AllByRecursion (λ y. TwoMessages x y) pairs →
-        Distinct (numbers_in (filter (is_granted i) pairs)) →
-        Distinct (numbers_in (cond b (x ∷ filter (is_granted i) pairs) (filter (is_granted i) pairs)))
+        AreApart (numbers_in (filter (is_granted i) pairs)) →
+        AreApart (numbers_in (cond b (x ∷ filter (is_granted i) pairs) (filter (is_granted i) pairs)))
     by_granted false is two later = later
     by_granted true is two later =
         (not_among i x pairs (same_number x.arrival.env.from i (and_left _ _ (and_left _ _ is))) two, later)

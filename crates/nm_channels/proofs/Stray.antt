@@ -3,7 +3,7 @@ use Rattle.std.specs.Prelude.{[], ◌∷◌}
 use Rattle.std.proofs.Common.{rules}
 use Rattle.nm_history.specs.declared.events.Happened.TheVariants.{Whole}
 use Rattle.nm_history.specs.Matching.{matched_pairs, is_free_message}
-use Rattle.nm_channels.specs.Small.{at}
+use Rattle.nm_history.specs.Happens.{at}
 use Rattle.nm_channels.specs.Stray.{IsSound}
 
 pub sound : IsSound []

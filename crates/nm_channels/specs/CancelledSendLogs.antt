@@ -10,9 +10,9 @@ use Rattle.nm_types.specs.declared.answers.Answer.TheVariants as answer
 use Rattle.nm_types.specs.Commands.{rank_line}
 use Rattle.nm_history.specs.declared.events.Happened.TheVariants.{Send, Arrive, Whole, Out, Recall}
 use Rattle.nm_history.specs.declared.events.Happened.TheVariants.{Withdraw, Undone, Ran}
+use Rattle.nm_history.specs.Happens.{at}
 use Rattle.nm_channels.specs.Moments.{LogEntry}
 use Rattle.nm_channels.specs.Finished.{Finished, AreAllEnds}
-use Rattle.nm_channels.specs.Small.{at}
 use Rattle.nm_channels.specs.SmallLogs.{run_on, packet, acts, takes}
 
 -- the script

@@ -11,7 +11,7 @@ use Rattle.nm_types.specs.Commands.{rank_line}
 use Rattle.nm_history.specs.declared.events.Event.{Event}
 use Rattle.nm_history.specs.declared.events.Happened.TheVariants.{Send, Post, Arrive, Whole, Out, Ran}
 use Rattle.nm_history.specs.Quiescence.{AreQuiescent}
-use Rattle.nm_channels.specs.Small.{at}
+use Rattle.nm_history.specs.Happens.{at}
 
 -- the script
 abbrev pub script : List Line

@@ -13,7 +13,8 @@ use Rattle.nm_history.specs.declared.events.Happened.TheVariants.{Send, Post, Ar
 use Rattle.nm_history.specs.declared.events.Happened.TheVariants.{Match, Ran}
 use Rattle.nm_history.specs.Quiescence.{Ended, Packets}
 use Rattle.nm_history.specs.Run.{IsRunOf}
-use Rattle.nm_channels.specs.Small.{at, run_on}
+use Rattle.nm_history.specs.Happens.{at}
+use Rattle.nm_channels.specs.Small.{run_on}
 
 -- the script
 abbrev pub script : List Line

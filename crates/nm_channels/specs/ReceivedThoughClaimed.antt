@@ -11,7 +11,8 @@ use Rattle.nm_types.specs.declared.answers.Answer.TheVariants as answer
 use Rattle.nm_history.specs.declared.events.Event.{Event}
 use Rattle.nm_history.specs.declared.events.Happened.TheVariants.{Send, Post, Arrive, Whole, Out, Claim, Ran}
 use Rattle.nm_history.specs.RankRun.{IsRankRun}
-use Rattle.nm_channels.specs.Small.{at, run_on}
+use Rattle.nm_history.specs.Happens.{at}
+use Rattle.nm_channels.specs.Small.{run_on}
 
 -- the script
 abbrev pub script : List Line

@@ -12,7 +12,8 @@ use Rattle.nm_history.specs.declared.events.Event.{Event}
 use Rattle.nm_history.specs.declared.events.Happened.TheVariants.{Send, Post, Arrive, Whole, Out, Ran}
 use Rattle.nm_history.specs.Quiescence.{Ended, Packets}
 use Rattle.nm_history.specs.Run.{IsRunOf}
-use Rattle.nm_channels.specs.Small.{at, run_on}
+use Rattle.nm_history.specs.Happens.{at}
+use Rattle.nm_channels.specs.Small.{run_on}
 
 -- the script
 abbrev pub script : List Line

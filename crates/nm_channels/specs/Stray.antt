@@ -6,11 +6,11 @@ use Rattle.nm_types.specs.declared.packets.Packet.{Packet}
 use Rattle.nm_types.specs.declared.packets.What.TheVariants as what
 use Rattle.nm_history.specs.declared.events.Event.{Event}
 use Rattle.nm_history.specs.declared.events.Happened.TheVariants.{Arrive, Whole, Ran}
+use Rattle.nm_history.specs.Happens.{at}
 use Rattle.nm_types.specs.declared.answers.Answer.TheVariants as answer
 use Rattle.nm_channels.specs.Moments.{LogEntry}
 use Rattle.nm_channels.specs.Moments.Cause.{Took}
 use Rattle.nm_channels.specs.Sound.{AreSound}
-use Rattle.nm_channels.specs.Small.{at}
 use Rattle.nm_channels.specs.SmallLogs.{packet, acts, takes}
 
 -- a packet that doesn't continue its stream

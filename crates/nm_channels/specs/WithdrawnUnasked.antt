@@ -9,7 +9,7 @@ use Rattle.nm_types.specs.declared.answers.Answer.TheVariants as answer
 use Rattle.nm_history.specs.declared.events.Event.{Event}
 use Rattle.nm_history.specs.declared.events.Happened.TheVariants.{Send, Arrive, Whole, Out, Withdraw, Ran}
 use Rattle.nm_history.specs.Delivery.{AreDelivered}
-use Rattle.nm_channels.specs.Small.{at}
+use Rattle.nm_history.specs.Happens.{at}
 
 -- the script
 abbrev pub script : List Line

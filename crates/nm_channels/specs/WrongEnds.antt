@@ -1,9 +1,9 @@
 -- The worked logs with one thing turned wrong.
 use Rattle.std.specs.Prelude.{[], ◌∷◌}
 use Rattle.nm_history.specs.declared.events.Happened.TheVariants.{Whole}
+use Rattle.nm_history.specs.Happens.{at}
 use Rattle.nm_channels.specs.LongMessage as long_message
 use Rattle.nm_channels.specs.LongMessage.{body, hasty, patient, receives}
-use Rattle.nm_channels.specs.Small.{at}
 use Rattle.nm_channels.specs.Stray as stray
 
 -- logs that break a rule: a message leaves before it was cleared; an arrival has a stamp that the packet's

@@ -9,7 +9,7 @@ use Rattle.nm_types.specs.Commands.{commands_of}
 use Rattle.nm_types.specs.Sizes.{Sizes}
 use Rattle.nm_history.specs.declared.events.Event.{Event}
 use Rattle.nm_history.specs.Delivery.{ArriveInOrder}
-use Rattle.nm_history.specs.Quiescence.{EachPair, EachRank, Ended, IsStopped, Packets}
+use Rattle.nm_history.specs.Quiescence.{EachPair, EachRank, Ended, IsStopped, Packets, history_of}
 use Rattle.nm_history.specs.Sends.{arrivals, sends}
 use Rattle.nm_report.specs.declared.accounts.RankAccount.{RankAccount}
 use Rattle.nm_report.specs.Ends.{ends_of}
@@ -18,7 +18,7 @@ use Rattle.nm_check_rank.specs.Breaks.{BreaksFirstAt}
 use Rattle.nm_check_rank.specs.FirstBroken.{IsFirstBroken}
 use Rattle.nm_check_ranks.specs.CarriedBreaks.{BreaksBetweenAt}
 use Rattle.nm_check_ranks.specs.CarriedClauses.{KeepsCarried, PairDelivered, carried_order}
-use Rattle.nm_check_ranks.specs.Marked.{KeepsLocal, history_of}
+use Rattle.nm_check_ranks.specs.Marked.{KeepsLocal}
 use Rattle.nm_check_ranks.specs.declared.clauses.CarriedClause.{CarriedClause}
 use Rattle.nm_check_ranks.specs.declared.firsts.Spot.{Spot}
 use Rattle.nm_check_ranks.specs.RestBreaks.{BreaksRestAt, BreaksStanding, KeepRestAt, rest_clause}

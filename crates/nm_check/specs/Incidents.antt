@@ -2,8 +2,7 @@
 use Rattle.std.specs.Prelude.{Option, None, List, option_map, slice_get}
 use Rattle.nm_history.specs.declared.events.Happened.{Happened}
 use Rattle.nm_history.specs.declared.events.Happened.TheVariants as what
-use Rattle.nm_history.specs.Quiescence.{Ended}
-use Rattle.nm_check_ranks.specs.Marked.{history_of}
+use Rattle.nm_history.specs.Quiescence.{Ended, history_of}
 use Rattle.nm_check.specs.declared.breaks.incidents.Incident.{Incident}
 use Rattle.nm_check.specs.declared.breaks.incidents.Incident.TheVariants as incident
 use Rattle.nm_check.specs.declared.breaks.places.Place.{Place}

@@ -3,11 +3,11 @@ use Rattle.std.specs.Prelude.{◌≡◌, ℕ, ◌+◌, Some, IfSome, IsSomeAnd, 
 use Rattle.std.specs.List.{join_with_byte}
 use Rattle.nm_script.specs.Lines.{lines_of}
 use Rattle.nm_history.specs.declared.events.Event.{Event}
+use Rattle.nm_history.specs.Quiescence.{history_of}
 use Rattle.nm_report.specs.declared.records.RunRecord.{RunRecord}
 use Rattle.nm_report.specs.Ends.{ends_of}
 use Rattle.nm_report.specs.Events.{event_words}
 use Rattle.nm_trace.specs.Notes.{cells_words, end_word, pair_words}
-use Rattle.nm_check_ranks.specs.Marked.{history_of}
 use Rattle.nm_check_ranks.specs.declared.rest.clauses.RestClause.TheVariants as rest
 use Rattle.nm_check.specs.declared.verdicts.Verdict.{Verdict}
 use Rattle.nm_check.specs.declared.verdicts.Verdict.TheVariants.{Rest, Home, Done}

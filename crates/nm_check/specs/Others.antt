@@ -9,11 +9,10 @@ use Rattle.nm_history.specs.declared.events.Happened.TheVariants.{Arrive, Out, W
 use Rattle.nm_history.specs.declared.plain.Pair.{Pair}
 use Rattle.nm_history.specs.Delivery.{asked_pair}
 use Rattle.nm_history.specs.Happens.{is_recall, is_send, is_withdraw}
-use Rattle.nm_history.specs.Quiescence.{Ended}
+use Rattle.nm_history.specs.Quiescence.{Ended, history_of}
 use Rattle.nm_report.specs.declared.records.RunRecord.{RunRecord}
 use Rattle.nm_report.specs.Ends.{ends_of}
 use Rattle.nm_check_rank.specs.Takes.{IsTakenAt}
-use Rattle.nm_check_ranks.specs.Marked.{history_of}
 use Rattle.nm_check.specs.declared.verdicts.Verdict.{Verdict}
 use Rattle.nm_check.specs.declared.verdicts.Verdict.TheVariants.{Carried}
 use Rattle.nm_check.specs.Places.{line_of}

@@ -6,11 +6,10 @@ use Rattle.nm_types.specs.Commands.{commands_of}
 use Rattle.nm_history.specs.declared.events.Event.{Event}
 use Rattle.nm_history.specs.declared.events.Happened.{Happened}
 use Rattle.nm_history.specs.declared.events.Happened.TheVariants.{Send, Post, Claim, Match, Ran}
-use Rattle.nm_history.specs.Quiescence.{Ended, Packets, packets_of as packets_due}
+use Rattle.nm_history.specs.Quiescence.{Ended, Packets, history_of, packets_of as packets_due}
 use Rattle.nm_report.specs.declared.records.RunRecord.{RunRecord}
 use Rattle.nm_report.specs.Ends.{ends_of, packets_of}
 use Rattle.nm_check_ranks.specs.CarriedBreaks.{BreaksBetweenAt}
-use Rattle.nm_check_ranks.specs.Marked.{history_of}
 use Rattle.nm_check_ranks.specs.declared.firsts.Spot.{Spot}
 use Rattle.nm_check_ranks.specs.RestBreaks.{BreaksRestAt, BreaksStanding}
 use Rattle.nm_check_ranks.specs.declared.rest.clauses.RestClause.{RestClause}

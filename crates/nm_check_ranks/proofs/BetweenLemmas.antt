@@ -9,10 +9,10 @@ use Rattle.nm_history.specs.AtEach.{AtEach}
 use Rattle.nm_history.specs.Delivery.{ArriveInOrder, BodyAt, EachEvent, OutAfterPair, UndoneAfterWithdraw}
 use Rattle.nm_history.specs.Delivery.{WithdrawAfterRecall}
 use Rattle.nm_history.specs.Growing.{ArrivesNext}
-use Rattle.nm_history.specs.Quiescence.{Ended}
+use Rattle.nm_history.specs.Quiescence.{Ended, history_of}
 use Rattle.nm_history.specs.RankRun.{Always}
 use Rattle.nm_history.specs.Sends.{arrivals, sends}
-use Rattle.nm_check_ranks.specs.Marked.{AreMarks, history_of}
+use Rattle.nm_check_ranks.specs.Marked.{AreMarks}
 use Rattle.nm_check_ranks.specs.declared.marks.Marks.{Marks}
 use Rattle.nm_check_ranks.proofs.MarkLemmas.{at_each_event}
 use Rattle.nm_check_ranks.proofs.SentLemmas.{each_next, in_order}

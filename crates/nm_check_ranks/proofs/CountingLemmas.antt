@@ -18,7 +18,7 @@ use Rattle.nm_history.specs.declared.events.Happened.TheVariants.{Send, Recall, 
 use Rattle.nm_history.specs.declared.plain.Pair.{Pair}
 use Rattle.nm_history.specs.Matching.{matched_pairs}
 use Rattle.nm_history.specs.Outgoing.{further_packets, is_clear, is_recall_to, is_withdraw_from, outgoing}
-use Rattle.nm_history.specs.Outgoing.{packets_of_send, packets_to}
+use Rattle.nm_history.specs.Outgoing.{packets_of_event, packets_of_events, packets_of_send, packets_to}
 use Rattle.nm_history.specs.Quiescence.{Ended, Packets, packets_by_rank, packets_from}
 use Rattle.nm_history.specs.Sends.{Sent, is_ask, sends, sent_body, sent_of}
 use Rattle.nm_history.proofs.OutgoingLemmas.{outgoing_count}
@@ -26,7 +26,7 @@ use Rattle.nm_report.specs.declared.accounts.RankAccount.{RankAccount}
 use Rattle.nm_report.specs.Ends.{ends_of}
 use Rattle.nm_lookups.specs.Deciding.{Decides}
 use Rattle.nm_check_ranks.proofs.RankLemmas.{end_at, ended}
-use Rattle.nm_check_ranks.specs.Counting.{AreDue, at_most, packets_of_event, packets_of_events, row_from}
+use Rattle.nm_check_ranks.specs.Counting.{AreDue, at_most, row_from}
 use Rattle.nm_types.proofs.ListLemmas.{take_next}
 
 sum_first : {X : Type 0} (f : X → ℕ) (x : X) (xs : List X) → sum_by f (x ∷ xs) ≡ f x + sum_by f xs

@@ -8,14 +8,14 @@ use Rattle.nm_history.specs.declared.events.Event.{Event}
 use Rattle.nm_history.specs.AtEach.{AtEach}
 use Rattle.nm_history.specs.Delivery.{ArriveInOrder, BodyAt, OutAfterPair, UndoneAfterWithdraw}
 use Rattle.nm_history.specs.Delivery.{WithdrawAfterRecall}
-use Rattle.nm_history.specs.Quiescence.{Ended}
+use Rattle.nm_history.specs.Quiescence.{Ended, history_of}
 use Rattle.nm_history.specs.RankRun.{Always}
 use Rattle.nm_history.specs.Sends.{arrivals, sends}
 use Rattle.nm_history.proofs.EachLemmas.{each_event}
 use Rattle.nm_check_rank.specs.Breaks.{BreaksFirstAt}
 use Rattle.nm_check_ranks.specs.CarriedBreaks.{BreaksBetweenAt, FirstAt, IsFirstBetween, PartAt, first_read}
 use Rattle.nm_check_ranks.specs.CarriedBreaks.{is_read_before, read_of}
-use Rattle.nm_check_ranks.specs.Marked.{Names, history_of, is_rank}
+use Rattle.nm_check_ranks.specs.Marked.{Names, is_rank}
 use Rattle.nm_check_ranks.specs.declared.clauses.CarriedClause.TheVariants as carried
 use Rattle.nm_check_ranks.specs.declared.firsts.Part.TheVariants as part
 use Rattle.nm_check_ranks.specs.declared.firsts.Spot.{Spot}

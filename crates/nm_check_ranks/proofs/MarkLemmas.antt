@@ -1,9 +1,9 @@
 -- The ranks with which a history breaks a rule, one event after another.
-use Rattle.std.proofs.Common.{◌≡◌, ℕ, ◌+◌, ◌<◌, ◌≤◌, ◌==◌, ◌&&◌, ◌||◌, Bool, true, false, cond, Some, None, List, []}
+use Rattle.std.proofs.Common.{◌≡◌, ℕ, ◌+◌, ◌<◌, ◌≤◌, ◌==◌, ◌&&◌, Bool, true, false, cond, Some, None, List, []}
 use Rattle.std.proofs.Common.{◌∷◌, ◌++◌, length, take, drop, get_or, set, refl, sym, ◌∙◌, ap, subst, arith}
-use Rattle.std.specs.Prelude.{IsSomeAnd, IsTrue, MatchBool, filter_map}
+use Rattle.std.specs.Prelude.{IsSomeAnd, IsTrue, MatchBool}
 use Rattle.std.specs.Bool.{OnTrue}
-use Rattle.std.specs.List.{cons_option, filter, slice_get}
+use Rattle.std.specs.List.{slice_get}
 use Rattle.std.proofs.lemmas.Bool.{false≢true}
 use Rattle.std.proofs.lemmas.Bool.Decides.{nat_tests}
 use Rattle.std.proofs.lemmas.Grind.{get_or-set_at}
@@ -17,13 +17,13 @@ use Rattle.nm_history.specs.Completion.{is_taken}
 use Rattle.nm_history.specs.Delivery.{EachEvent, OutAfterPair, UndoneAfterWithdraw, WithdrawAfterRecall, earlier_than}
 use Rattle.nm_history.specs.Delivery.{is_asked}
 use Rattle.nm_history.specs.Growing.{ArrivesNext}
-use Rattle.nm_history.specs.Happens.{happened, is_recall, is_withdraw}
+use Rattle.nm_history.specs.Happens.{happened, is_asked_send, is_recall, is_withdraw}
 use Rattle.nm_history.specs.RankRun.{NumberAt}
-use Rattle.nm_history.specs.Sends.{arrivals, envelope, is_ask, sends, sent_of}
+use Rattle.nm_history.specs.Sends.{arrivals, envelope, sends}
 use Rattle.nm_history.proofs.AtEachLemmas.{AtEach-front, AtEach-push, AtEach-split}
 use Rattle.nm_history.proofs.OnceLemmas.{eqb_self}
+use Rattle.nm_history.proofs.AskedLemmas.{asked_sends}
 use Rattle.nm_lookups.specs.Deciding.{Decides}
-use Rattle.nm_lookups.specs.Firsts.{is_asked_send}
 use Rattle.nm_lookups.proofs.StepLemmas.{none_yet}
 use Rattle.nm_check_ranks.specs.Marked.{AreMarked, Names}
 use Rattle.nm_types.proofs.NumberLemmas.{same_number}
@@ -99,38 +99,6 @@ pub at_each_event : (R : ℕ → Happened → Type 0) (h : List Event) → EachE
     AtEach (λ before e. R e.stamp e.what) h
 unfolding AtEach
 at_each_event R h each = at_each_after R [] h each
-
-asked_in : (j n : ℕ) (e : Event) (h : List Event) → is_asked (sends h j) n ≡ happened (is_asked_send j n) h →
-    is_asked (sends (e ∷ h) j) n ≡ (is_asked_send j n e.what || happened (is_asked_send j n) h)
-asked_in j n e h same = by_event e.stamp e.what
-  where
-    by_event : (stamp : ℕ) (what : Happened) →
-        is_asked (filter (λ s. s.to == j)
-        (cons_option (sent_of stamp what) (filter_map (λ (e : Event). sent_of e.stamp e.what) h))) n
-        ≡ (is_asked_send j n what || happened (is_asked_send j n) h)
-    by_event stamp (happening.Send to m tag ctx len how line) = by_rank (to == j)
-      where
-        by_rank : (b : Bool) →
-            is_asked (cond b (record {
-              stamp = stamp;
-              to = to;
-              n = m;
-              tag = tag;
-              ctx = ctx;
-              len = len;
-              how = how;
-              line =
-                  line;
-            } ∷ sends h j) (sends h j)) n
-            ≡ ((b && m == n && is_ask how) || happened (is_asked_send j n) h)
-        by_rank true = ap (λ (b : Bool). (m == n && is_ask how) || b) same
-        by_rank false = same
-    by_event stamp what = same
-
--- a message was sent by asking exactly where there is such a send
-pub asked_sends : (h : List Event) (j n : ℕ) → is_asked (sends h j) n ≡ happened (is_asked_send j n) h
-asked_sends [] j n = refl
-asked_sends (e ∷ h) j n = asked_in j n e h (asked_sends h j n)
 
 decides_itself : (r : Bool) → Decides r (IsTrue r)
 decides_itself true = refl

@@ -13,14 +13,14 @@ use Rattle.nm_types.specs.declared.scripts.Line.{Line}
 use Rattle.nm_history.specs.declared.events.Event.{Event}
 use Rattle.nm_history.specs.declared.plain.Pair.{Pair}
 use Rattle.nm_history.specs.Matching.{matched_pairs, matched_pairs_after, new_pair}
-use Rattle.nm_history.specs.Outgoing.{is_clear, packets_to}
+use Rattle.nm_history.specs.Outgoing.{is_clear, packets_of_event, packets_of_events, packets_to}
 use Rattle.nm_history.specs.Quiescence.{Packets, packets_by_rank}
 use Rattle.nm_report.specs.declared.accounts.RankAccount.{RankAccount}
 use Rattle.nm_report.specs.declared.pairs.PairCount.{PairCount}
 use Rattle.nm_report.specs.Ends.{ends_of, packets_of}
 use Rattle.nm_lookups.specs.Deciding.{Decides}
 use Rattle.nm_check_rank.specs.Differ.{DifferFirstAt}
-use Rattle.nm_check_ranks.specs.Counting.{counted_pair, load_to, packets_of_event, packets_of_events, row_from}
+use Rattle.nm_check_ranks.specs.Counting.{counted_pair, load_to, row_from}
 use Rattle.nm_check_ranks.specs.declared.rest.counts.Load.{Load}
 use Rattle.nm_check_ranks.proofs.CountingLemmas.{in_all, one_event, own, rank_more, row_more, row_same}
 

@@ -5,10 +5,10 @@ use Rattle.std.specs.Option.{option_map_or}
 use Rattle.std.specs.List.{slice_get}
 use Rattle.std.proofs.lemmas.Option.{same_Some}
 use Rattle.nm_history.specs.declared.events.Event.{Event}
-use Rattle.nm_history.specs.Quiescence.{EachPair, EachRank, Ended}
+use Rattle.nm_history.specs.Quiescence.{EachPair, EachRank, Ended, history_of}
 use Rattle.nm_types.specs.declared.scripts.Line.{Line}
 use Rattle.nm_types.specs.Commands.{commands_of}
-use Rattle.nm_check_ranks.specs.Marked.{AreMarks, BreaksTo, BreaksPair, history_of}
+use Rattle.nm_check_ranks.specs.Marked.{AreMarks, BreaksTo, BreaksPair}
 use Rattle.nm_check_rank.specs.FirstBroken.{IsFirstBroken}
 use Rattle.nm_check_ranks.specs.CarriedClauses.{KeepsCarried, PairDelivered, StandsBefore, carried_order}
 use Rattle.nm_check_ranks.specs.declared.marks.Marks.{Marks}

@@ -7,11 +7,11 @@ use Rattle.std.proofs.lemmas.List.{length-map}
 use Rattle.std.proofs.lemmas.Option.{MatchOption-from_none, slice_get_past}
 use Rattle.std.specs.Prelude.{Bool}
 use Rattle.nm_types.specs.declared.scripts.Line.{Line}
-use Rattle.nm_history.specs.Quiescence.{Ended}
+use Rattle.nm_history.specs.Quiescence.{Ended, history_of}
 use Rattle.nm_report.specs.declared.accounts.RankAccount.{RankAccount}
 use Rattle.nm_report.specs.Ends.{ends_of}
 use Rattle.nm_lookups.specs.Deciding.{Decides}
-use Rattle.nm_check_ranks.specs.Marked.{AreMarks, history_of}
+use Rattle.nm_check_ranks.specs.Marked.{AreMarks}
 use Rattle.nm_check_rank.specs.Tabled.{AreRankTables}
 use Rattle.nm_check_ranks.specs.Tabled.{AreTabled}
 use Rattle.nm_check_ranks.specs.declared.marks.Marks.{Marks}

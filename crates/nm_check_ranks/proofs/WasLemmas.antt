@@ -10,14 +10,14 @@ use Rattle.nm_history.specs.declared.events.Happened.TheVariants.{Out}
 use Rattle.nm_history.specs.Completion.{is_taken}
 use Rattle.nm_history.specs.Happens.{is_send}
 use Rattle.nm_history.specs.Matching.{matched_pairs}
-use Rattle.nm_history.specs.Quiescence.{EachRank}
+use Rattle.nm_history.specs.Quiescence.{EachRank, history_of}
 use Rattle.nm_history.specs.RankRun.{Always, NumberAt}
 use Rattle.nm_history.specs.Sends.{Sent, sends, sent_of}
 use Rattle.nm_report.specs.declared.accounts.RankAccount.{RankAccount}
 use Rattle.nm_report.specs.Ends.{ends_of}
 use Rattle.nm_lookups.specs.Deciding.{Decides}
 use Rattle.nm_lookups.proofs.FirstLemmas.{ever_first}
-use Rattle.nm_check_ranks.specs.Marked.{KeepsLocal, history_of}
+use Rattle.nm_check_ranks.specs.Marked.{KeepsLocal}
 use Rattle.nm_check_ranks.proofs.RankLemmas.{of_rank}
 use Rattle.nm_check_ranks.proofs.SentLemmas.{never_sent, sent_there}
 use Rattle.nm_check_ranks.proofs.TableLemmas.{history_at, no_history}

@@ -9,12 +9,11 @@ use Rattle.nm_history.specs.AtEach.{AtEach}
 use Rattle.nm_history.specs.Delivery.{ArriveInOrder, BodyAt, EachEvent, OutAfterPair, UndoneAfterWithdraw}
 use Rattle.nm_history.specs.Delivery.{WithdrawAfterRecall}
 use Rattle.nm_history.specs.Growing.{ArrivesNext}
-use Rattle.nm_history.specs.Quiescence.{Ended}
+use Rattle.nm_history.specs.Quiescence.{Ended, history_of}
 use Rattle.nm_history.specs.RankRun.{Always}
 use Rattle.nm_history.specs.Sends.{arrivals, sends}
 use Rattle.nm_check_rank.specs.Breaks.{BreaksFirstAt}
 use Rattle.nm_check_ranks.specs.CarriedClauses.{KeepsCarried}
-use Rattle.nm_check_ranks.specs.Marked.{history_of}
 use Rattle.nm_check_ranks.specs.declared.clauses.CarriedClause.{CarriedClause}
 use Rattle.nm_check_ranks.specs.declared.clauses.CarriedClause.TheVariants as carried
 use Rattle.nm_check_ranks.specs.declared.firsts.Part.{Part}

@@ -1,32 +1,15 @@
 -- How many packets a history calls for, by the rank that they go to.
-use Rattle.std.specs.Prelude.{◌≡◌, ℕ, ◌+◌, ◌-◌, ◌^◌, ◌<◌, ◌==◌, if◌then◌else◌, min, nat_lt, Option, List, filter, map}
-use Rattle.std.specs.Prelude.{sum_by, slice_index}
+use Rattle.std.specs.Prelude.{◌≡◌, ℕ, ◌-◌, ◌^◌, ◌<◌, ◌==◌, if◌then◌else◌, min, nat_lt, Option, List, filter, map}
+use Rattle.std.specs.Prelude.{slice_index}
 use Rattle.std.specs.List.{range_with_len}
 use Rattle.std.specs.Option.{option_map_or}
-use Rattle.nm_history.specs.declared.events.Event.{Event}
-use Rattle.nm_history.specs.declared.events.Happened.{Happened}
-use Rattle.nm_history.specs.declared.events.Happened.TheVariants.{Send, Recall, Withdraw}
-use Rattle.nm_history.specs.Outgoing.{further_packets}
 use Rattle.nm_history.specs.Quiescence.{Packets}
-use Rattle.nm_history.specs.Sends.{is_ask}
 use Rattle.nm_report.specs.declared.pairs.PairCount.{PairCount}
 use Rattle.nm_check_ranks.specs.declared.rest.counts.Load.{Load}
 
 -- the packets of a load, if it goes to this rank
 abbrev pub load_to : ℕ → Option Load → ℕ
 load_to to load = option_map_or (λ l. if l.rank == to then l.packets else 0) load 0
-
--- how many packets to a rank an event calls for, but for the message that it pairs
-abbrev pub packets_of_event : ℕ → Happened → ℕ
-packets_of_event to (Send to' n tag ctx len how line) =
-    if to' == to then (if is_ask how then 1 else 1 + further_packets len) else 0
-packets_of_event to (Recall to' n) = if to' == to then 1 else 0
-packets_of_event to (Withdraw from n done) = if from == to then 1 else 0
-packets_of_event to _ = 0
-
--- .. and how many all events of a history
-abbrev pub packets_of_events : ℕ → List Event → ℕ
-packets_of_events to h = sum_by (λ e. packets_of_event to e.what) h
 
 -- a number, or the most that 128 bits hold where it is greater
 abbrev pub at_most : ℕ → ℕ

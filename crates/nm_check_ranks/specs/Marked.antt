@@ -1,5 +1,5 @@
 -- Rules of the messages between a rank and each other one, along the rank's history.
-use Rattle.std.specs.Prelude.{◌≡◌, ℕ, ◌<◌, ◌==◌, Bool, false, IsSomeAnd, MatchBool, Option, List, [], length}
+use Rattle.std.specs.Prelude.{◌≡◌, ℕ, ◌<◌, ◌==◌, Bool, false, IsSomeAnd, MatchBool, Option, List, length}
 use Rattle.std.specs.Prelude.{slice_get, slice_index_or}
 use Rattle.std.specs.Option.{option_map_or}
 use Rattle.nm_types.specs.declared.scripts.Line.{Line}
@@ -14,12 +14,8 @@ use Rattle.nm_check_ranks.specs.CarriedClauses.{carried_order}
 use Rattle.nm_check_ranks.specs.declared.marks.Marks.{Marks}
 use Rattle.nm_check_ranks.specs.declared.clauses.CarriedClause.{CarriedClause}
 use Rattle.nm_history.specs.AtEach.{AtEach}
-use Rattle.nm_history.specs.Quiescence.{EachPair, EachRank, Ended}
+use Rattle.nm_history.specs.Quiescence.{EachPair, EachRank, Ended, history_of}
 use Rattle.nm_history.specs.RankRun.{Always, NumberAt, StampAt}
-
--- the history of a rank, and of no rank none
-abbrev pub history_of : List Ended → ℕ → List Event
-history_of ranks i = option_map_or (λ rank. rank.events) (slice_get ranks i) []
 
 -- it is this rank
 abbrev pub is_rank : Option ℕ → ℕ → Bool

@@ -5,9 +5,8 @@ ghost use Rattle.nm_types.specs.declared.scripts.Line as script_line;
 ghost use Rattle.nm_types.specs.Commands.{commands_of};
 ghost use Rattle.nm_history.specs.declared.events.Event as event;
 ghost use Rattle.nm_history.specs.Delivery.{AreDelivered};
-ghost use Rattle.nm_history.specs.Quiescence.{EachPair, EachRank, Ended};
+ghost use Rattle.nm_history.specs.Quiescence.{EachPair, EachRank, Ended, history_of};
 ghost use Rattle.nm_check_ranks.specs.Marked.{AreMarks, BreaksTo, BreaksPair, EachMarked};
-ghost use Rattle.nm_check_ranks.specs.Marked.{history_of};
 ghost use Rattle.nm_check_rank.specs.FirstBroken.{IsFirstBroken};
 ghost use Rattle.nm_check_ranks.specs.CarriedClauses.{KeepsCarried, PairDelivered, carried_order};
 

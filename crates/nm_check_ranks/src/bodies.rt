@@ -8,12 +8,12 @@ ghost use Rattle.nm_types.specs.declared.scripts.Body.TheVariants.{Gen};
 ghost use Rattle.nm_history.specs.declared.events.Event as event;
 ghost use Rattle.nm_history.specs.declared.events.Happened.TheVariants.{Ran};
 ghost use Rattle.nm_history.specs.Delivery.{BodyAt};
-ghost use Rattle.nm_history.specs.Quiescence.{EachRank};
+ghost use Rattle.nm_history.specs.Quiescence.{EachRank, history_of};
 ghost use Rattle.nm_history.specs.Sends.{sends, sent_bytes, sent_of};
 ghost use Rattle.nm_report.specs.Ends.{ends_of};
 ghost use Rattle.nm_lookups.specs.Deciding.{Decides};
 ghost use Rattle.nm_check_rank.specs.Tabled.{AreRankTables};
-ghost use Rattle.nm_check_ranks.specs.Marked.{AreMarked, KeepsLocal, Names, history_of};
+ghost use Rattle.nm_check_ranks.specs.Marked.{AreMarked, KeepsLocal, Names};
 ghost use Rattle.nm_check_ranks.specs.Tabled.{AreTabled};
 
 use crate::marks::{NAMES, named_unless};

@@ -9,13 +9,13 @@ ghost use Rattle.nm_history.specs.Delivery.{OutAfterPair, UndoneAfterWithdraw, W
 ghost use Rattle.nm_history.specs.Delivery.{earlier_than};
 ghost use Rattle.nm_history.specs.Happens.{happened, is_recall, is_withdraw};
 ghost use Rattle.nm_history.specs.Growing.{ArrivesNext};
-ghost use Rattle.nm_history.specs.Quiescence.{EachRank};
+ghost use Rattle.nm_history.specs.Quiescence.{EachRank, history_of};
 ghost use Rattle.nm_history.specs.RankRun.{Always, NumberAt};
 ghost use Rattle.nm_history.specs.Sends.{envelope, sends, sent_of};
 ghost use Rattle.nm_report.specs.Ends.{ends_of};
 ghost use Rattle.nm_lookups.specs.Deciding.{Decides};
 ghost use Rattle.nm_lookups.specs.Placed.{ArePlaces};
-ghost use Rattle.nm_check_ranks.specs.Marked.{AreMarked, KeepsLocal, Names, history_of};
+ghost use Rattle.nm_check_ranks.specs.Marked.{AreMarked, KeepsLocal, Names};
 ghost use Rattle.nm_check_ranks.specs.Tabled.{AreTabled};
 
 use crate::hows::is_eager;

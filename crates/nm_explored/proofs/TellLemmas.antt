@@ -10,12 +10,13 @@ use Rattle.nm_types.specs.Limits.{IsScript}
 use Rattle.nm_types.specs.Sizes.{Sizes}
 use Rattle.nm_history.specs.declared.events.Event.{Event}
 use Rattle.nm_history.specs.AtEach.{AtEach}
+use Rattle.nm_history.specs.Quiescence.{history_of}
 use Rattle.nm_report.specs.Ends.{ends_of, packets_of}
 use Rattle.nm_report.specs.Told.{RankTold, told_of}
 use Rattle.nm_types.proofs.ListLemmas.{no_item, place_below}
 use Rattle.nm_types.proofs.OptionLemmas.{same_some}
 use Rattle.nm_outcomes.specs.Due.{IsDue}
-use Rattle.nm_outcomes.specs.Logs.{events_of, history_in}
+use Rattle.nm_outcomes.specs.Logs.{history_in}
 use Rattle.nm_outcomes.specs.Outcomes.{told_at}
 use Rattle.nm_outcomes.specs.Places.{IsPlaceOf}
 use Rattle.nm_outcomes.specs.Searches as searches
@@ -85,7 +86,7 @@ tells_all stand shape lines script store explored ends are run is =
     λ i. subst (λ (h : List Event). AtEach (λ b e. IsDue shape.eager (commands_of i lines) b e.what) h)
     (sym (log.1.histories i))
     (events_are_due shape (commands_of i lines)
-    (at_of shape lines (ends_of run.ranks) (packets_of run.pairs) is.lawful i) (events_of (ends_of run.ranks) i)
+    (at_of shape lines (ends_of run.ranks) (packets_of run.pairs) is.lawful i) (history_of (ends_of run.ranks) i)
     (commands.stand i) (own_run shape lines (ends_of run.ranks) (packets_of run.pairs) is.lawful i)) in
     let first = explored.expanded explored.found.0 explored.first explored.found.1 in
     let start : List Spot = states_in store.table explored.first in
@@ -96,7 +97,7 @@ tells_all stand shape lines script store explored ends are run is =
       first_is_spot lines,
     )) in
     let v : ℕ → Option Spot = λ i. slice_get path.1 i in
-    let ends_are : (i : ℕ) → IsPlaceOf i (commands_of i lines) (events_of (ends_of run.ranks) i)
+    let ends_are : (i : ℕ) → IsPlaceOf i (commands_of i lines) (history_of (ends_of run.ranks) i)
     (placed lines log.0 i) =
     λ i. subst (λ (h : List Event). IsPlaceOf i (commands_of i lines) h (placed lines log.0 i))
     (log.1.histories i) (are_placed lines log.0 i) in

@@ -1,6 +1,6 @@
 -- Which packets continue their stream.
-use Rattle.std.specs.Prelude.{ℕ, ◌+◌, ◌-◌, ◌==◌, Bool, true, false, not, ◌&&◌, nat_lt, nat_le, min}
-use Rattle.std.specs.Prelude.{if◌then◌else◌, List, length}
+use Rattle.std.specs.Prelude.{◌≡◌, ℕ, ◌+◌, ◌-◌, ◌==◌, Bool, true, false, not, ◌&&◌, nat_lt, nat_le, min}
+use Rattle.std.specs.Prelude.{if◌then◌else◌, List, [], ◌∷◌, length}
 use Rattle.std.specs.List.{list_any}
 use Rattle.nm_types.specs.declared.limits.TheConstants.{MAX_PAYLOAD, MAX_BODY, MAX_TAG, MAX_STAMP}
 use Rattle.nm_types.specs.declared.packets.Packet.{Packet}
@@ -59,3 +59,8 @@ continues eager known h p =
     && (if is_of_stream p.what
     then continues_stream eager known p.what (length p.payload)
     else continues_answer known h p.from p.what (length p.payload))
+
+-- no number is twice among these
+abbrev pub AreApart : List ℕ → Type 0
+AreApart [] = Unit {0}
+AreApart (n ∷ ns) = (has ns n ≡ false) × AreApart ns

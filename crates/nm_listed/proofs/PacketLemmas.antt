@@ -17,17 +17,18 @@ use Rattle.nm_history.specs.Outgoing.{is_clear, is_recall_to, is_withdraw_from, 
 use Rattle.nm_history.specs.Quiescence.{Ended, Packets, packets_by_rank, packets_from}
 use Rattle.nm_history.specs.Sends.{Sent, sends, sent_body}
 use Rattle.nm_history.proofs.OutgoingLemmas.{outgoing_count}
-use Rattle.nm_listed.specs.Records.{own_packets, packets_of_event, some_packets}
+use Rattle.nm_history.specs.Outgoing.{packets_of_event, packets_of_events}
+use Rattle.nm_listed.specs.Records.{some_packets}
 
 -- the packets of sends, recalls and withdrawals
 own_split : (to : ℕ) (h : List Event) →
-    own_packets to h
+    packets_of_events to h
     ≡ sum_by packets_of_send (sends h to) + count_by (λ (e : Event). is_recall_to to e.what) h
     + count_by (λ (e : Event). is_withdraw_from to e.what) h
 own_split to [] = refl
 own_split to (e ∷ h) = by_event e.what e.stamp (own_split to h)
   where
-    owns : (e : Event) → own_packets to (e ∷ h) ≡ own_packets to (e ∷ []) + own_packets to h
+    owns : (e : Event) → packets_of_events to (e ∷ h) ≡ packets_of_events to (e ∷ []) + packets_of_events to h
     owns e = sum_by-append (λ (x : Event). packets_of_event to x.what) (e ∷ []) h
 
     recalls : (e : Event) → count_by (λ (x : Event). is_recall_to to x.what) (e ∷ h)
@@ -40,10 +41,10 @@ own_split to (e ∷ h) = by_event e.what e.stamp (own_split to h)
     withdrawals e = sum_by-append (λ (x : Event). cond (is_withdraw_from to x.what) 1 0) (e ∷ []) h
 
     by_event : (what : Happened) (stamp : ℕ) →
-        own_packets to h
+        packets_of_events to h
         ≡ sum_by packets_of_send (sends h to) + count_by (λ (e : Event). is_recall_to to e.what) h
         + count_by (λ (e : Event). is_withdraw_from to e.what) h →
-        own_packets to (record { stamp = stamp; what = what } ∷ h)
+        packets_of_events to (record { stamp = stamp; what = what } ∷ h)
         ≡ sum_by packets_of_send (sends (record { stamp = stamp; what = what } ∷ h) to)
         + count_by (λ (e : Event). is_recall_to to e.what) (record { stamp = stamp; what = what } ∷ h)
         + count_by (λ (e : Event). is_withdraw_from to e.what) (record { stamp = stamp; what = what } ∷ h)
@@ -69,7 +70,7 @@ own_split to (e ∷ h) = by_event e.what e.stamp (own_split to h)
 
 -- .. and those that clear messages
 pub packets_split : (to : ℕ) (h : List Event) →
-    packets_to h to ≡ own_packets to h + count_by (is_clear to) (matched_pairs h)
+    packets_to h to ≡ packets_of_events to h + count_by (is_clear to) (matched_pairs h)
 packets_split to h = let own = own_split to h in omega (arith, own)
 
 -- one number more of those below a bound
@@ -118,16 +119,16 @@ rank_next lines all from (y ∷ xs) x =
 
 -- one event more
 pub own_next : (to : ℕ) (h : List Event) (k : ℕ) (e : Event) → k < length h → e ≡ get_or h k e →
-    own_packets to (take (k + 1) h) ≡ own_packets to (take k h) + packets_of_event to e.what
+    packets_of_events to (take (k + 1) h) ≡ packets_of_events to (take k h) + packets_of_event to e.what
 own_next to h k e inside is =
     let pushed = sum_by-append (λ (x : Event). packets_of_event to x.what) (take k h) (e ∷ []) in
-    let one : own_packets to (e ∷ []) ≡ packets_of_event to e.what = omega arith in
-    let same : own_packets to (take (k + 1) h) ≡ own_packets to (take k h ++ e ∷ []) =
-    ap (λ (g : List Event). own_packets to g) (take_next h k e inside is) in
+    let one : packets_of_events to (e ∷ []) ≡ packets_of_event to e.what = omega arith in
+    let same : packets_of_events to (take (k + 1) h) ≡ packets_of_events to (take k h ++ e ∷ []) =
+    ap (λ (g : List Event). packets_of_events to g) (take_next h k e inside is) in
     omega (arith, pushed, one, same)
 
 pub own_within : (to : ℕ) (h : List Event) (k : ℕ) (e : Event) → k < length h → e ≡ get_or h k e →
-    own_packets to (take k h) + packets_of_event to e.what ≤ own_packets to h
+    packets_of_events to (take k h) + packets_of_event to e.what ≤ packets_of_events to h
 own_within to h k e inside is =
     let one = own_next to h k e inside is in
     let less = sum_by-take-le (λ (x : Event). packets_of_event to x.what) h (k + 1) in

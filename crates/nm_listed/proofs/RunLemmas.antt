@@ -14,8 +14,7 @@ use Rattle.nm_types.specs.declared.answers.Account.{Account}
 use Rattle.nm_types.specs.declared.answers.Answer.TheVariants as answer
 use Rattle.nm_types.specs.declared.messages.Arrival.{Arrival}
 use Rattle.nm_types.specs.declared.messages.Envelope.{Envelope}
-use Rattle.nm_types.specs.declared.scripts.Body.{Body}
-use Rattle.nm_types.specs.Bodies.{HaveTheirLength, body_len, bytes_of}
+use Rattle.nm_types.specs.Bodies.{HaveTheirLength}
 use Rattle.nm_types.specs.declared.scripts.Command.{Command}
 use Rattle.nm_types.specs.declared.scripts.Command.TheVariants as command
 use Rattle.nm_types.specs.declared.scripts.Line.{Line}

@@ -1,16 +1,12 @@
 -- The record of a log.
-use Rattle.std.specs.Prelude.{◌≡◌, ℕ, ◌+◌, ◌*◌, ◌<◌, ◌≤◌, ◌==◌, if◌then◌else◌, nat_lt, List, [], ◌∷◌, Some, count_by}
-use Rattle.std.specs.Prelude.{filter_map, length, option_map, sum_by}
+use Rattle.std.specs.Prelude.{◌≡◌, ℕ, ◌+◌, ◌*◌, ◌<◌, ◌≤◌, if◌then◌else◌, nat_lt, List, [], ◌∷◌, Some, count_by}
+use Rattle.std.specs.Prelude.{filter_map, length, option_map}
 use Rattle.std.specs.List.{range_with_len, slice_get}
 use Rattle.nm_types.specs.declared.scripts.Line.{Line}
 use Rattle.nm_types.specs.Sizes.{Sizes}
 use Rattle.nm_history.specs.Quiescence.{Ended, Packets, packets_of as packets_due}
-use Rattle.nm_history.specs.declared.events.Event.{Event}
-use Rattle.nm_history.specs.declared.events.Happened.{Happened}
-use Rattle.nm_history.specs.declared.events.Happened.TheVariants.{Recall, Send, Withdraw}
-use Rattle.nm_history.specs.Outgoing.{further_packets, packets_to}
+use Rattle.nm_history.specs.Outgoing.{packets_to}
 use Rattle.nm_history.specs.RankRun.{Always, NumberAt}
-use Rattle.nm_history.specs.Sends.{is_ask}
 use Rattle.nm_report.specs.declared.records.RunRecord.{RunRecord}
 use Rattle.nm_report.specs.Ends.{are_done, ends_of, packets_of}
 use Rattle.nm_outcomes.specs.Logs.{Step, history_in}
@@ -57,18 +53,6 @@ pub record IsCountable (shape : Sizes) (t : Telling) : Type 0 where
       count_by is_answer_by spot.deeds < 4294967296
   pub packets : (i to : ℕ) → i < shape.ranks →
       packets_to (history_in t.log i) to ≤ length (history_in t.log i) + 281474976710656
-
--- how many packets to a rank an event calls for, but for the message that it pairs
-abbrev pub packets_of_event : ℕ → Happened → ℕ
-packets_of_event to (Send to' n tag ctx len how line) =
-    if to' == to then (if is_ask how then 1 else 1 + further_packets len) else 0
-packets_of_event to (Recall to' n) = if to' == to then 1 else 0
-packets_of_event to (Withdraw from n done) = if from == to then 1 else 0
-packets_of_event to _ = 0
-
--- .. and how many all events of a history
-abbrev pub own_packets : ℕ → List Event → ℕ
-own_packets to h = sum_by (λ e. packets_of_event to e.what) h
 
 -- a count, unless it is 0
 abbrev pub some_packets : Packets → List Packets

@@ -1,10 +1,8 @@
 -- Where each thing happened first.
-use Rattle.std.specs.Prelude.{ℕ, ◌==◌, Bool, false, ◌&&◌, Option, is_some}
+use Rattle.std.specs.Prelude.{ℕ, ◌==◌, Bool, false, Option, is_some}
 use Rattle.std.specs.Option.{option_map_or}
 use Rattle.nm_history.specs.declared.events.Happened.{Happened}
-use Rattle.nm_history.specs.declared.events.Happened.TheVariants.{Send}
 use Rattle.nm_history.specs.Answers.{message_claimed, request_of}
-use Rattle.nm_history.specs.Sends.{is_ask}
 use Rattle.nm_match.specs.declared.names.Message.{Message}
 use Rattle.nm_match.specs.Names.{same_message}
 
@@ -23,8 +21,3 @@ is_start_at line what = is_some (request_of line what)
 -- an event is a claim of a line
 abbrev pub is_claim_at : ℕ → Happened → Bool
 is_claim_at line what = is_some (message_claimed line what)
-
--- message n was sent to this rank by asking
-abbrev pub is_asked_send : ℕ → ℕ → Happened → Bool
-is_asked_send to n (Send to' n' tag ctx len how line) = to' == to && n' == n && is_ask how
-is_asked_send to n _ = false

@@ -4,12 +4,12 @@ use Rattle.std.specs.Option.{option_map_or}
 use Rattle.indexmap.specs.IndexMap.{IndexMap, get}
 use Rattle.nm_history.specs.declared.events.Event.{Event}
 use Rattle.nm_history.specs.declared.events.Happened.{Happened}
-use Rattle.nm_history.specs.Happens.{is_send, is_arrival, is_whole, is_out, is_recall, is_withdraw}
+use Rattle.nm_history.specs.Happens.{is_send, is_arrival, is_whole, is_out, is_recall, is_withdraw, is_asked_send}
 use Rattle.nm_history.specs.Happens.{is_undone, is_claim, is_cancel}
 use Rattle.nm_history.specs.RankRun.{is_asking}
 use Rattle.nm_history.specs.Completion.{is_taken}
 use Rattle.nm_match.specs.Names.{same_message}
-use Rattle.nm_lookups.specs.Firsts.{is_asked_send, is_claim_at, is_start_at}
+use Rattle.nm_lookups.specs.Firsts.{is_claim_at, is_start_at}
 use Rattle.nm_match.specs.declared.names.Message.{Message}
 use Rattle.nm_lookups.specs.declared.places.ByNumber.{ByNumber}
 use Rattle.nm_lookups.specs.declared.places.Came.{Came}

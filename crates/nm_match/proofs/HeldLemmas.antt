@@ -2,7 +2,7 @@
 use Rattle.std.proofs.Common.{◌≡◌, ◌≢◌, ℕ, ◌==◌, Bool, true, false, Option, Some, None, is_some}
 use Rattle.std.proofs.Common.{List, refl, sym, subst}
 use Rattle.std.specs.List.{All, find}
-use Rattle.std.specs.Prelude.{AllPairs, Result, Ok, Err, OnErr}
+use Rattle.std.specs.Prelude.{AllPairs}
 use Rattle.std.specs.BTreeMap.{BTreeMap}
 use Rattle.std.proofs.lemmas.Bool.{eqb-true, false≢true, false_from_ne_true}
 use Rattle.std.proofs.lemmas.List.Elements.{All-filter, All-weaker}

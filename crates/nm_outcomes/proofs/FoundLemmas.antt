@@ -11,7 +11,7 @@ use Rattle.nm_types.specs.Limits.{IsScript, is_in_range}
 use Rattle.nm_types.specs.declared.scripts.Line.{Line}
 use Rattle.nm_types.specs.Commands.{Numbered, StandAtLines, command_at, commands_from, commands_of}
 use Rattle.nm_types.specs.Sizes.{Sizes}
-use Rattle.nm_history.specs.Quiescence.{Ended}
+use Rattle.nm_history.specs.Quiescence.{Ended, history_of}
 use Rattle.nm_report.specs.declared.accounts.RankAccount.{RankAccount}
 use Rattle.nm_report.specs.declared.records.RunRecord.{RunRecord}
 use Rattle.nm_report.specs.Ends.{ends_of, packets_of}
@@ -26,7 +26,7 @@ use Rattle.nm_outcomes.specs.Paths.{AreCommands, IsAddressed, first_place, moved
 use Rattle.nm_outcomes.specs.Places.{RankPoint}
 use Rattle.nm_outcomes.proofs.Early.{is_below}
 use Rattle.nm_history.specs.declared.events.Event.{Event}
-use Rattle.nm_outcomes.specs.Logs.{IsLogOf, events_of}
+use Rattle.nm_outcomes.specs.Logs.{IsLogOf}
 use Rattle.nm_outcomes.specs.Places.{IsPlaceOf}
 use Rattle.nm_outcomes.proofs.LogLemmas.{runs_have_logs}
 use Rattle.nm_outcomes.proofs.PathLemmas.{loud_path}
@@ -109,7 +109,7 @@ end_of a = record { at = a.at; waits = a.waits; events = a.history.events }
 
 module _ (shape : Sizes) (lines : List Line) (run : RunRecord) (commands : AreCommands shape.ranks lines)
     (is : IsRunIn shape lines run) (log : List Step) (log_of : IsLogOf shape lines (ends_of run.ranks) log)
-    (w : ℕ → RankPoint) (ends : (i : ℕ) → IsPlaceOf i (commands_of i lines) (events_of (ends_of run.ranks) i) (w i))
+    (w : ℕ → RankPoint) (ends : (i : ℕ) → IsPlaceOf i (commands_of i lines) (history_of (ends_of run.ranks) i) (w i))
   where
     rank_told : (k : ℕ) (a : RankAccount) → slice_get run.ranks k ≡ Some a → told_of_rank a ≡ told_at lines w k
     rank_told k a here =
@@ -138,7 +138,7 @@ runs_are_found stand shape lines run script is =
     let log = runs_have_logs shape lines (ends_of run.ranks) (packets_of run.pairs) is.lawful in
     let loud = loud_path shape lines (ends_of run.ranks) (packets_of run.pairs) commands is.lawful log.0 log.1 in
     let w : ℕ → RankPoint = moved_by lines (λ i. first_place) loud.0 in
-    let ends : (i : ℕ) → IsPlaceOf i (commands_of i lines) (events_of (ends_of run.ranks) i) (w i) =
+    let ends : (i : ℕ) → IsPlaceOf i (commands_of i lines) (history_of (ends_of run.ranks) i) (w i) =
     λ i. subst (λ (h : List Event). IsPlaceOf i (commands_of i lines) h (w i)) (log.1.histories i) (loud.1.2 i) in (
       loud.0,
       record {

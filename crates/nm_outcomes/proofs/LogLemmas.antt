@@ -22,7 +22,7 @@ use Rattle.nm_history.specs.Delivery.{AreDelivered, ArriveInOrder, BodyAt, OutAf
 use Rattle.nm_history.specs.Delivery.{WithdrawAfterRecall, earlier_than, is_asked}
 use Rattle.nm_history.specs.Growing.{ArrivesNext, MayReceive, MaySend}
 use Rattle.nm_history.specs.Happens.{happened, is_recall, is_withdraw}
-use Rattle.nm_history.specs.Quiescence.{Ended, Packets}
+use Rattle.nm_history.specs.Quiescence.{Ended, Packets, history_of}
 use Rattle.nm_history.specs.RankRun.{IsRankRun, NumberAt}
 use Rattle.nm_history.specs.Run.{IsRunOf}
 use Rattle.nm_history.specs.Sends.{Arrived, Sent, arrivals, envelope, sends}
@@ -36,7 +36,7 @@ use Rattle.nm_history.proofs.RankRunLemmas.{rank_run-none, rank_run-split}
 use Rattle.nm_types.proofs.ListLemmas.{get_some, place_below}
 use Rattle.nm_types.proofs.NumberLemmas.{same_number}
 use Rattle.nm_outcomes.specs.Logs.{IsLog, IsLogOf, LogsDeliver, MayCome, MayComeAfter, RunsHaveLogs, Step}
-use Rattle.nm_outcomes.specs.Logs.{event_of, events_of, history_in}
+use Rattle.nm_outcomes.specs.Logs.{event_of, history_in}
 use Rattle.nm_outcomes.proofs.Bodies.{body_early}
 use Rattle.nm_sure.proofs.Flown.{arrive_front, arrivals_lower}
 use Rattle.nm_outcomes.proofs.Early.{above_all, above_is, all_behind, below_is, none_later}
@@ -450,7 +450,7 @@ module _ (shape : Sizes) (lines : List Line) (ranks : List Ended) (packets : Lis
     abbrev pub at_of : ℕ → ℕ
     at_of i = option_map_or (λ rank. rank.at) (slice_get ranks i) 0
 
-    pub own_run : (i : ℕ) → IsRankRun shape (commands_of i lines) (at_of i) (events_of ranks i)
+    pub own_run : (i : ℕ) → IsRankRun shape (commands_of i lines) (at_of i) (history_of ranks i)
     own_run i = by_rank (slice_get ranks i) (run.rank_runs i)
       where
         by_rank : (o : Option Ended) →
@@ -461,7 +461,7 @@ module _ (shape : Sizes) (lines : List Line) (ranks : List Ended) (packets : Lis
         by_rank (Some rank) holds = holds
 
     delivered : (i j : ℕ) → i < shape.ranks → j < shape.ranks →
-        AreDelivered i j (commands_of i lines) (commands_of j lines) (events_of ranks i) (events_of ranks j)
+        AreDelivered i j (commands_of i lines) (commands_of j lines) (history_of ranks i) (history_of ranks j)
     delivered i j low below =
         let count = run.one_each in
         let a = get_some ranks i (omega (arith, low, count)) in
@@ -490,7 +490,7 @@ module _ (shape : Sizes) (lines : List Line) (ranks : List Ended) (packets : Lis
             by_rank None each = tt
             by_rank (Some a) each = each j
 
-    no_rank : (i : ℕ) → shape.ranks ≤ i → events_of ranks i ≡ []
+    no_rank : (i : ℕ) → shape.ranks ≤ i → history_of ranks i ≡ []
     no_rank i high = by_rank (slice_get ranks i) refl
       where
         by_rank : (o : Option Ended) → slice_get ranks i ≡ o → option_map_or (λ rank. rank.events) o [] ≡ []
@@ -501,7 +501,7 @@ module _ (shape : Sizes) (lines : List Line) (ranks : List Ended) (packets : Lis
 
     pub run_log : (log : List Step) × IsLogOf shape lines ranks log
     run_log =
-        let log = whole_log shape lines at_of (events_of ranks) own_run delivered no_rank in
+        let log = whole_log shape lines at_of (history_of ranks) own_run delivered no_rank in
         (log.0, record { steps = log.1; histories = log.2 })
 
 pub runs_have_logs : RunsHaveLogs

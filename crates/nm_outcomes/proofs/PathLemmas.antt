@@ -24,7 +24,7 @@ use Rattle.nm_history.specs.Happens.{happened, is_claim}
 use Rattle.nm_history.specs.Matching.{first_message, is_free, is_of_message, matched_pairs}
 use Rattle.nm_history.specs.RankRun.{ClaimAt, NumberAt, StartAt, claim_of, ran_lines, start_of}
 use Rattle.nm_history.specs.RankRun.{without_number}
-use Rattle.nm_history.specs.Quiescence.{Ended, Packets}
+use Rattle.nm_history.specs.Quiescence.{Ended, Packets, history_of}
 use Rattle.nm_history.specs.Run.{IsRunOf}
 use Rattle.nm_history.specs.Selection.{matches}
 use Rattle.nm_history.specs.Sends.{arrivals, message_of, messages, receives}
@@ -42,7 +42,7 @@ use Rattle.nm_types.proofs.NumberLemmas.{same_number}
 use Rattle.nm_types.proofs.OptionLemmas.{no_some}
 use Rattle.nm_types.proofs.TruthLemmas.{and_left, and_right, or_left}
 use Rattle.nm_outcomes.specs.Due.{AreAtLines, IsDue}
-use Rattle.nm_outcomes.specs.Logs.{IsLogOf, IsLog, MayCome, MayComeAfter, Step, event_of, events_of, history_in}
+use Rattle.nm_outcomes.specs.Logs.{IsLogOf, IsLog, MayCome, MayComeAfter, Step, event_of, history_in}
 use Rattle.nm_outcomes.specs.Moves.{ArePlaces, MayMove}
 use Rattle.nm_outcomes.specs.Paths.{AreCommands, AreMoves, IsAddressed, RunsArePaths, first_place, moved}
 use Rattle.nm_outcomes.specs.Paths.{moved_by}
@@ -382,7 +382,7 @@ loud_path shape lines ranks packets commands run log is =
     let due : (i : ℕ) → AtEach (λ b e. IsDue shape.eager (commands_of i lines) b e.what) (history_in log i) =
     λ i. subst (λ (h : List Event). AtEach (λ b e. IsDue shape.eager (commands_of i lines) b e.what) h)
     (sym (is.histories i))
-    (events_are_due shape (commands_of i lines) (at_of shape lines ranks packets run i) (events_of ranks i)
+    (events_are_due shape (commands_of i lines) (at_of shape lines ranks packets run i) (history_of ranks i)
     (commands.stand i) (own_run shape lines ranks packets run i)) in
     skip shape lines commands [] log (λ i. first_place) tt is.steps due (λ i. first_is i (commands_of i lines))
 
@@ -392,7 +392,7 @@ runs_are_paths shape lines ranks packets commands run =
     let due : (i : ℕ) → AtEach (λ b e. IsDue shape.eager (commands_of i lines) b e.what) (history_in log.0 i) =
     λ i. subst (λ (h : List Event). AtEach (λ b e. IsDue shape.eager (commands_of i lines) b e.what) h)
     (sym (log.1.histories i))
-    (events_are_due shape (commands_of i lines) (at_of shape lines ranks packets run i) (events_of ranks i)
+    (events_are_due shape (commands_of i lines) (at_of shape lines ranks packets run i) (history_of ranks i)
     (commands.stand i) (own_run shape lines ranks packets run i)) in
     let path = walk shape lines commands [] log.0 (λ i. first_place) tt log.1.steps due
     (λ i. first_is i (commands_of i lines)) in (

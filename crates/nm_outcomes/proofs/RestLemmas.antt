@@ -32,7 +32,7 @@ use Rattle.nm_history.specs.Happens.{is_withdraw}
 use Rattle.nm_history.specs.Matching.{first_message, is_free_message, is_of_receive}
 use Rattle.nm_history.specs.Matching.{matched_pairs}
 use Rattle.nm_history.specs.Quiescence.{AskedOver, EagerOver, Ended, IsAnswered, Packets, RecallsAnswered, IsStopped}
-use Rattle.nm_history.specs.Quiescence.{EachPair, EachRank}
+use Rattle.nm_history.specs.Quiescence.{EachPair, EachRank, history_of}
 use Rattle.nm_history.specs.RankRun.{EndAt, IsRankRun, NumberAt}
 use Rattle.nm_history.specs.Run.{IsRunOf}
 use Rattle.nm_history.specs.Sends.{arrivals, envelope, messages, sends}
@@ -45,7 +45,7 @@ use Rattle.nm_types.proofs.NumberLemmas.{same_number}
 use Rattle.nm_types.proofs.OptionLemmas.{no_some, same_some}
 use Rattle.nm_types.proofs.TruthLemmas.{and_left, and_right, both, or_left, or_right}
 use Rattle.nm_report.specs.Told.{told_by}
-use Rattle.nm_outcomes.specs.Logs.{IsLogOf, Step, events_of, history_in}
+use Rattle.nm_outcomes.specs.Logs.{IsLogOf, Step, history_in}
 use Rattle.nm_outcomes.specs.Moves.{ArePlaces, may_show, request_now}
 use Rattle.nm_outcomes.specs.Paths.{AreCommands, first_place, moved_by}
 use Rattle.nm_outcomes.specs.Places.{IsPlaceOf, RankPoint}
@@ -260,7 +260,7 @@ each_one R ranks i each low =
     (a.0, a.1, subst (λ (o : Option Ended). IfSome o (R i)) a.1 (each i))
 
 each_two : (R : ℕ → ℕ → List Event → List Event → Type 0) (ranks : List Ended) (i j : ℕ) → EachPair R ranks →
-    i < length ranks → j < length ranks → R i j (events_of ranks i) (events_of ranks j)
+    i < length ranks → j < length ranks → R i j (history_of ranks i) (history_of ranks j)
 each_two R ranks i j each low below =
     let a = each_one (λ i a. EachRank (λ j b. R i j a.events b.events) ranks) ranks i each low in
     let b = each_one (λ j b. R i j a.0.events b.events) ranks j a.2 below in
@@ -269,12 +269,12 @@ each_two R ranks i j each low below =
 module _ (shape : Sizes) (lines : List Line) (ranks : List Ended) (packets : List Packets)
     (commands : AreCommands shape.ranks lines) (run : IsRunOf shape lines ranks packets) (log : List Step)
     (log_of : IsLogOf shape lines ranks log) (w : ℕ → RankPoint)
-    (ends : (i : ℕ) → IsPlaceOf i (commands_of i lines) (events_of ranks i) (w i))
+    (ends : (i : ℕ) → IsPlaceOf i (commands_of i lines) (history_of ranks i) (w i))
   where
     abbrev hist : ℕ → List Event
     hist i = history_in log i
 
-    same : (i : ℕ) → events_of ranks i ≡ hist i
+    same : (i : ℕ) → history_of ranks i ≡ hist i
     same i = sym (log_of.histories i)
 
     within : (i : ℕ) → i < shape.ranks → i < length ranks
@@ -284,7 +284,7 @@ module _ (shape : Sizes) (lines : List Line) (ranks : List Ended) (packets : Lis
         j < shape.ranks → R i j (hist i) (hist j)
     two R each i j low below =
         subst (λ (h : List Event). R i j h (hist j)) (same i)
-        (subst (λ (h : List Event). R i j (events_of ranks i) h) (same j)
+        (subst (λ (h : List Event). R i j (history_of ranks i) h) (same j)
         (each_two R ranks i j each (within i low) (within j below)))
 
     are : ArePlaces lines log w

@@ -1,15 +1,13 @@
 -- A run as one list of events, in an order in which they may have come.
 use Rattle.std.specs.Prelude.{◌≡◌, ℕ, ◌<◌, ◌==◌, if◌then◌else◌, Option, Some, None, List, [], ◌∷◌, ◌++◌}
 use Rattle.std.specs.Prelude.{filter_map}
-use Rattle.std.specs.List.{slice_get}
-use Rattle.std.specs.Option.{option_map_or}
 use Rattle.nm_types.specs.declared.scripts.Line.{Line}
 use Rattle.nm_types.specs.Commands.{commands_of}
 use Rattle.nm_types.specs.Sizes.{Sizes}
 use Rattle.nm_history.specs.declared.events.Event.{Event}
 use Rattle.nm_history.specs.Delivery.{AreDelivered}
 use Rattle.nm_history.specs.Growing.{MayReceive, MaySend}
-use Rattle.nm_history.specs.Quiescence.{Ended, Packets}
+use Rattle.nm_history.specs.Quiescence.{Ended, Packets, history_of}
 use Rattle.nm_history.specs.Run.{IsRunOf}
 use Rattle.nm_history.specs.Underway.{MayFollow}
 
@@ -48,14 +46,10 @@ MayComeAfter shape lines before (step ∷ steps) =
 abbrev pub IsLog : Sizes → List Line → List Step → Type 0
 IsLog shape lines log = MayComeAfter shape lines [] log
 
--- the history of a rank, and of no rank none
-abbrev pub events_of : List Ended → ℕ → List Event
-events_of ranks i = option_map_or (λ rank. rank.events) (slice_get ranks i) []
-
 -- a log of the histories of these ranks
 pub record IsLogOf (shape : Sizes) (lines : List Line) (ranks : List Ended) (log : List Step) : Type 0 where
   pub steps : IsLog shape lines log
-  pub histories : (i : ℕ) → history_in log i ≡ events_of ranks i
+  pub histories : (i : ℕ) → history_in log i ≡ history_of ranks i
 
 -- each run of a script has a log
 abbrev pub RunsHaveLogs : Type 0

@@ -5,10 +5,10 @@ use Rattle.nm_types.specs.declared.scripts.Command.TheVariants as command
 use Rattle.nm_types.specs.declared.scripts.Line.{Line}
 use Rattle.nm_types.specs.Commands.{command_at, commands_of}
 use Rattle.nm_types.specs.Sizes.{Sizes}
-use Rattle.nm_history.specs.Quiescence.{Ended, Packets}
+use Rattle.nm_history.specs.Quiescence.{Ended, Packets, history_of}
 use Rattle.nm_history.specs.Run.{IsRunOf}
 use Rattle.nm_outcomes.specs.Due.{AreAtLines}
-use Rattle.nm_outcomes.specs.Logs.{IsLogOf, Step, events_of}
+use Rattle.nm_outcomes.specs.Logs.{IsLogOf, Step}
 use Rattle.nm_outcomes.specs.Moves.{MayMove}
 use Rattle.nm_outcomes.specs.Places.{IsPlaceOf, RankPoint, after}
 
@@ -72,7 +72,7 @@ pub record IsPathOf (shape : Sizes) (lines : List Line) (ranks : List Ended) (lo
   pub moves : AreMoves shape lines (λ i. first_place) log
   pub ends :
       (i : ℕ) →
-      IsPlaceOf i (commands_of i lines) (events_of ranks i) (moved_by lines (λ i. first_place) log i)
+      IsPlaceOf i (commands_of i lines) (history_of ranks i) (moved_by lines (λ i. first_place) log i)
 
 -- each run of a script is such a path
 abbrev pub RunsArePaths : Type 0

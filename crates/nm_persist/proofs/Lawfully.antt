@@ -17,14 +17,14 @@ use Rattle.nm_types.specs.Sizes.{Sizes}
 use Rattle.nm_history.specs.declared.events.Event.{Event}
 use Rattle.nm_history.specs.declared.events.Happened.{Happened}
 use Rattle.nm_history.specs.declared.events.Happened.TheVariants as event
-use Rattle.nm_history.specs.Quiescence.{EachPair, EachRank, Ended}
+use Rattle.nm_history.specs.Quiescence.{EachPair, EachRank, Ended, history_of}
 use Rattle.nm_history.specs.RankRun.{IsRankRun, ran_lines}
 use Rattle.nm_report.specs.declared.accounts.RankAccount.{RankAccount}
 use Rattle.nm_report.specs.declared.records.RunRecord.{RunRecord}
 use Rattle.nm_report.specs.Ends.{ends_of}
 use Rattle.nm_report.specs.Lawful.{IsRunIn}
 use Rattle.nm_report.specs.Told.{Told, told_by}
-use Rattle.nm_sure.proofs.Assembled.{Begins, at_in, from_line, hist_in}
+use Rattle.nm_sure.proofs.Assembled.{Begins, at_in, from_line}
 use Rattle.nm_sure.proofs.Rising.{commands_rise}
 use Rattle.nm_sure.proofs.Worlds.{IsWithin, line_place}
 use Rattle.nm_plans.specs.declared.lines.PlanLine.{PlanLine}
@@ -81,7 +81,7 @@ module _ (shape : Sizes) (lines : List PlanLine) (record' : RunRecord) (stand : 
 
   pair_of_ranks : (R : ℕ → ℕ → List Event → List Event → Type 0) → EachPair R ranks → (i j : ℕ) → i < shape.ranks →
       j < shape.ranks →
-      R i j (hist_in ranks i) (hist_in ranks j)
+      R i j (history_of ranks i) (history_of ranks j)
   pair_of_ranks R each i j inside within =
       let low : i < length ranks = (let n = is.lawful.one_each in omega (arith, inside, n)) in
       let near : j < length ranks = (let n = is.lawful.one_each in omega (arith, within, n)) in
@@ -91,12 +91,12 @@ module _ (shape : Sizes) (lines : List PlanLine) (record' : RunRecord) (stand : 
       if_some (λ (b : Ended). R i j a.0.events b.events) (slice_get ranks j) b.0 b.1
       (if_some (λ (a : Ended). EachRank (λ j b. R i j a.events b.events) ranks) (slice_get ranks i) a.0 a.1
       (each i) j) in
-      subst (λ (h : List Event). R i j h (hist_in ranks j))
+      subst (λ (h : List Event). R i j h (history_of ranks j))
       (sym (ap (λ (o : Option Ended). option_map_or (λ r. r.events) o []) a.1))
       (subst (λ (h : List Event). R i j a.0.events h)
       (sym (ap (λ (o : Option Ended). option_map_or (λ r. r.events) o []) b.1)) both)
 
-  own_run : (i : ℕ) → IsRankRun shape (cs i) (at_in ranks i) (hist_in ranks i)
+  own_run : (i : ℕ) → IsRankRun shape (cs i) (at_in ranks i) (history_of ranks i)
   own_run i = by_rank (slice_get ranks i) (is.lawful.rank_runs i)
     where
       by_rank : (o : Option Ended) → IfSome o (λ r. IsRankRun shape (cs i) r.at r.events) →
@@ -119,7 +119,7 @@ module _ (shape : Sizes) (lines : List PlanLine) (record' : RunRecord) (stand : 
       ∙ get_map (λ (c : Numbered). c.command) (cs i) place.0 place.1 place.2) in
       subst (λ (c : Command). is_named c ≡ true) place.4 told.named
 
-  run : NamedRun shape cs (at_in ranks) (hist_in ranks)
+  run : NamedRun shape cs (at_in ranks) (history_of ranks)
   run = record {
     own = λ i inside. own_run i;
     carried = λ i j inside within. pair_of_ranks _ is.lawful.delivered i j inside within;
@@ -139,12 +139,12 @@ module _ (shape : Sizes) (lines : List PlanLine) (record' : RunRecord) (stand : 
       name_is q = omega arith
 
   walk_of : (i : ℕ) (inside : i < shape.ranks) →
-      IsWalked shape cs (at_in ranks) (hist_in ranks) run lengths i inside (commands_rise i (expand lines))
-      (apart i) [] (hist_in ranks i) [] (cs i)
-  walk_of i inside = walked shape cs (at_in ranks) (hist_in ranks) run lengths i inside
+      IsWalked shape cs (at_in ranks) (history_of ranks) run lengths i inside (commands_rise i (expand lines))
+      (apart i) [] (history_of ranks i) [] (cs i)
+  walk_of i inside = walked shape cs (at_in ranks) (history_of ranks) run lengths i inside
       (commands_rise i (expand lines)) (apart i)
 
-  lasts : (i : ℕ) → i < shape.ranks → (ran : List Done) × Last shape lines (at_in ranks) (hist_in ranks) run lengths
+  lasts : (i : ℕ) → i < shape.ranks → (ran : List Done) × Last shape lines (at_in ranks) (history_of ranks) run lengths
       fine (λ i. commands_rise i (expand lines)) i ran
   lasts i inside = let w = walk_of i inside in (w.list, (inside, commands_rise i (expand lines), apart i, w.last))
 
@@ -157,12 +157,12 @@ module _ (shape : Sizes) (lines : List PlanLine) (record' : RunRecord) (stand : 
       account here in
       let inside : j < shape.ranks = (let low = place_below ranks j _ at' in let n = is.lawful.one_each in
       omega (arith, low, n)) in
-      let events : hist_in ranks j ≡ account.history.events =
+      let events : history_of ranks j ≡ account.history.events =
       ap (λ (o : Option Ended). option_map_or (λ r. r.events) o []) at' in
       let w = walk_of j inside in
       let told : map (λ (d : Done). d.answer) w.list ≡ answers_of account =
       w.told ∙ ap (λ (h : List Event). answers_in h) events ∙ sym (told_answers account.history.events) in
-      let n : ℕ = length (ran_lines (hist_in ranks j)) in
+      let n : ℕ = length (ran_lines (history_of ranks j)) in
       let left : map (λ (d : Done). d.own.command) w.list ++ map (λ (c : Numbered). c.command) (drop n (cs j))
       ≡ own_commands j (expand lines) =
       ap (λ (xs : List Command). xs ++ map (λ (c : Numbered). c.command) (drop n (cs j)))
@@ -172,7 +172,7 @@ module _ (shape : Sizes) (lines : List PlanLine) (record' : RunRecord) (stand : 
       ∙ commands_are j 2 (expand lines) in
       subst (λ (as' : List Answer). AllByRecursion (KeepsPromise lines j)
       (entries (asked_at j (asked_behind [] lines)) [] as')) told
-      (kept_all shape lines (at_in ranks) (hist_in ranks) run lengths fine (λ i. commands_rise i (expand lines)) lasts
+      (kept_all shape lines (at_in ranks) (history_of ranks) run lengths fine (λ i. commands_rise i (expand lines)) lasts
       j inside
       (commands_rise j (expand lines)) (apart j) w.list w.begun (λ front back split. w.states front back split)
       (map (λ (c : Numbered). c.command) (drop n (cs j))) left)

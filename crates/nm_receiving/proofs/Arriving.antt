@@ -20,6 +20,7 @@ use Rattle.nm_history.specs.Selection.{matches}
 use Rattle.nm_history.specs.Sends.{is_ask, posts}
 use Rattle.nm_history.proofs.MatchingLemmas.{matched_pairs-push}
 use Rattle.nm_history.proofs.OnceLemmas.{find_among}
+use Rattle.nm_history.specs.Happens.{at}
 use Rattle.nm_match.specs.Deeds.{history_of}
 use Rattle.nm_match.proofs.StandsLemmas.{first_receive-stands}
 use Rattle.nm_eager.specs.Streams.{Stream, missing}
@@ -33,7 +34,7 @@ use Rattle.nm_receiving.proofs.Coming.{HasCap, came, came_here, newcomer, stood-
 use Rattle.nm_receiving.proofs.Goings.{goes_on, like-push, names_of}
 use Rattle.nm_receiving.proofs.Grants.{Granted_now, grant_among, granted_cases}
 use Rattle.nm_receiving.proofs.Facts.{taken_pair}
-use Rattle.nm_receiving.proofs.Grow.{at, posts_still, taken_now, taken_other}
+use Rattle.nm_receiving.proofs.Grow.{posts_still, taken_now, taken_other}
 use Rattle.nm_receiving.proofs.Lists.{row-same, slice_get-last}
 use Rattle.nm_receiving.proofs.Marking.{marked}
 use Rattle.nm_receiving.proofs.Stood.{Stood, stood_of}

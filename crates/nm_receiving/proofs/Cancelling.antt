@@ -9,13 +9,13 @@ use Rattle.std.proofs.lemmas.List.{length-set}
 use Rattle.std.proofs.lemmas.Option.{slice_get_within}
 use Rattle.nm_history.specs.declared.events.Event.{Event}
 use Rattle.nm_history.specs.declared.events.Happened.TheVariants.{Cancel}
-use Rattle.nm_history.specs.Happens.{happened, is_cancel, is_whole}
+use Rattle.nm_history.specs.Happens.{at, happened, is_cancel, is_whole}
 use Rattle.nm_match.specs.declared.deeds.Deed.{Deed}
 use Rattle.nm_match.specs.Deeds.{Represents, deeds_after}
 use Rattle.nm_match.proofs.StandsLemmas.{stands_push}
 use Rattle.nm_receiving.specs.declared.receipts.Receive.{Receive}
 use Rattle.nm_receiving.specs.Receipts.{ReceivingView, drawn_from, pair_with}
-use Rattle.nm_receiving.proofs.Grow.{at, arrivals_still, happened_now, happened_still}
+use Rattle.nm_receiving.proofs.Grow.{arrivals_still, happened_now, happened_still}
 use Rattle.nm_receiving.proofs.Grow.{message_still, pair_still, pairs_still}
 use Rattle.nm_receiving.proofs.Dues.{due-with}
 use Rattle.nm_receiving.proofs.Stood.{Stood, is_cancelled_at, stood-quiet}

@@ -7,7 +7,7 @@ use Rattle.std.proofs.lemmas.Bool.{cases_eq, true≢false}
 use Rattle.nm_history.specs.declared.events.Event.{Event}
 use Rattle.nm_history.specs.declared.events.Happened.{Happened}
 use Rattle.nm_history.specs.declared.events.Happened.TheVariants.{Arrive, Whole}
-use Rattle.nm_history.specs.Happens.{is_cancel, is_whole}
+use Rattle.nm_history.specs.Happens.{at, is_cancel, is_whole}
 use Rattle.nm_history.specs.Matching.{is_free_message, is_matching, matched_pairs}
 use Rattle.nm_history.specs.Sends.{arrival_of, receive_of}
 use Rattle.nm_history.proofs.MatchingLemmas.{matched_pairs-push_other}
@@ -21,7 +21,7 @@ use Rattle.nm_receiving.specs.Receipts.{ReceivingView}
 use Rattle.nm_receiving.specs.Received.{AreReceived, Preserves}
 use Rattle.nm_receiving.proofs.Events.{right-one, unstamp-one}
 use Rattle.nm_receiving.proofs.Facts.{empty_more}
-use Rattle.nm_receiving.proofs.Grow.{at, happened_later}
+use Rattle.nm_receiving.proofs.Grow.{happened_later}
 use Rattle.nm_receiving.proofs.Stood.{received_of, stood_of}
 use Rattle.std.specs.List.{AllByRecursion, list_any}
 use Rattle.std.specs.Option.{option_and_then}

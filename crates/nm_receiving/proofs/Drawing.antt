@@ -22,6 +22,7 @@ use Rattle.nm_history.specs.Bytes.{pulled_bytes}
 use Rattle.nm_history.specs.Effects.{whole_if}
 use Rattle.nm_history.specs.Pieces.{Due, due_pieces, is_due, piece_makes}
 use Rattle.nm_history.specs.Rules.{AreRight}
+use Rattle.nm_history.specs.Happens.{at}
 use Rattle.nm_rndv.specs.Grants.{Continues, Granted, Granting, came as came_of, due_in, due_of, expected_in}
 use Rattle.nm_rndv.specs.Grants.{first_unfinished, grant_in, grants_from}
 use Rattle.nm_rndv.specs.Grants.{is_open, is_open_in, is_unfinished, joined_by, with_piece}
@@ -39,7 +40,6 @@ use Rattle.nm_receiving.proofs.CameLemmas.{piece-came}
 use Rattle.nm_receiving.proofs.Changing.{keeps-piece}
 use Rattle.nm_receiving.proofs.Events.{same_taken, unstamp-none}
 use Rattle.nm_receiving.proofs.Goings.{goes_on, like-push, names_of}
-use Rattle.nm_receiving.proofs.Grow.{at}
 use Rattle.nm_receiving.proofs.Marking.{marked}
 use Rattle.nm_receiving.proofs.Stood.{stood_of}
 use Rattle.nm_receiving.proofs.TablesMark.{owed-marked, tables-marked}

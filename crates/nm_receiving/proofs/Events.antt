@@ -8,10 +8,10 @@ use Rattle.nm_history.specs.Completion.{is_taken}
 use Rattle.nm_history.specs.Matching.{first_receive, matched_pairs}
 use Rattle.nm_history.specs.Effects.{happenings}
 use Rattle.nm_history.specs.Rules.{AreRight, IsRightAt}
+use Rattle.nm_history.specs.Happens.{at}
 use Rattle.nm_match.specs.declared.deeds.Deed.{Deed}
 use Rattle.nm_match.specs.Deeds.{Represents}
 use Rattle.nm_match.proofs.StandsLemmas.{first_receive-stands, taken-stands}
-use Rattle.nm_receiving.proofs.Grow.{at}
 
 -- no event
 pub unstamp-none : (P : List Event → Type 0) (events : List Event) → P [] → happenings events ≡ [] → P events

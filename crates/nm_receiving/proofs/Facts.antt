@@ -17,7 +17,7 @@ use Rattle.nm_history.specs.declared.events.Happened.TheVariants.{Arrive}
 use Rattle.nm_history.specs.declared.plain.Pair.{Pair}
 use Rattle.nm_history.specs.AtEach.{AtEach, AtEachAfter}
 use Rattle.nm_history.specs.Completion.{is_taken}
-use Rattle.nm_history.specs.Happens.{happened, is_arrival, is_claim, is_whole}
+use Rattle.nm_history.specs.Happens.{at, happened, is_arrival, is_claim, is_whole}
 use Rattle.nm_history.specs.Matching.{first_message, is_claimed, is_free, is_of_message, matched_pairs}
 use Rattle.nm_history.specs.Once.{IsOfReceive}
 use Rattle.nm_history.specs.RankRun.{Always, NumberAt, is_asking}
@@ -34,7 +34,7 @@ use Rattle.nm_match.specs.Deeds.{is_known_message}
 use Rattle.nm_match.proofs.NumberLemmas.{is_known_message-arrived, messages_numbered}
 use Rattle.nm_match.proofs.QueueLemmas.{free_means}
 use Rattle.nm_receiving.specs.Receipts.{is_empty_ask}
-use Rattle.nm_receiving.proofs.Grow.{at, message_more, messages_still}
+use Rattle.nm_receiving.proofs.Grow.{message_more, messages_still}
 use Rattle.nm_receiving.proofs.Lists.{any_from_found, find-still}
 use Rattle.nm_types.proofs.ListLemmas.{all_append, all_along, find_passes, find_nothing, find_some}
 use Rattle.nm_types.proofs.NumberLemmas.{same_number}

@@ -13,7 +13,7 @@ use Rattle.nm_types.specs.declared.messages.Peer.{Peer}
 use Rattle.nm_types.specs.declared.messages.TagPick.{TagPick}
 use Rattle.nm_history.specs.declared.events.Event.{Event}
 use Rattle.nm_history.specs.declared.events.Happened.TheVariants.{Cancel, Claim, Withdraw}
-use Rattle.nm_history.specs.Happens.{happened, is_arrival, is_withdraw}
+use Rattle.nm_history.specs.Happens.{at, happened, is_arrival, is_withdraw}
 use Rattle.nm_history.specs.Matching.{first_message, is_free, is_free_message, is_matching, is_of_receive}
 use Rattle.nm_history.specs.Matching.{matched_pairs}
 use Rattle.nm_history.specs.Selection.{matches}
@@ -39,7 +39,7 @@ use Rattle.nm_receiving.proofs.Changing.{keeps-cancelled, keeps-claim, keeps-dee
 use Rattle.nm_receiving.proofs.Coming.{newcomer}
 use Rattle.nm_receiving.proofs.Events.{right-one}
 use Rattle.nm_receiving.proofs.Facts.{arrived_from, message_name}
-use Rattle.nm_receiving.proofs.Grow.{at, posts_still}
+use Rattle.nm_receiving.proofs.Grow.{posts_still}
 use Rattle.nm_receiving.proofs.Stood.{with_deeds}
 use Rattle.nm_receiving.proofs.TablesMark.{IsLike}
 use Rattle.nm_types.proofs.ListLemmas.{find_passes}

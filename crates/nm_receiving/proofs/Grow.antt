@@ -18,7 +18,7 @@ use Rattle.nm_history.specs.declared.events.Happened.{Happened}
 use Rattle.nm_history.specs.declared.events.Happened.TheVariants.{Arrive}
 use Rattle.nm_history.specs.declared.plain.Pair.{Pair}
 use Rattle.nm_history.specs.Completion.{pair_of_receive, is_taken}
-use Rattle.nm_history.specs.Happens.{happened}
+use Rattle.nm_history.specs.Happens.{at, happened}
 use Rattle.nm_history.specs.Matching.{is_matching, is_of_message, is_of_receive, matched_pairs}
 use Rattle.nm_history.specs.Sends.{Arrived, arrivals, arrival_of, arrived_of, messages, message_of, posts, post_of}
 use Rattle.nm_history.proofs.MatchingLemmas.{matched_pairs-push_other}
@@ -27,10 +27,6 @@ use Rattle.nm_history.specs.Pieces.{granted, is_granted}
 use Rattle.nm_receiving.proofs.Lists.{find-first_more, find-none_more}
 use Rattle.nm_types.proofs.NumberLemmas.{unequal, eq_true}
 use Rattle.nm_history.proofs.AppendLemmas.{happened-push}
-
--- what happened, with its stamp
-abbrev pub at : ℕ → Happened → Event
-at stamp what = record { stamp = stamp; what = what }
 
 no_arrived : (stamp : ℕ) (what : Happened) → arrival_of what ≡ None → arrived_of stamp what ≡ None
 no_arrived stamp (Arrive a) none = absurd (let h' : ⊥ = cc in h')

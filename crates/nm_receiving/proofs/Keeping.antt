@@ -9,7 +9,7 @@ use Rattle.nm_history.specs.declared.events.Happened.{Happened}
 use Rattle.nm_history.specs.declared.events.Happened.TheVariants.{Whole}
 use Rattle.nm_history.specs.declared.plain.Pair.{Pair}
 use Rattle.nm_history.specs.Completion.{is_taken}
-use Rattle.nm_history.specs.Happens.{happened, is_arrival, is_cancel, is_whole}
+use Rattle.nm_history.specs.Happens.{at, happened, is_arrival, is_cancel, is_whole}
 use Rattle.nm_history.specs.Matching.{matched_pairs, new_pair}
 use Rattle.nm_history.specs.RankRun.{is_asking}
 use Rattle.nm_history.specs.Sends.{arrival_of, message_of, receive_of}
@@ -25,7 +25,7 @@ use Rattle.nm_receiving.specs.Steps.{rows_after, rows_with, rows_with_whole}
 use Rattle.nm_receiving.proofs.Dues.{pair}
 use Rattle.nm_receiving.proofs.Events.{right-one, right-two, unstamp-one, unstamp-two}
 use Rattle.nm_receiving.proofs.Facts.{arrived_from, empty_more}
-use Rattle.nm_receiving.proofs.Grow.{at, happened_later, happened_now, happened_still, taken_now}
+use Rattle.nm_receiving.proofs.Grow.{happened_later, happened_now, happened_still, taken_now}
 use Rattle.nm_receiving.proofs.Marking.{marked, stood-marked}
 use Rattle.nm_receiving.proofs.Stood.{Stood, begun, is_whole_at, received_of, stood-begun, stood_of}
 use Rattle.nm_types.proofs.NumberLemmas.{eq_true}

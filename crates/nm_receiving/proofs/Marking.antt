@@ -9,13 +9,13 @@ use Rattle.std.proofs.lemmas.List.{length-set}
 use Rattle.std.proofs.lemmas.Option.{slice_get_within}
 use Rattle.nm_history.specs.declared.events.Event.{Event}
 use Rattle.nm_history.specs.declared.events.Happened.TheVariants.{Whole}
-use Rattle.nm_history.specs.Happens.{happened, is_cancel, is_whole}
+use Rattle.nm_history.specs.Happens.{at, happened, is_cancel, is_whole}
 use Rattle.nm_match.proofs.StandsLemmas.{stands_push}
 use Rattle.nm_receiving.specs.declared.receipts.Receipt.{Receipt}
 use Rattle.nm_receiving.specs.Receipts.{ReceivingView, receipts_from, receipt_of, drawn_from}
 use Rattle.nm_receiving.specs.Steps.{made_whole, rows_with_whole, with_whole}
 use Rattle.nm_receiving.proofs.Dues.{due-with}
-use Rattle.nm_receiving.proofs.Grow.{at, arrivals_still, happened_now, happened_still}
+use Rattle.nm_receiving.proofs.Grow.{arrivals_still, happened_now, happened_still}
 use Rattle.nm_receiving.proofs.Grow.{message_still, pair_still, pairs_still}
 use Rattle.nm_receiving.proofs.Lists.{row-other, row-same}
 use Rattle.nm_receiving.proofs.Lists.{row_inside}

@@ -24,6 +24,7 @@ use Rattle.nm_history.specs.declared.events.Happened.TheVariants.{Arrive, Whole}
 use Rattle.nm_history.specs.Matching.{first_receive, matched_pairs}
 use Rattle.nm_history.specs.Sends.{is_ask}
 use Rattle.nm_history.specs.Effects.{packet_events, whole_if}
+use Rattle.nm_history.specs.Happens.{at}
 use Rattle.nm_match.specs.declared.deeds.Deed.{Deed}
 use Rattle.nm_match.specs.declared.deeds.Deed.TheVariants as deed
 use Rattle.nm_match.specs.Deeds.{history_of}
@@ -42,7 +43,6 @@ use Rattle.nm_receiving.proofs.Arriving.{came_may_mark, kept-came, none_granted_
 use Rattle.nm_receiving.proofs.Grants.{grant_new, granted_new}
 use Rattle.nm_receiving.proofs.Coming.{came, newcomer, taken_by, with_newcomer}
 use Rattle.nm_receiving.proofs.Goings.{goes_on, like-push, names_of}
-use Rattle.nm_receiving.proofs.Grow.{at}
 use Rattle.nm_receiving.proofs.Joinings.{begun_joined, begun_longer, begun_missing, skipped_longer, skipped_missing}
 use Rattle.nm_receiving.proofs.Lists.{row-same, slice_get-last, some_from}
 use Rattle.nm_receiving.proofs.Marking.{marked}

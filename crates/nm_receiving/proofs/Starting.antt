@@ -13,7 +13,7 @@ use Rattle.nm_history.specs.declared.events.Event.{Event}
 use Rattle.nm_history.specs.declared.events.Happened.{Happened}
 use Rattle.nm_history.specs.declared.events.Happened.TheVariants.{Match, Post, Whole}
 use Rattle.nm_history.specs.Completion.{is_taken}
-use Rattle.nm_history.specs.Happens.{happened, is_withdraw}
+use Rattle.nm_history.specs.Happens.{at, happened, is_withdraw}
 use Rattle.nm_history.specs.Matching.{first_message, is_claimed, matched_pairs}
 use Rattle.nm_history.specs.Sends.{is_ask, message_of, posts, post_of}
 use Rattle.nm_history.proofs.OnceLemmas.{posts-push}
@@ -33,7 +33,7 @@ use Rattle.nm_receiving.proofs.Dues.{pair}
 use Rattle.nm_receiving.proofs.Facts.{IsTakeable, claimed_takeable, first_takeable, right_named}
 use Rattle.nm_receiving.proofs.Goings.{goes_on, like-push}
 use Rattle.nm_receiving.proofs.Grants.{grant_new, granted_new}
-use Rattle.nm_receiving.proofs.Grow.{at, taken_now}
+use Rattle.nm_receiving.proofs.Grow.{taken_now}
 use Rattle.nm_receiving.proofs.Keeping.{IsBegin, MayBegin, begun_stood, grown, keeps-begun}
 use Rattle.nm_receiving.proofs.Lists.{some_from}
 use Rattle.nm_receiving.proofs.Marking.{marked}

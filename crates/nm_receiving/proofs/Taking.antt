@@ -9,7 +9,7 @@ use Rattle.nm_history.specs.declared.events.Event.{Event}
 use Rattle.nm_history.specs.declared.events.Happened.TheVariants.{Arrive, Whole}
 use Rattle.nm_history.specs.declared.plain.Pair.{Pair}
 use Rattle.nm_history.specs.Completion.{is_taken}
-use Rattle.nm_history.specs.Happens.{happened, is_arrival, is_whole}
+use Rattle.nm_history.specs.Happens.{at, happened, is_arrival, is_whole}
 use Rattle.nm_history.specs.Matching.{first_receive, matched_pairs, pair_of}
 use Rattle.nm_history.specs.RankRun.{is_asking}
 use Rattle.nm_history.specs.Sends.{is_ask, message_of}
@@ -25,7 +25,7 @@ use Rattle.nm_receiving.specs.Steps.{rows_with_whole}
 use Rattle.nm_receiving.proofs.Coming.{HasCap, came, came_here, newcomer, stood-came}
 use Rattle.nm_receiving.proofs.Events.{right-one, right-two, unstamp-none, unstamp-one, unstamp-two}
 use Rattle.nm_receiving.proofs.Facts.{arrived_from, asking_is, empty_more, right_named}
-use Rattle.nm_receiving.proofs.Grow.{at, happened_later, happened_now, happened_still, taken_now}
+use Rattle.nm_receiving.proofs.Grow.{happened_later, happened_now, happened_still, taken_now}
 use Rattle.nm_receiving.proofs.Marking.{marked, stood-marked}
 use Rattle.nm_receiving.proofs.Stood.{Stood, is_whole_at, received_of, stood_of}
 use Rattle.nm_receiving.proofs.Keeping.{right-whole}

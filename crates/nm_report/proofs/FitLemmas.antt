@@ -16,11 +16,10 @@ use Rattle.nm_types.specs.declared.answers.Answer.{Answer}
 use Rattle.nm_types.specs.declared.answers.Answer.TheVariants as answer
 use Rattle.nm_types.specs.declared.limits.TheConstants.{MAX_BODY}
 use Rattle.nm_types.specs.declared.messages.Arrival.{Arrival}
-use Rattle.nm_types.specs.declared.scripts.Body.{Body}
 use Rattle.nm_types.specs.declared.scripts.Command.{Command}
 use Rattle.nm_types.specs.declared.scripts.Command.TheVariants as command
 use Rattle.nm_types.specs.declared.scripts.Line.{Line}
-use Rattle.nm_types.specs.Bodies.{HaveTheirLength, body_len, bytes_of}
+use Rattle.nm_types.specs.Bodies.{HaveTheirLength, body_len}
 use Rattle.nm_types.specs.Commands.{Numbered, command_at, commands_from, commands_of}
 use Rattle.nm_types.specs.Limits.{IsScript, is_in_range}
 use Rattle.nm_types.specs.Sizes.{Sizes}

@@ -1,5 +1,5 @@
 -- What follows from the variant of an answer.
-use Rattle.std.proofs.Common.{◌≡◌, Result, Ok, Err, Option, Some, None, OnOk, OnErr, IsSome, IfSome}
+use Rattle.std.proofs.Common.{◌≡◌, Result, Ok, Err, Option, Some, None, OnOk, IsSome, IfSome}
 use Rattle.std.proofs.Common.{MutBor, refl, subst}
 use Rattle.std.specs.Option.{option_copied_mut}
 

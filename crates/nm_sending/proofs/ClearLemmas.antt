@@ -15,8 +15,9 @@ use Rattle.nm_history.specs.Delivery.{is_asked}
 use Rattle.nm_history.specs.Sends.{sends, is_ask}
 use Rattle.nm_history.specs.Clearance.{pushed_out}
 use Rattle.nm_history.proofs.Basic.{or_true, refuted}
-use Rattle.nm_history.specs.Continues.{has}
+use Rattle.nm_history.specs.Continues.{AreApart, has}
 use Rattle.nm_history.specs.Effects.{is_empty_send}
+use Rattle.nm_history.specs.Happens.{at}
 use Rattle.nm_rndv.specs.Cuts.{start_of}
 use Rattle.nm_rndv.specs.declared.asked.State.{State}
 use Rattle.nm_rndv.specs.declared.asked.State.TheVariants.{Asked, Cleared, Out, Withdrawn}
@@ -28,14 +29,14 @@ use Rattle.nm_sending.specs.declared.departures.Departure.{Departure}
 use Rattle.nm_sending.specs.Departures.{SendingView, with_departure, departure_of, passes, was_undone}
 use Rattle.nm_sending.specs.Departures.{cleared_to}
 use Rattle.nm_sending.specs.Sent.{AreSent, Preserves, MayBeCleared}
-use Rattle.nm_sending.specs.Tables.{TablesAgree, AreApart, IsOffer, IsOfferBy, IsStateOf, allowance, allowed}
+use Rattle.nm_sending.specs.Tables.{TablesAgree, IsOffer, IsOfferBy, IsStateOf, allowance, allowed}
 use Rattle.nm_sending.proofs.EventLemmas.{left_none, sends-same, pushed_out-same}
 use Rattle.nm_sending.proofs.LeavingLemmas.{turn-clear}
 use Rattle.nm_sending.proofs.PlaceLemmas.{eq_swap}
 use Rattle.nm_sending.proofs.OfferLemmas.{state-stepped, states-change, read-stay, allowed-set}
 use Rattle.nm_sending.proofs.PieceLemmas.{allowed-step}
 use Rattle.nm_sending.proofs.PopLemmas.{asked_waits}
-use Rattle.nm_sending.proofs.SentLemmas.{at, keeps-one, keeps-none, right-out, sent-out, sent-offers}
+use Rattle.nm_sending.proofs.SentLemmas.{keeps-one, keeps-none, right-out, sent-out, sent-offers}
 use Rattle.nm_sending.proofs.TableLemmas.{Change, change-steps, change-lens, change-waiting}
 use Rattle.nm_sending.proofs.TableLemmas.{change-none, row_there}
 use Rattle.nm_sending.proofs.TableLemmas.{tables-change, asked-states, recalls-still, unanswered-at, is_at}

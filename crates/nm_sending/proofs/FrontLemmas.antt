@@ -15,6 +15,7 @@ use Rattle.nm_history.specs.declared.events.Happened.TheVariants.{Out}
 use Rattle.nm_history.specs.Sends.{sends, is_ask}
 use Rattle.nm_history.proofs.Basic.{self_true, or_false}
 use Rattle.nm_history.specs.Continues.{has}
+use Rattle.nm_history.specs.Happens.{at}
 use Rattle.nm_rndv.specs.declared.asked.State.{State}
 use Rattle.nm_rndv.specs.Offers.{state_of, recall_in, destined}
 use Rattle.nm_sending.specs.Letters.{Letter}
@@ -29,7 +30,7 @@ use Rattle.std.proofs.lemmas.List.{length-set}
 use Rattle.nm_sending.proofs.EndLemmas.{ends-none}
 use Rattle.nm_sending.proofs.EventLemmas.{left_none, sends-same, pushed_out-same}
 use Rattle.nm_sending.proofs.LeavingLemmas.{turn-still}
-use Rattle.nm_sending.proofs.SentLemmas.{at, keeps-one, right-out, sent-out}
+use Rattle.nm_sending.proofs.SentLemmas.{keeps-one, right-out, sent-out}
 use Rattle.nm_sending.proofs.TableLemmas.{Change, change-row, change-steps, change-lens, row_there}
 use Rattle.nm_sending.proofs.TableLemmas.{states-step}
 use Rattle.nm_sending.proofs.TableLemmas.{tables-change, unchanged, or_nothing, is_at, out-counted}

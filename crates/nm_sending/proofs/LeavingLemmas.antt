@@ -7,11 +7,10 @@ use Rattle.nm_history.specs.declared.events.Event.{Event}
 use Rattle.nm_history.specs.Sends.{Sent, sends}
 use Rattle.nm_history.proofs.Basic.{self_true}
 use Rattle.nm_history.specs.Clearance.{pushed_out}
-use Rattle.nm_history.specs.Continues.{has}
+use Rattle.nm_history.specs.Continues.{AreApart, has}
 use Rattle.nm_history.specs.Effects.{is_empty_send}
 use Rattle.nm_rndv.specs.Offers.{leaves, first_leaving}
 use Rattle.nm_sending.specs.Departures.{SendingView, cleared_to, leaving_to}
-use Rattle.nm_sending.specs.Tables.{AreApart}
 use Rattle.nm_sending.proofs.TurnLemmas.{InTurn, numbers_to, numbers-push, filter-apart, filter-without}
 use Rattle.nm_sending.proofs.TurnLemmas.{first_of_rank}
 use Rattle.nm_types.proofs.NumberLemmas.{same_number}

@@ -18,6 +18,7 @@ use Rattle.nm_history.proofs.Basic.{or_false}
 use Rattle.nm_history.specs.Clearance.{pushed_out}
 use Rattle.nm_history.specs.Continues.{has}
 use Rattle.nm_history.specs.Effects.{is_empty_send}
+use Rattle.nm_history.specs.Happens.{at}
 use Rattle.nm_rndv.specs.Cuts.{Cut, rest_of}
 use Rattle.nm_rndv.specs.declared.asked.State.{State}
 use Rattle.nm_rndv.specs.declared.asked.State.TheVariants.{Cleared}
@@ -37,7 +38,7 @@ use Rattle.nm_sending.proofs.LeavingLemmas.{turn-still, turn-pop}
 use Rattle.nm_sending.proofs.OfferLemmas.{state-stepped, states-change}
 use Rattle.nm_sending.proofs.PieceLemmas.{Leads, is_leading, leads, leads_within, allowed-step, allowed-at}
 use Rattle.nm_sending.proofs.PlaceLemmas.{row-set}
-use Rattle.nm_sending.proofs.SentLemmas.{at, keeps-one, keeps-none, right-out, sent-out, sent-offers}
+use Rattle.nm_sending.proofs.SentLemmas.{keeps-one, keeps-none, right-out, sent-out, sent-offers}
 use Rattle.nm_sending.proofs.TableLemmas.{Change, change-steps, change-lens, change-waiting}
 use Rattle.nm_sending.proofs.TableLemmas.{change-none, row_there}
 use Rattle.nm_sending.proofs.TableLemmas.{tables-change, asked-states, recalls-still, unanswered-at, is_at}

@@ -11,6 +11,7 @@ use Rattle.nm_history.specs.declared.events.Event.{Event}
 use Rattle.nm_history.specs.declared.events.Happened.TheVariants.{Recall}
 use Rattle.nm_history.proofs.Basic.{or_false}
 use Rattle.nm_history.specs.Continues.{has}
+use Rattle.nm_history.specs.Happens.{at}
 use Rattle.nm_rndv.specs.declared.asked.State.{State}
 use Rattle.nm_rndv.specs.declared.asked.State.TheVariants.{Asked, Cleared, Out, Withdrawn}
 use Rattle.nm_rndv.specs.Offers.{Destined, destined, state_of}
@@ -25,7 +26,7 @@ use Rattle.nm_sending.specs.Tables.{TablesAgree, IsOffer, IsOfferBy, recall_of}
 use Rattle.nm_sending.proofs.EventLemmas.{sends-same, pushed_out-same}
 use Rattle.nm_sending.proofs.LeavingLemmas.{turn-still}
 use Rattle.nm_sending.proofs.OfferLemmas.{states-stay, read-change, recall-recalled, allowed-set}
-use Rattle.nm_sending.proofs.SentLemmas.{at, keeps-one, right-recall, sent-recall}
+use Rattle.nm_sending.proofs.SentLemmas.{keeps-one, right-recall, sent-recall}
 use Rattle.nm_sending.proofs.TableLemmas.{Change, change-steps, change-lens, change-waiting, row_there}
 use Rattle.nm_sending.proofs.TableLemmas.{tables-change, states-step, unanswered-at, unchanged}
 use Rattle.nm_sending.proofs.TableLemmas.{or_nothing, is_at}

@@ -24,12 +24,12 @@ use Rattle.nm_history.specs.declared.events.Event.{Event}
 use Rattle.nm_history.specs.declared.events.Happened.{Happened}
 use Rattle.nm_history.specs.declared.events.Happened.TheVariants.{Send, Out}
 use Rattle.nm_history.specs.Delivery.{is_asked}
-use Rattle.nm_history.specs.Happens.{happened, is_send, is_out, is_recall, is_undone}
+use Rattle.nm_history.specs.Happens.{happened, is_send, is_out, is_recall, is_undone, at}
 use Rattle.nm_history.specs.Sends.{Sent, sends, is_ask}
 use Rattle.nm_history.proofs.DeliveryLemmas.{sends-push}
 use Rattle.nm_history.proofs.Basic.{or_false}
 use Rattle.nm_history.specs.Clearance.{left_of, pushed_out}
-use Rattle.nm_history.specs.Continues.{has}
+use Rattle.nm_history.specs.Continues.{AreApart, has}
 use Rattle.nm_history.specs.Effects.{is_empty_send}
 use Rattle.nm_history.specs.Rules.{IsRightAt}
 use Rattle.nm_rndv.specs.declared.asked.State.{State}
@@ -44,12 +44,12 @@ use Rattle.nm_sending.specs.Departures.{SendingView, fresh, row_of, departures_t
 use Rattle.nm_sending.specs.Departures.{passes, was_undone}
 use Rattle.nm_sending.specs.Departures.{cleared_to, leaving_to, pushed_to, ends_to}
 use Rattle.nm_sending.specs.Sent.{AreSent, Preserves}
-use Rattle.nm_sending.specs.Tables.{TablesAgree, AreApart, IsOffer, IsOfferBy, allowance, allowed}
+use Rattle.nm_sending.specs.Tables.{TablesAgree, IsOffer, IsOfferBy, allowance, allowed}
 use Rattle.nm_sending.specs.Tables.{recall_of, waiting_from}
 use Rattle.nm_sending.proofs.OfferLemmas.{state-asked, states-change, read-stay}
 use Rattle.nm_sending.proofs.PlaceLemmas.{Steps, eq_swap, row-set, departure-push, length-departure_push}
 use Rattle.nm_sending.proofs.PlaceLemmas.{passes-step, passes-more, passes-same}
-use Rattle.nm_sending.proofs.SentLemmas.{at, keeps-one}
+use Rattle.nm_sending.proofs.SentLemmas.{keeps-one}
 use Rattle.nm_sending.proofs.TableLemmas.{is_at, at_place, unchanged, or_nothing, states-step, recalls-step}
 use Rattle.nm_sending.proofs.TableLemmas.{unanswered-step}
 use Rattle.nm_sending.proofs.TurnLemmas.{InTurn, filter-apart}

@@ -8,7 +8,7 @@ use Rattle.nm_history.specs.declared.events.Event.{Event}
 use Rattle.nm_history.specs.declared.events.Happened.{Happened}
 use Rattle.nm_history.specs.declared.events.Happened.TheVariants.{Out, Recall, Undone}
 use Rattle.nm_history.specs.Delivery.{is_asked}
-use Rattle.nm_history.specs.Happens.{happened, is_send, is_out, is_recall, is_undone, is_same}
+use Rattle.nm_history.specs.Happens.{happened, is_send, is_out, is_recall, is_undone, is_same, at}
 use Rattle.nm_history.specs.Sends.{Sent, sent_of, is_ask}
 use Rattle.nm_history.proofs.Basic.{or_false}
 use Rattle.nm_history.specs.Rules.{IsRightAt}
@@ -21,10 +21,6 @@ use Rattle.nm_sending.proofs.EventLemmas.{sends-same}
 use Rattle.nm_sending.proofs.PlaceLemmas.{Steps, passes-step, passes-more, passes-same}
 use Rattle.nm_sending.proofs.TurnLemmas.{InTurn}
 use Rattle.nm_history.proofs.AppendLemmas.{happened-push}
-
--- what happened, with this stamp
-abbrev pub at : ℕ → Happened → Event
-at stamp what = record { stamp = stamp; what = what }
 
 -- what one event goes with
 pub keeps-one : (old new : SendingView) (w : Happened)

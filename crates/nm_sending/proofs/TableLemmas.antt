@@ -17,7 +17,7 @@ use Rattle.std.proofs.lemmas.List.{get_or_past, length-set, set-get_or}
 use Rattle.nm_sending.specs.Outboxes.{OutboxView}
 use Rattle.std.proofs.lemmas.Option.{slice_get_within, get_or_from_slice_get}
 use Rattle.nm_history.proofs.Basic.{or_false}
-use Rattle.nm_history.specs.Continues.{has}
+use Rattle.nm_history.specs.Continues.{AreApart, has}
 use Rattle.nm_rndv.specs.declared.asked.State.{State}
 use Rattle.nm_rndv.specs.Offers.{destined, recall_in, state_of}
 use Rattle.nm_sending.specs.declared.TheConstants.{MAX_MESSAGES}
@@ -26,7 +26,7 @@ use Rattle.nm_sending.specs.Departures.{SendingView, row_of, with_departure, dep
 use Rattle.nm_sending.specs.Departures.{departure_of, passes}
 use Rattle.nm_sending.specs.Departures.{pushed_to, cleared_to, ends_to}
 use Rattle.nm_sending.specs.Tables.{IsOfferBy, IsStateOf}
-use Rattle.nm_sending.specs.Tables.{TablesAgree, AreApart, IsOffer, allowed, recall_of, waiting_from, waits}
+use Rattle.nm_sending.specs.Tables.{TablesAgree, IsOffer, allowed, recall_of, waiting_from, waits}
 use Rattle.nm_sending.proofs.PlaceLemmas.{Steps, row-set, departure-set, length-departure_set}
 use Rattle.nm_sending.proofs.WaitingLemmas.{staying_in, weight, staying-set, waiting-set}
 use Rattle.nm_types.proofs.NumberLemmas.{same_number}

@@ -8,11 +8,10 @@ use Rattle.std.proofs.lemmas.List.Folds.{list_any-append}
 use Rattle.nm_history.specs.declared.events.Event.{Event}
 use Rattle.nm_history.proofs.Basic.{self_true}
 use Rattle.nm_history.specs.Clearance.{pushed_out}
-use Rattle.nm_history.specs.Continues.{has}
+use Rattle.nm_history.specs.Continues.{AreApart, has}
 use Rattle.nm_history.specs.Effects.{is_empty_send}
 use Rattle.nm_rndv.specs.Offers.{Destined, leaves}
 use Rattle.nm_sending.specs.Departures.{SendingView, cleared_to, leaving_to}
-use Rattle.nm_sending.specs.Tables.{AreApart}
 use Rattle.nm_types.proofs.NumberLemmas.{same_number}
 
 -- the messages that were cleared left in turn

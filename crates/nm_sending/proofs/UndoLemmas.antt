@@ -11,7 +11,7 @@ use Rattle.nm_types.specs.declared.messages.How.{How}
 use Rattle.nm_types.specs.declared.messages.How.TheVariants.{Eager, Ask}
 use Rattle.nm_history.specs.declared.events.Event.{Event}
 use Rattle.nm_history.specs.declared.events.Happened.TheVariants.{Undone}
-use Rattle.nm_history.specs.Happens.{is_same}
+use Rattle.nm_history.specs.Happens.{at, is_same}
 use Rattle.nm_history.proofs.Basic.{or_false}
 use Rattle.nm_history.specs.Continues.{has}
 use Rattle.nm_rndv.specs.declared.asked.State.{State}
@@ -33,7 +33,7 @@ use Rattle.nm_sending.proofs.OfferLemmas.{state-stepped, read-change}
 use Rattle.nm_sending.proofs.OfferLemmas.{recall-answered}
 use Rattle.nm_sending.proofs.OfferLemmas.{allowed-set}
 use Rattle.nm_sending.proofs.PieceLemmas.{allowed-step}
-use Rattle.nm_sending.proofs.SentLemmas.{at, keeps-one, right-undone, sent-undone}
+use Rattle.nm_sending.proofs.SentLemmas.{keeps-one, right-undone, sent-undone}
 use Rattle.nm_sending.proofs.TableLemmas.{Change, change-steps, change-lens, change-waiting, row_there}
 use Rattle.nm_sending.proofs.TableLemmas.{tables-change, states-step, or_nothing, is_at, at_place}
 use Rattle.nm_types.proofs.NumberLemmas.{same_number}

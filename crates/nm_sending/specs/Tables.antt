@@ -8,7 +8,7 @@ use Rattle.nm_types.specs.declared.limits.TheConstants.{MAX_BODY, MAX_PIECE}
 use Rattle.nm_types.specs.declared.messages.How.{How}
 use Rattle.nm_types.specs.declared.messages.How.TheVariants.{Eager, Ask}
 use Rattle.nm_history.specs.Sends.{is_ask}
-use Rattle.nm_history.specs.Continues.{has}
+use Rattle.nm_history.specs.Continues.{AreApart, has}
 use Rattle.nm_rndv.specs.declared.asked.State.{State}
 use Rattle.nm_rndv.specs.declared.asked.State.TheVariants.{Asked, Cleared, Out, Withdrawn}
 use Rattle.nm_rndv.specs.Offers.{Destined, destined, recall_in, state_of}
@@ -53,11 +53,6 @@ IsOffer (Some d) cleared state = IsOfferBy d.how d cleared state
 -- the recall of a message, with its answer if there is one
 abbrev pub recall_of : Departure → Option (Option Bool)
 recall_of d = if d.recalled then Some d.undone else None
-
--- no number is twice among these
-abbrev pub AreApart : List ℕ → Type 0
-AreApart [] = Unit {0}
-AreApart (n ∷ ns) = (has ns n ≡ false) × AreApart ns
 
 -- how many pieces a message may still push at most
 abbrev pub allowance : State → ℕ

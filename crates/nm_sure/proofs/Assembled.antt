@@ -15,7 +15,7 @@ use Rattle.nm_types.specs.Limits.{IsScript, is_in_range}
 use Rattle.nm_types.specs.Sizes.{Sizes}
 use Rattle.nm_history.specs.declared.events.Event.{Event}
 use Rattle.nm_history.specs.Answers.{can_go_on}
-use Rattle.nm_history.specs.Quiescence.{EachPair, EachRank, Ended, Packets, IsStopped}
+use Rattle.nm_history.specs.Quiescence.{EachPair, EachRank, Ended, Packets, IsStopped, history_of}
 use Rattle.nm_history.specs.RankRun.{IsRankRun}
 use Rattle.nm_history.specs.Run.{IsRunOf}
 use Rattle.nm_sure.specs.Agree.{ArePlain}
@@ -82,15 +82,12 @@ within_range ranks (command.Mrecv q m cap) fine = tt
 abbrev pub at_in : List Ended → ℕ → ℕ
 at_in ranks i = option_map_or (λ r. r.at) (slice_get ranks i) 0
 
-abbrev pub hist_in : List Ended → ℕ → List Event
-hist_in ranks i = option_map_or (λ r. r.events) (slice_get ranks i) []
-
 module _ (shape : Sizes) (lines : List Line) (ranks : List Ended) (packets : List Packets) (stand : StandAtLines)
     (begins : Begins)
     (script : IsScript shape.ranks lines) (plain : ArePlain lines) (lawful : IsRunOf shape lines ranks packets) where
   pair_of_ranks : (R : ℕ → ℕ → List Event → List Event → Type 0) → EachPair R ranks → (i j : ℕ) → i < shape.ranks →
       j < shape.ranks →
-      R i j (hist_in ranks i) (hist_in ranks j)
+      R i j (history_of ranks i) (history_of ranks j)
   pair_of_ranks R each i j inside within =
       let low : i < length ranks = (let n = lawful.one_each in omega (arith, inside, n)) in
       let near : j < length ranks = (let n = lawful.one_each in omega (arith, within, n)) in
@@ -100,12 +97,12 @@ module _ (shape : Sizes) (lines : List Line) (ranks : List Ended) (packets : Lis
       if_some (λ (b : Ended). R i j a.0.events b.events) (slice_get ranks j) b.0 b.1
       (if_some (λ (a : Ended). EachRank (λ j b. R i j a.events b.events) ranks) (slice_get ranks i) a.0 a.1
       (each i) j) in
-      subst (λ (h : List Event). R i j h (hist_in ranks j))
+      subst (λ (h : List Event). R i j h (history_of ranks j))
       (sym (ap (λ (o : Option Ended). option_map_or (λ r. r.events) o []) a.1))
       (subst (λ (h : List Event). R i j a.0.events h)
       (sym (ap (λ (o : Option Ended). option_map_or (λ r. r.events) o []) b.1)) both)
 
-  own_run : (i : ℕ) → IsRankRun shape (commands_of i lines) (at_in ranks i) (hist_in ranks i)
+  own_run : (i : ℕ) → IsRankRun shape (commands_of i lines) (at_in ranks i) (history_of ranks i)
   own_run i = by_rank (slice_get ranks i) (lawful.rank_runs i)
     where
       by_rank : (o : Option Ended) → IfSome o (λ r. IsRankRun shape (commands_of i lines) r.at r.events) →
@@ -124,7 +121,7 @@ module _ (shape : Sizes) (lines : List Line) (ranks : List Ended) (packets : Lis
       )
 
   waits_in : (i : ℕ) (c : Numbered) → slice_get (commands_of i lines) (at_in ranks i) ≡ Some c →
-      can_go_on (commands_of i lines) (hist_in ranks i) c.command ≡ false
+      can_go_on (commands_of i lines) (history_of ranks i) c.command ≡ false
   waits_in i c here =
       let inside = (peers_in i c.line c.command (stand i lines (at_in ranks i) c here)).0 in
       by_rank (slice_get ranks i) refl (lawful.quiescent.waits i) here
@@ -147,7 +144,7 @@ module _ (shape : Sizes) (lines : List Line) (ranks : List Ended) (packets : Lis
           absurd (no_some some.0 (sym none ∙ some.1))
       by_rank (Some r) some holds here = stops r (slice_get (commands_of i lines) r.at) here holds
 
-  pub assembled : PlainRun shape lines (at_in ranks) (hist_in ranks)
+  pub assembled : PlainRun shape lines (at_in ranks) (history_of ranks)
   assembled = record {
     own = own_run;
     carried = λ i j inside within. pair_of_ranks _ lawful.delivered i j inside within;
@@ -175,8 +172,8 @@ module _ (shape : Sizes) (lines : List Line) (ranks : List Ended) (packets : Lis
   -- each rank gets just as far as in the plain run
   pub as_far : (i : ℕ) → at_in ranks i ≡ at_of (plain_end shape.eager shape.ranks lines) i
   as_far i =
-      let high = ceiling shape lines (at_in ranks) (hist_in ranks) assembled (plain_end shape.eager shape.ranks lines)
+      let high = ceiling shape lines (at_in ranks) (history_of ranks) assembled (plain_end shape.eager shape.ranks lines)
       all_ended i in
-      let low = floor shape lines (at_in ranks) (hist_in ranks) assembled (length lines) (replicate shape.ranks 0)
+      let low = floor shape lines (at_in ranks) (history_of ranks) assembled (length lines) (replicate shape.ranks 0)
       (λ j. let zero_at = at_start shape.eager lines shape.ranks j in omega (arith, zero_at)) i in
       omega (arith, high, low)

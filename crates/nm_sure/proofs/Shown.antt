@@ -9,10 +9,9 @@ use Rattle.nm_types.specs.declared.answers.Answer.TheVariants as answer
 use Rattle.nm_types.specs.declared.messages.Peer.TheVariants as peer
 use Rattle.nm_types.specs.declared.messages.Post as post
 use Rattle.nm_types.specs.declared.messages.TagPick.TheVariants as pick
-use Rattle.nm_types.specs.declared.scripts.Body.{Body}
 use Rattle.nm_types.specs.declared.scripts.Command.{Command}
 use Rattle.nm_types.specs.declared.scripts.Command.TheVariants as command
-use Rattle.nm_types.specs.Bodies.{HaveTheirLength, body_len, bytes_of}
+use Rattle.nm_types.specs.Bodies.{HaveTheirLength}
 use Rattle.nm_types.specs.Commands.{Numbered, command_at}
 use Rattle.nm_history.specs.declared.events.Event.{Event}
 use Rattle.nm_history.specs.declared.events.Happened.{Happened}

@@ -11,7 +11,7 @@ use Rattle.nm_types.specs.Limits.{IsScript}
 use Rattle.nm_types.specs.Sizes.{Sizes}
 use Rattle.nm_history.specs.declared.events.Event.{Event}
 use Rattle.nm_history.specs.Answers.{can_go_on}
-use Rattle.nm_history.specs.Quiescence.{Ended, IsStopped}
+use Rattle.nm_history.specs.Quiescence.{Ended, IsStopped, history_of}
 use Rattle.nm_report.specs.declared.accounts.RankAccount.{RankAccount}
 use Rattle.nm_report.specs.declared.records.RunRecord.{RunRecord}
 use Rattle.nm_report.specs.Ends.{are_done, ends_of}
@@ -22,7 +22,7 @@ use Rattle.nm_sure.specs.Agree.{ArePlain}
 use Rattle.nm_sure.specs.Plain.{at_of, next_of, plain_end}
 use Rattle.nm_sure.specs.PlainText.{are_at_end, plain_done, plain_text, plain_told, rank_text, rank_told, told_after}
 use Rattle.nm_sure.specs.PlainText.{waits_at}
-use Rattle.nm_sure.proofs.Assembled.{Begins, as_far, assembled, at_in, hist_in}
+use Rattle.nm_sure.proofs.Assembled.{Begins, as_far, assembled, at_in}
 use Rattle.nm_sure.proofs.Fuel.{end_length}
 use Rattle.nm_sure.proofs.ShownAnswers.{told_all}
 use Rattle.nm_types.proofs.ListLemmas.{get_map}
@@ -123,7 +123,7 @@ module _ (shape : Sizes) (lines : List Line) (run : RunRecord) (stand : StandAtL
       filter_map (λ e. told_by e.what) a.history.events ≡ told_after lines k [] (take (at_of F k) (commands_of k lines))
   answers_same k a here =
       let ranks : List Ended = ends_of run.ranks in
-      let all = told_all shape lines (at_in ranks) (hist_in ranks)
+      let all = told_all shape lines (at_in ranks) (history_of ranks)
       (assembled shape lines ranks _ stand begins script plain is.lawful) lengths k in
       ap (λ (h : List Event). filter_map (λ e. told_by e.what) h)
       (sym (ap (λ (o : Option Ended). option_map_or (λ r. r.events) o []) (get_map end_of run.ranks k a here)))

@@ -4,10 +4,10 @@ ghost use Rattle.std.specs.Prelude.{◌≡◌, ◌<◌, ℕ, IfOk, List, Some, l
 ghost use Rattle.nm_types.specs.Commands.{commands_of};
 ghost use Rattle.nm_history.specs.declared.events.Event as event;
 ghost use Rattle.nm_history.specs.RankRun.{Always, NumberAt};
+ghost use Rattle.nm_history.specs.Quiescence.{history_of};
 ghost use Rattle.nm_report.specs.Ends.{ends_of};
 ghost use Rattle.nm_check.specs.Verdicts.{Judges};
 ghost use Rattle.nm_check.specs.declared.verdicts.Verdict.TheVariants.{Own};
-ghost use Rattle.nm_check_ranks.specs.Marked.{history_of};
 ghost use Rattle.nm_check_rank.specs.Dues.{IsOwnDue};
 ghost use Rattle.nm_check_rank.specs.FirstBroken.{IsFirstBroken};
 ghost use Rattle.nm_check_rank.specs.OwnClauses.{KeepsOwn, own_order};

@@ -2,7 +2,7 @@
 
 ghost use Rattle.std.specs.Prelude.{◌≡◌, option_map, slice_get};
 ghost use Rattle.nm_report.specs.Ends.{ends_of};
-ghost use Rattle.nm_check_ranks.specs.Marked.{history_of};
+ghost use Rattle.nm_history.specs.Quiescence.{history_of};
 ghost use Rattle.nm_check.specs.Incidents as spec;
 
 use crate::breaks::places::{Place, events_of};

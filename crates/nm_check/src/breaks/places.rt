@@ -3,7 +3,7 @@
 ghost use Rattle.std.specs.Prelude.{◌≡◌, ◌+◌, ◌<◌, ◌≤◌, ℕ, length, option_and_then, slice_get};
 ghost use Rattle.nm_check_rank.specs.declared.breaks.Break.TheVariants.{At};
 ghost use Rattle.nm_report.specs.Ends.{ends_of};
-ghost use Rattle.nm_check_ranks.specs.Marked.{history_of};
+ghost use Rattle.nm_history.specs.Quiescence.{history_of};
 ghost use Rattle.nm_check.specs.Places as spec;
 ghost use Rattle.nm_check.specs.Places.{command_line, events_in, line_of, place_in};
 

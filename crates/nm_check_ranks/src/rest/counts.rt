@@ -4,14 +4,15 @@ ghost use Rattle.std.specs.Prelude.{◌≡◌, ◌+◌, ◌*◌, ◌<◌, ◌≤
 ghost use Rattle.std.specs.Prelude.{count_by, length, IfSome, MatchOption};
 ghost use Rattle.nm_types.specs.declared.scripts.Line as script_line;
 ghost use Rattle.nm_history.specs.Matching.{matched_pairs};
-ghost use Rattle.nm_history.specs.Outgoing.{further_packets, is_clear, packets_to};
+ghost use Rattle.nm_history.specs.Outgoing.{further_packets, is_clear, packets_of_events, packets_to};
 ghost use Rattle.nm_history.specs.Quiescence.{Packets, packets_of as packets_due};
 ghost use Rattle.nm_history.specs.Sends.{is_ask};
+ghost use Rattle.nm_history.specs.Outgoing.{packets_of_event};
 ghost use Rattle.nm_report.specs.Ends.{ends_of, packets_of};
 ghost use Rattle.nm_lookups.specs.Deciding.{Decides};
 ghost use Rattle.nm_check_ranks.specs.Tabled.{AreTabled};
 ghost use Rattle.nm_check_ranks.specs.Counting.{AreDue, at_most, counted_pair, load_to};
-ghost use Rattle.nm_check_ranks.specs.Counting.{packets_of_event, packets_of_events, row_from};
+ghost use Rattle.nm_check_ranks.specs.Counting.{row_from};
 
 use nm_check_rank::paired::tables::Tables;
 use nm_history::plain::Pair;

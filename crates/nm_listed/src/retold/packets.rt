@@ -7,9 +7,9 @@ ghost use Rattle.nm_history.specs.Outgoing.{further_packets, is_clear as is_clea
 ghost use Rattle.nm_history.specs.Quiescence.{packets_from, packets_of as packets_due};
 ghost use Rattle.nm_history.specs.RankRun.{Always, NumberAt};
 ghost use Rattle.nm_history.specs.Sends.{is_ask};
+ghost use Rattle.nm_history.specs.Outgoing.{packets_of_event as packets_of_event_lem, packets_of_events};
 ghost use Rattle.nm_report.specs.Ends.{ends_of, packets_of};
-ghost use Rattle.nm_listed.specs.Records.{AreCountable, own_packets as own_packets_lem};
-ghost use Rattle.nm_listed.specs.Records.{packets_of_event as packets_of_event_lem, some_packets};
+ghost use Rattle.nm_listed.specs.Records.{AreCountable, some_packets};
 
 use nm_history::plain::Pair;
 use nm_history::{Event, Happened};
@@ -52,8 +52,8 @@ fn packets_of_event(to: u8, what: &Happened) -> u64
 /// How many packets to a rank the events call for, but for the messages that they pair.
 #[tactic(auto, using(crate::proofs::PacketLemmas::own_next, crate::proofs::PacketLemmas::own_within))]
 fn own_packets(to: u8, events: &[Event]) -> u64
-    requires { own_packets_lem to events.now < 18446744073709551616 }
-    ensures { result ≡ own_packets_lem to events.now }
+    requires { packets_of_events to events.now < 18446744073709551616 }
+    ensures { result ≡ packets_of_events to events.now }
 {
     let mut total = 0;
     for event in events {

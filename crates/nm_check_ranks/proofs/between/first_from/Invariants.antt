@@ -1,8 +1,8 @@
 use Rattle.std.proofs.Common.{◌≡◌, List}
 use Rattle.nm_types.specs.declared.scripts.Line.{Line}
 use Rattle.nm_history.specs.declared.events.Event.{Event}
-use Rattle.nm_history.specs.Quiescence.{Ended}
-use Rattle.nm_check_ranks.specs.Marked.{AreMarks, EachMarked, history_of}
+use Rattle.nm_history.specs.Quiescence.{Ended, history_of}
+use Rattle.nm_check_ranks.specs.Marked.{AreMarks, EachMarked}
 use Rattle.nm_check_ranks.specs.CarriedClauses.{PairDelivered}
 use Rattle.nm_check_ranks.proofs.RankLemmas.{UpTo}
 use Rattle.nm_check_ranks.proofs.between.first_from.Given as goal

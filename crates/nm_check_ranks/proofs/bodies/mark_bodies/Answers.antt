@@ -4,8 +4,8 @@ use Rattle.std.proofs.Math.ListN.{length-set}
 use Rattle.nm_types.specs.Commands.{commands_of}
 use Rattle.nm_history.specs.Delivery.{BodyAt}
 use Rattle.nm_history.specs.Sends.{sends}
+use Rattle.nm_history.specs.Quiescence.{history_of}
 use Rattle.nm_report.specs.Ends.{ends_of}
-use Rattle.nm_check_ranks.specs.Marked.{history_of}
 use Rattle.nm_check_ranks.proofs.BodyLemmas.{event_at}
 use Rattle.nm_check_ranks.proofs.MarkLemmas.{all_marked, marked, none_marked, unmarked}
 use Rattle.nm_check_ranks.proofs.bodies.mark_bodies.Goals as goal

@@ -2,8 +2,9 @@ use Rattle.std.proofs.Common.{length, take, ◌≡◌}
 use Rattle.nm_types.specs.Commands.{commands_of}
 use Rattle.nm_history.specs.Delivery.{BodyAt}
 use Rattle.nm_history.specs.Sends.{sends}
+use Rattle.nm_history.specs.Quiescence.{history_of}
 use Rattle.nm_report.specs.Ends.{ends_of}
-use Rattle.nm_check_ranks.specs.Marked.{AreMarked, history_of}
+use Rattle.nm_check_ranks.specs.Marked.{AreMarked}
 use Rattle.nm_check_ranks.proofs.bodies.mark_bodies.Given as goal
 
 -- the ranks are marked with which the events so far break the rule

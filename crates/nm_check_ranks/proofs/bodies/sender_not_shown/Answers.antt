@@ -1,6 +1,6 @@
 use Rattle.std.proofs.Common.{take}
 use Rattle.nm_report.specs.Ends.{ends_of}
-use Rattle.nm_check_ranks.specs.Marked.{history_of}
+use Rattle.nm_history.specs.Quiescence.{history_of}
 use Rattle.nm_check_ranks.proofs.BodyLemmas.{no_answer_named}
 use Rattle.nm_check_ranks.proofs.bodies.sender_not_shown.Goals as goal
 

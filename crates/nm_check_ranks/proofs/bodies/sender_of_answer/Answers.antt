@@ -1,8 +1,9 @@
 use Rattle.std.proofs.Common.{ℕ, Option, Some, None, cond, take, sym, subst}
 use Rattle.nm_types.specs.declared.answers.Answer.TheVariants.{Got}
 use Rattle.nm_history.specs.declared.events.Happened.TheVariants.{Ran}
+use Rattle.nm_history.specs.Quiescence.{history_of}
 use Rattle.nm_report.specs.Ends.{ends_of}
-use Rattle.nm_check_ranks.specs.Marked.{Names, history_of}
+use Rattle.nm_check_ranks.specs.Marked.{Names}
 use Rattle.nm_check_ranks.proofs.BodyLemmas.{Shows, got_names, none_names, shown_names}
 use Rattle.nm_check_ranks.proofs.bodies.sender_of_answer.Goals as goal
 

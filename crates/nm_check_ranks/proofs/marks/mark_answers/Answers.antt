@@ -2,8 +2,8 @@ use Rattle.std.proofs.Common.{◌∙◌, true, false, replicate, arith}
 use Rattle.std.proofs.lemmas.List.{get_or-replicate, length-replicate}
 use Rattle.std.proofs.Math.ListN.{length-set}
 use Rattle.nm_history.specs.Delivery.{UndoneAfterWithdraw}
+use Rattle.nm_history.specs.Quiescence.{history_of}
 use Rattle.nm_report.specs.Ends.{ends_of}
-use Rattle.nm_check_ranks.specs.Marked.{history_of}
 use Rattle.nm_check_ranks.proofs.MarkLemmas.{all_marked, marked, none_marked, unmarked}
 use Rattle.nm_check_ranks.proofs.marks.mark_answers.Goals as goal
 use Rattle.nm_check_ranks.proofs.marks.mark_answers.Goals.{in-Some, in_default}

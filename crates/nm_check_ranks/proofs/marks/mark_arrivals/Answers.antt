@@ -3,8 +3,8 @@ use Rattle.std.proofs.lemmas.List.{get_or-replicate, length-replicate}
 use Rattle.std.proofs.Math.ListN.{length-set}
 use Rattle.nm_history.specs.RankRun.{NumberAt}
 use Rattle.nm_history.specs.Growing.{ArrivesNext}
+use Rattle.nm_history.specs.Quiescence.{history_of}
 use Rattle.nm_report.specs.Ends.{ends_of}
-use Rattle.nm_check_ranks.specs.Marked.{history_of}
 use Rattle.nm_check_ranks.proofs.MarkLemmas.{all_marked, marked, none_marked, rule_at, unmarked}
 use Rattle.nm_check_ranks.proofs.marks.mark_arrivals.Goals as goal
 use Rattle.nm_check_ranks.proofs.marks.mark_arrivals.Goals.{in-Some, in_default}

@@ -1,7 +1,8 @@
 use Rattle.std.proofs.Common.{length, take, ◌≡◌}
 use Rattle.nm_history.specs.Growing.{ArrivesNext}
+use Rattle.nm_history.specs.Quiescence.{history_of}
 use Rattle.nm_report.specs.Ends.{ends_of}
-use Rattle.nm_check_ranks.specs.Marked.{AreMarked, history_of}
+use Rattle.nm_check_ranks.specs.Marked.{AreMarked}
 use Rattle.nm_check_ranks.proofs.marks.mark_arrivals.Given as goal
 
 -- the ranks are marked with which the events so far break the rule

@@ -1,8 +1,9 @@
 use Rattle.std.proofs.Common.{ℕ, Option, take, sym, subst}
 use Rattle.nm_history.specs.Delivery.{OutAfterPair}
 use Rattle.nm_history.specs.declared.events.Happened.TheVariants as happening
+use Rattle.nm_history.specs.Quiescence.{history_of}
 use Rattle.nm_report.specs.Ends.{ends_of}
-use Rattle.nm_check_ranks.specs.Marked.{Names, history_of}
+use Rattle.nm_check_ranks.specs.Marked.{Names}
 use Rattle.nm_check_ranks.proofs.MarkLemmas.{no_out_names, out_names}
 use Rattle.nm_check_ranks.proofs.marks.receiver_not_asked.Goals as goal
 

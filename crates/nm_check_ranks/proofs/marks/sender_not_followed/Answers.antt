@@ -1,8 +1,9 @@
 use Rattle.std.proofs.Common.{ℕ, Option, sym, subst}
 use Rattle.nm_history.specs.Growing.{ArrivesNext}
 use Rattle.nm_history.specs.declared.events.Happened.TheVariants as happening
+use Rattle.nm_history.specs.Quiescence.{history_of}
 use Rattle.nm_report.specs.Ends.{ends_of}
-use Rattle.nm_check_ranks.specs.Marked.{Names, history_of}
+use Rattle.nm_check_ranks.specs.Marked.{Names}
 use Rattle.nm_check_ranks.proofs.MarkLemmas.{arrival_names, no_arrival_names}
 use Rattle.nm_check_ranks.proofs.marks.sender_not_followed.Goals as goal
 

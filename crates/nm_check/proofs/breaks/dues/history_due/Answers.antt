@@ -4,10 +4,10 @@ use Rattle.std.proofs.lemmas.Option.{slice_get_past, slice_get_read}
 use Rattle.nm_types.specs.declared.scripts.Line.{Line}
 use Rattle.nm_types.specs.Commands.{commands_of}
 use Rattle.nm_history.specs.declared.events.Event.{Event}
+use Rattle.nm_history.specs.Quiescence.{history_of}
 use Rattle.nm_report.specs.declared.accounts.RankAccount.{RankAccount}
 use Rattle.nm_report.specs.Ends.{ends_of}
 use Rattle.nm_types.proofs.ListLemmas.{get_some}
-use Rattle.nm_check_ranks.specs.Marked.{history_of}
 use Rattle.nm_check_ranks.proofs.TableLemmas.{history_at, no_history}
 use Rattle.nm_check_rank.specs.Dues.{IsOwnDue}
 use Rattle.nm_check_rank.specs.declared.paired.dues.Due.{Due}

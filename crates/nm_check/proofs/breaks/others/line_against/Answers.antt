@@ -1,6 +1,6 @@
 use Rattle.std.proofs.Common.{◌∙◌, take}
 use Rattle.nm_report.specs.Ends.{ends_of}
-use Rattle.nm_check_ranks.specs.Marked.{history_of}
+use Rattle.nm_history.specs.Quiescence.{history_of}
 use Rattle.nm_check.proofs.OtherLemmas.{against_mate}
 use Rattle.nm_check.proofs.breaks.others.line_against.Goals as goal
 

@@ -3,8 +3,8 @@ use Rattle.std.proofs.Common.{subst, arith, take}
 use Rattle.std.specs.Prelude.{IfOk, MatchOption, slice_get}
 use Rattle.std.proofs.lemmas.Option.{slice_get-get_or, slice_get_past}
 use Rattle.nm_history.specs.declared.events.Event.{Event}
+use Rattle.nm_history.specs.Quiescence.{history_of}
 use Rattle.nm_report.specs.Ends.{ends_of}
-use Rattle.nm_check_ranks.specs.Marked.{history_of}
 use Rattle.nm_check.specs.Others.{IsAgainst}
 use Rattle.nm_check.proofs.breaks.others.other_line.Goals as goal
 

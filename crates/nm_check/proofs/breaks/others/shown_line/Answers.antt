@@ -1,7 +1,7 @@
 use Rattle.std.proofs.Common.{Option, ◌∙◌, ap}
 use Rattle.nm_history.specs.declared.plain.Pair.{Pair}
+use Rattle.nm_history.specs.Quiescence.{history_of}
 use Rattle.nm_report.specs.Ends.{ends_of}
-use Rattle.nm_check_ranks.specs.Marked.{history_of}
 use Rattle.nm_check.specs.Others.{sent_line}
 use Rattle.nm_check.proofs.breaks.others.shown_line.Goals as goal
 

@@ -1,7 +1,7 @@
 use Rattle.std.proofs.Common.{ℕ, Option, subst}
 use Rattle.nm_report.specs.Ends.{ends_of}
-use Rattle.nm_check_ranks.specs.Marked.{history_of}
 use Rattle.nm_check_rank.specs.Takes.{IsTakenAt}
+use Rattle.nm_history.specs.Quiescence.{history_of}
 use Rattle.nm_check.proofs.breaks.others.taken_line.Goals as goal
 
 pub line_at-requires-clause-inside : goal.line_at-requires-clause-inside

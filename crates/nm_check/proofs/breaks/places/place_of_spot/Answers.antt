@@ -1,8 +1,8 @@
 use Rattle.std.proofs.Common.{◌≡◌, ◌∙◌, List, sym, ap, arith, get_or}
 use Rattle.nm_history.specs.declared.events.Event.{Event}
+use Rattle.nm_history.specs.Quiescence.{history_of}
 use Rattle.nm_report.specs.declared.accounts.RankAccount.{RankAccount}
 use Rattle.nm_report.specs.Ends.{ends_of}
-use Rattle.nm_check_ranks.specs.Marked.{history_of}
 use Rattle.nm_check_ranks.proofs.TableLemmas.{history_at}
 use Rattle.nm_check_rank.specs.declared.breaks.Break.TheVariants.{At}
 use Rattle.nm_check.specs.Places.{place_in}

@@ -1,7 +1,8 @@
 use Rattle.std.proofs.Common.{◌≡◌, ◌*◌, ◌≤◌, List, ◌+◌, ◌∙◌, ap, arith, take}
 use Rattle.std.proofs.lemmas.List.{get_or-replicate, take_all}
 use Rattle.nm_history.specs.declared.events.Event.{Event}
-use Rattle.nm_check_ranks.specs.Counting.{load_to, packets_of_events}
+use Rattle.nm_history.specs.Outgoing.{packets_of_events}
+use Rattle.nm_check_ranks.specs.Counting.{load_to}
 use Rattle.nm_check_ranks.proofs.CountingLemmas.{due_same, one_event}
 use Rattle.nm_check_ranks.proofs.MiscountLemmas.{few_more}
 use Rattle.nm_check_ranks.proofs.rest.counts.counts_of_events.Goals as goal

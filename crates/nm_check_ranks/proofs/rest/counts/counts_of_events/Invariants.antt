@@ -1,5 +1,6 @@
 use Rattle.std.proofs.Common.{ℕ, ◌*◌, ◌≤◌, take}
-use Rattle.nm_check_ranks.specs.Counting.{AreDue, packets_of_events}
+use Rattle.nm_history.specs.Outgoing.{packets_of_events}
+use Rattle.nm_check_ranks.specs.Counting.{AreDue}
 use Rattle.nm_check_ranks.proofs.rest.counts.counts_of_events.Given as goal
 
 -- the events so far are counted
