@@ -4,10 +4,9 @@ use Rattle.std.proofs.Common.{length, replicate, flat_map}
 use Rattle.std.specs.List.{AllByRecursion}
 use Rattle.std.proofs.lemmas.List.{length-append, length-replicate}
 use Rattle.nm_types.specs.Sizes.{Sizes}
-use Rattle.nm_history.specs.Quiescence.{Ended}
 use Rattle.nm_report.specs.declared.accounts.RankAccount.{RankAccount}
 use Rattle.nm_report.specs.declared.records.RunRecord.{RunRecord}
-use Rattle.nm_report.specs.Ends.{ends_of}
+use Rattle.nm_report.specs.Ends.{end_of_account, ends_of}
 use Rattle.nm_report.specs.Events.{event_lines, pair_line}
 use Rattle.nm_report.specs.Layout.{from_rank}
 use Rattle.nm_report.specs.Report.{answer_lines, cells_line, end_line, report_text}
@@ -18,9 +17,6 @@ use Rattle.nm_picture.specs.Pictures.{IsPictureOf}
 use Rattle.nm_picture.proofs.AlikeLemmas.{alike-picture}
 use Rattle.nm_chart.specs.Endings.{IsTraceOfOne, widest}
 use Rattle.nm_chart.specs.Widened.{silent, widened}
-
-abbrev ended_of : RankAccount → Ended
-ended_of account = record { at = account.at; waits = account.waits; events = account.history.events }
 
 silent_text : (text_of : ℕ → RankAccount → List ℕ) → ((rank : ℕ) → text_of rank silent ≡ []) → (n rank : ℕ) →
     from_rank text_of rank (replicate n silent) ≡ []
@@ -75,7 +71,7 @@ all_silent : (n : ℕ) (xs : List RankAccount) → ends_of xs ≡ ends_of (repli
 all_silent n [] same = tt
 all_silent zero (x ∷ xs) same = absurd cc
 all_silent (suc n) (x ∷ xs) same =
-    let head : ended_of x ≡ ended_of silent = cc in
+    let head : end_of_account x ≡ end_of_account silent = cc in
     let tail : ends_of xs ≡ ends_of (replicate n silent) = cc in
     ((ap (λ e. e.events) head, ap (λ e. e.waits) head), all_silent n xs tail)
 
@@ -84,7 +80,7 @@ ends_alike n [] [] same = tt
 ends_alike n [] (y ∷ ys) same = absurd cc
 ends_alike n (x ∷ xs) [] same = all_silent n (x ∷ xs) same
 ends_alike n (x ∷ xs) (y ∷ ys) same =
-    let head : ended_of x ≡ ended_of y = cc in
+    let head : end_of_account x ≡ end_of_account y = cc in
     let tail : ends_of xs ≡ ends_of (ys ++ replicate n silent) = cc in
     (ap (λ e. e.events) head, ap (λ e. e.waits) head, ends_alike n xs ys tail)
 

@@ -16,7 +16,7 @@ use Rattle.nm_history.specs.Quiescence.{Ended}
 use Rattle.nm_report.specs.declared.accounts.RankAccount.{RankAccount}
 use Rattle.nm_report.specs.declared.pairs.PairCount.{PairCount}
 use Rattle.nm_report.specs.declared.records.RunRecord.{RunRecord}
-use Rattle.nm_report.specs.Ends.{ends_of}
+use Rattle.nm_report.specs.Ends.{end_of_account, ends_of}
 use Rattle.nm_report.specs.Events.{event_line, event_lines, event_words, pair_line}
 use Rattle.nm_report.specs.Layout.{◌⧺◌, by_rank, from_rank}
 use Rattle.nm_report.specs.Report.{answer_lines, cells_line, end_line, report_text, trace_text}
@@ -94,17 +94,14 @@ rank_le (r ∷ ranks) (suc i) e here =
     let sum = sum_by-cons (λ (e : Ended). length e.events) r ranks in
     omega (arith, more, sum)
 
-abbrev pub end_of : RankAccount → Ended
-end_of r = record { at = r.at; waits = r.waits; events = r.history.events }
-
 -- the events of one rank more
 pub one_more : (ranks : List RankAccount) (k : ℕ) (r : RankAccount) → k < length ranks → r ≡ get_or ranks k r →
     events_in (take (k + 1) (ends_of ranks)) ≡ events_in (take k (ends_of ranks)) + length r.history.events
 one_more ranks k r inside is =
-    ap events_in (take-map end_of (k + 1) ranks ∙ ap (λ (rs : List RankAccount). map end_of rs)
-    (take_next ranks k r inside is) ∙ map-append end_of (take k ranks) (r ∷ []))
-    ∙ sum_by_push (λ (e : Ended). length e.events) (map end_of (take k ranks)) (end_of r)
-    ∙ ap (λ (es : List Ended). events_in es + length r.history.events) (sym (take-map end_of k ranks))
+    ap events_in (take-map end_of_account (k + 1) ranks ∙ ap (λ (rs : List RankAccount). map end_of_account rs)
+    (take_next ranks k r inside is) ∙ map-append end_of_account (take k ranks) (r ∷ []))
+    ∙ sum_by_push (λ (e : Ended). length e.events) (map end_of_account (take k ranks)) (end_of_account r)
+    ∙ ap (λ (es : List Ended). events_in es + length r.history.events) (sym (take-map end_of_account k ranks))
 
 -- .. of some ranks are no more than those of all
 pub some_le : (ranks : List RankAccount) (k : ℕ) → events_in (take k (ends_of ranks)) ≤ events_in (ends_of ranks)
@@ -113,10 +110,10 @@ some_le ranks k = sum_by-take-le (λ (e : Ended). length e.events) (ends_of rank
 -- as many ranks as there are, or more, are all
 pub all_of : (ranks : List RankAccount) (k : ℕ) → length ranks ≤ k → take k (ends_of ranks) ≡ ends_of ranks
 all_of ranks k over =
-    let same : length (map end_of ranks) ≡ length ranks = length-map ranks end_of in
+    let same : length (map end_of_account ranks) ≡ length ranks = length-map ranks end_of_account in
     take_all k (ends_of ranks) (omega (arith, over, same))
 
 -- the events of the first ranks, in either way
 pub front_same : (ranks : List RankAccount) (k : ℕ) →
     events_in (ends_of (take k ranks)) ≡ events_in (take k (ends_of ranks))
-front_same ranks k = ap events_in (sym (take-map end_of k ranks))
+front_same ranks k = ap events_in (sym (take-map end_of_account k ranks))

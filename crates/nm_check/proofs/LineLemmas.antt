@@ -18,7 +18,7 @@ use Rattle.nm_history.specs.Quiescence.{Ended}
 use Rattle.nm_report.specs.declared.accounts.RankAccount.{RankAccount}
 use Rattle.nm_report.specs.declared.pairs.PairCount.{PairCount}
 use Rattle.nm_report.specs.declared.records.RunRecord.{RunRecord}
-use Rattle.nm_report.specs.Ends.{ends_of}
+use Rattle.nm_report.specs.Ends.{end_of_account, ends_of}
 use Rattle.nm_report.specs.Events.{event_line, event_lines, event_words, pair_line}
 use Rattle.nm_report.specs.Layout.{◌⧺◌, by_rank, from_rank}
 use Rattle.nm_report.specs.Report.{answer_lines, cells_line, end_line}
@@ -28,7 +28,6 @@ use Rattle.nm_trace.specs.Notes.{pair_words}
 use Rattle.nm_trace.specs.Traces.{EndIn, EventIn, IsTraceOf, PairIn}
 use Rattle.nm_check.specs.Lines.{event_text}
 use Rattle.nm_check.specs.Places.{events_in}
-use Rattle.nm_check.proofs.EventLemmas.{end_of}
 use Rattle.nm_check.proofs.TextLemmas.{event_printable}
 
 -- a printable line, and what stands behind its line feed
@@ -91,7 +90,7 @@ event_there : (rank : ℕ) (accounts : List RankAccount) (i k : ℕ) (a : Ended)
 event_there rank [] i k a e more here there = absurd (no_some a here)
 event_there rank (r ∷ accounts) zero k a e more here there =
     let own : slice_get r.history.events k ≡ Some e =
-    subst (λ (x : Ended). slice_get x.events k ≡ Some e) (sym (same_some (end_of r) a here)) there in
+    subst (λ (x : Ended). slice_get x.events k ≡ Some e) (sym (same_some (end_of_account r) a here)) there in
     let at : events_in (take zero (ends_of (r ∷ accounts))) + k ≡ k = omega arith in
     let same : rank ≡ rank + zero = omega arith in
     ap (λ (n : ℕ). slice_get (lines_from rank (r ∷ accounts) ++ more) n) at
@@ -103,7 +102,7 @@ event_there rank (r ∷ accounts) (suc i) k a e more here there =
     let texts = map (event_text rank) r.history.events in
     let sum : events_in (take (suc i) (ends_of (r ∷ accounts)))
     ≡ length r.history.events + events_in (take i (ends_of accounts)) =
-    sum_by-cons (λ (e : Ended). length e.events) (end_of r) (take i (ends_of accounts)) in
+    sum_by-cons (λ (e : Ended). length e.events) (end_of_account r) (take i (ends_of accounts)) in
     let long : length texts ≡ length r.history.events = length-map r.history.events (event_text rank) in
     let at : events_in (take (suc i) (ends_of (r ∷ accounts))) + k
     ≡ length texts + (events_in (take i (ends_of accounts)) + k) = omega (arith, sum, long) in
@@ -151,7 +150,7 @@ many_from rank (a ∷ accounts) =
     length-append texts (lines_from (rank + 1) accounts) in
     let long : length texts ≡ length a.history.events = length-map a.history.events (event_text rank) in
     let sum : events_in (ends_of (a ∷ accounts)) ≡ length a.history.events + events_in (ends_of accounts) =
-    sum_by-cons (λ (e : Ended). length e.events) (end_of a) (ends_of accounts) in
+    sum_by-cons (λ (e : Ended). length e.events) (end_of_account a) (ends_of accounts) in
     let more = many_from (rank + 1) accounts in
     omega (arith, both, long, sum, more)
 

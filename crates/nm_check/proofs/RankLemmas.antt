@@ -8,7 +8,7 @@ use Rattle.nm_history.specs.declared.events.Event.{Event}
 use Rattle.nm_history.specs.Quiescence.{Ended}
 use Rattle.nm_report.specs.declared.accounts.RankAccount.{RankAccount}
 use Rattle.nm_report.specs.declared.records.RunRecord.{RunRecord}
-use Rattle.nm_report.specs.Ends.{ends_of}
+use Rattle.nm_report.specs.Ends.{end_of_account, ends_of}
 use Rattle.nm_check_rank.specs.FirstBroken.{IsFirstBroken}
 use Rattle.nm_check_rank.specs.OwnBreaks.{BreaksOwnAt}
 use Rattle.nm_check_rank.specs.OwnClauses.{KeepsOwn, own_order}
@@ -20,13 +20,13 @@ use Rattle.nm_check.specs.declared.verdicts.Verdict.{Verdict}
 use Rattle.nm_check.specs.declared.verdicts.Verdict.TheVariants.{Own}
 use Rattle.nm_check.specs.Places.{IsPlace, events_in, place_in}
 use Rattle.nm_check.specs.declared.breaks.places.Place.{Place}
-use Rattle.nm_check.proofs.EventLemmas.{end_of, rank_le}
+use Rattle.nm_check.proofs.EventLemmas.{rank_le}
 
 module _ (lines ls : List Line) (run : RunRecord) (clause : OwnClause) (i : ℕ) (verdict : Verdict) (a : RankAccount)
     (es : List Event) (is : verdict ≡ Own clause i) (here : slice_get run.ranks i ≡ Some a) (same_lines : ls ≡ lines)
     (same_events : es ≡ a.history.events) where
-  end_here : slice_get (ends_of run.ranks) i ≡ Some (end_of a)
-  end_here = get_map end_of run.ranks i a here
+  end_here : slice_get (ends_of run.ranks) i ≡ Some (end_of_account a)
+  end_here = get_map end_of_account run.ranks i a here
 
   -- its rule is the first that it breaks
   pub first_here : Judges lines run verdict →
@@ -50,7 +50,7 @@ module _ (lines ls : List Line) (run : RunRecord) (clause : OwnClause) (i : ℕ)
       (subst (λ (p : Break). BreaksOwnAt run.shape (commands_of i ls) a.at es clause p) at breaks).inside in
       let long : length es ≡ length a.history.events = ap length same_events in
       let some : length a.history.events ≤ events_in (ends_of run.ranks) =
-      rank_le (ends_of run.ranks) i (end_of a) end_here in
+      rank_le (ends_of run.ranks) i (end_of_account a) end_here in
       omega (arith, few, inside, long, some)
 
   -- the place is that of the verdict

@@ -4,11 +4,11 @@ use Rattle.std.specs.Prelude.{IsSomeAnd}
 use Rattle.std.specs.List.{slice_get}
 use Rattle.nm_history.specs.Quiescence.{Ended}
 use Rattle.nm_report.specs.declared.accounts.RankAccount.{RankAccount}
-use Rattle.nm_report.specs.Ends.{ends_of}
-use Rattle.nm_check_ranks.proofs.RankLemmas.{end_at, ended}
+use Rattle.nm_report.specs.Ends.{end_of_account, ends_of}
+use Rattle.nm_report.proofs.EndLemmas.{end_at}
 
 -- what is so of the rank at a place
 pub of_end : (ranks : List RankAccount) (i : ℕ) (a : RankAccount) (P : Ended → Type 0) → i < length ranks →
-    a ≡ get_or ranks i a → P (ended a) →
+    a ≡ get_or ranks i a → P (end_of_account a) →
     IsSomeAnd (slice_get (ends_of ranks) i) P
 of_end ranks i a P inside is here = subst (λ (o : Option Ended). IsSomeAnd o P) (sym (end_at ranks i a inside is)) here

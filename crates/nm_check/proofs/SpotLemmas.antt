@@ -12,7 +12,7 @@ use Rattle.nm_history.specs.Delivery.{ArriveInOrder}
 use Rattle.nm_history.specs.Quiescence.{EachPair, EachRank, Ended, IsStopped, Packets, history_of}
 use Rattle.nm_history.specs.Sends.{arrivals, sends}
 use Rattle.nm_report.specs.declared.accounts.RankAccount.{RankAccount}
-use Rattle.nm_report.specs.Ends.{ends_of}
+use Rattle.nm_report.specs.Ends.{end_of_account, ends_of}
 use Rattle.nm_types.proofs.OptionLemmas.{no_some}
 use Rattle.nm_check_rank.specs.Breaks.{BreaksFirstAt}
 use Rattle.nm_check_rank.specs.FirstBroken.{IsFirstBroken}
@@ -33,7 +33,7 @@ use Rattle.nm_report.specs.declared.records.RunRecord.{RunRecord}
 use Rattle.nm_types.specs.declared.lists.Memory.{Memory}
 use Rattle.nm_check.specs.Places.{IsEventPlace, IsPlace, IsRestPlace, IsTracePlace, event_rule, events_in}
 use Rattle.nm_check.specs.declared.breaks.places.Place.{Place}
-use Rattle.nm_check.proofs.EventLemmas.{end_of, rank_le}
+use Rattle.nm_check.proofs.EventLemmas.{rank_le}
 
 -- ranks that run their own commands are numbered, and their stamps rise
 pub are_local : (shape : Sizes) (lines : List Line) (ranks : List Ended) → EachRank (RunsItsOwn shape lines) ranks →
@@ -162,7 +162,7 @@ rest_inside r ranks spot breaks = by_rank (slice_get ranks spot.rank) breaks.fir
 
 -- as many ranks as accounts
 pub many_ends : (ranks : List RankAccount) → length (ends_of ranks) ≡ length ranks
-many_ends ranks = length-map ranks end_of
+many_ends ranks = length-map ranks end_of_account
 
 -- where a rank waits
 pub waits_here : (ranks : List Ended) (i : ℕ) (e : Ended) → slice_get ranks i ≡ Some e →

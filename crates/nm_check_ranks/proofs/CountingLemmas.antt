@@ -23,9 +23,9 @@ use Rattle.nm_history.specs.Quiescence.{Ended, Packets, packets_by_rank, packets
 use Rattle.nm_history.specs.Sends.{Sent, is_ask, sends, sent_body, sent_of}
 use Rattle.nm_history.proofs.OutgoingLemmas.{outgoing_count}
 use Rattle.nm_report.specs.declared.accounts.RankAccount.{RankAccount}
-use Rattle.nm_report.specs.Ends.{ends_of}
+use Rattle.nm_report.specs.Ends.{end_of_account, ends_of}
+use Rattle.nm_report.proofs.EndLemmas.{end_at}
 use Rattle.nm_lookups.specs.Deciding.{Decides}
-use Rattle.nm_check_ranks.proofs.RankLemmas.{end_at, ended}
 use Rattle.nm_check_ranks.specs.Counting.{AreDue, at_most, row_from}
 use Rattle.nm_types.proofs.ListLemmas.{take_next}
 
@@ -279,25 +279,25 @@ module _ (lines : List Line) (ranks : List RankAccount) (i : ℕ) (a : RankAccou
   row = row_from i (packets_to a.history.events) 0 (length ranks)
 
   as_many : length ends ≡ length ranks
-  as_many = length-map ranks ended
+  as_many = length-map ranks end_of_account
 
   this_row : packets_from lines all i a.history.events ≡ row
   this_row =
       row_is lines (length ends) i a.history.events ∙ ap (λ (n : ℕ). row_from i (packets_to a.history.events) 0 n)
       as_many
 
-  there : ended a ≡ get_or ends i (ended a)
+  there : end_of_account a ≡ get_or ends i (end_of_account a)
   there =
       let low : i < length ends = omega (arith, as_many, inside) in
-      same_Some (ended a) (get_or ends i (ended a)) (sym (end_at ranks i a inside is) ∙ slice_get-get_or ends i
-      (ended a) low)
+      same_Some (end_of_account a) (get_or ends i (end_of_account a))
+      (sym (end_at ranks i a inside is) ∙ slice_get-get_or ends i (end_of_account a) low)
 
   one_rank : packets_by_rank lines all 0 (take (i + 1) ends) ≡ packets_by_rank lines all 0 (take i ends) ++ row
   one_rank =
       let low : i < length ends = omega (arith, as_many, inside) in
       let place : 0 + length (take i ends) ≡ i = omega (arith, length-take i ends, as_many, inside) in
-      ap (λ (es : List Ended). packets_by_rank lines all 0 es) (take_next ends i (ended a) low there)
-      ∙ ranks_split lines all 0 (take i ends) (ended a ∷ [])
+      ap (λ (es : List Ended). packets_by_rank lines all 0 es) (take_next ends i (end_of_account a) low there)
+      ∙ ranks_split lines all 0 (take i ends) (end_of_account a ∷ [])
       ∙ ap (λ (n : ℕ). packets_by_rank lines all 0 (take i ends) ++ (packets_from lines all n a.history.events ++ []))
       place
       ∙ ap (λ (ps : List Packets). packets_by_rank lines all 0 (take i ends) ++ ps)

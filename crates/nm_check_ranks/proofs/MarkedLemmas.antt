@@ -6,9 +6,9 @@ use Rattle.nm_types.specs.declared.scripts.Line.{Line}
 use Rattle.nm_history.specs.Quiescence.{Ended}
 use Rattle.nm_report.specs.declared.accounts.RankAccount.{RankAccount}
 use Rattle.nm_report.specs.Ends.{ends_of}
+use Rattle.nm_report.proofs.EndLemmas.{end_at}
 use Rattle.nm_check_ranks.specs.Marked.{AreMarks}
 use Rattle.nm_check_ranks.specs.declared.marks.Marks.{Marks}
-use Rattle.nm_check_ranks.proofs.RankLemmas.{end_at}
 
 -- the marks of the rank at a place
 abbrev pub MarkedAt : List Line → List Ended → ℕ → Marks → Type 0

@@ -1,30 +1,20 @@
 -- What holds of each rank, one rank after another, as a loop finds it.
 use Rattle.std.proofs.Common.{◌≡◌, ℕ, ◌+◌, ◌<◌, ◌≤◌, ◌⊎◌, inl, inr, Option, Some, None, List, length, get_or, sym}
-use Rattle.std.proofs.Common.{◌∙◌, ap, subst, arith, below_more}
-use Rattle.std.specs.Prelude.{IfSome, option_map}
+use Rattle.std.proofs.Common.{subst, arith, below_more}
+use Rattle.std.specs.Prelude.{IfSome}
 use Rattle.std.specs.List.{slice_get}
 use Rattle.std.proofs.lemmas.Bool.{cases_lt}
 use Rattle.std.proofs.lemmas.List.{length-map}
-use Rattle.std.proofs.lemmas.Option.{MatchOption-from_none, slice_get-get_or, slice_get-map, slice_get_past}
+use Rattle.std.proofs.lemmas.Option.{MatchOption-from_none, slice_get_past}
 use Rattle.nm_history.specs.Quiescence.{EachRank, Ended}
 use Rattle.nm_report.specs.declared.accounts.RankAccount.{RankAccount}
-use Rattle.nm_report.specs.Ends.{ends_of}
-
-abbrev pub ended : RankAccount → Ended
-ended rank = record { at = rank.at; waits = rank.waits; events = rank.history.events }
-
--- the end of the rank at a place
-pub end_at : (ranks : List RankAccount) (i : ℕ) (a : RankAccount) → i < length ranks → a ≡ get_or ranks i a →
-    slice_get (ends_of ranks) i ≡ Some (ended a)
-end_at ranks i a inside is =
-    slice_get-map ended ranks i
-    ∙ ap (λ (o : Option RankAccount). option_map ended o) (slice_get-get_or ranks i a inside
-    ∙ ap (λ (x : RankAccount). Some x) (sym is))
+use Rattle.nm_report.specs.Ends.{end_of_account, ends_of}
+use Rattle.nm_report.proofs.EndLemmas.{end_at}
 
 -- there is no rank behind the last
 pub no_end : (ranks : List RankAccount) (i : ℕ) → length ranks ≤ i → slice_get (ends_of ranks) i ≡ None
 no_end ranks i over =
-    let same : length (ends_of ranks) ≡ length ranks = length-map ranks ended in
+    let same : length (ends_of ranks) ≡ length ranks = length-map ranks end_of_account in
     slice_get_past (ends_of ranks) i (omega (arith, same, over))
 
 module _ (R : ℕ → Ended → Type 0) (ranks : List Ended) where
@@ -59,20 +49,20 @@ module _ (R : ℕ → Ended → Type 0) (ranks : List Ended) where
 module _ (R : ℕ → Ended → Type 0) (ranks : List RankAccount) where
   -- the same for ranks with their accounts
   pub next_rank : (i : ℕ) (a : RankAccount) → i < length ranks → a ≡ get_or ranks i a → UpTo R (ends_of ranks) i →
-      R i (ended a) → UpTo R (ends_of ranks) (i + 1)
+      R i (end_of_account a) → UpTo R (ends_of ranks) (i + 1)
   next_rank i a inside is below here =
       next R (ends_of ranks) i below (subst (λ (o : Option Ended). IfSome o (R i)) (sym (end_at ranks i a inside is))
       here)
 
   pub all_ranks : (i : ℕ) → length ranks ≤ i → UpTo R (ends_of ranks) i → EachRank R (ends_of ranks)
   all_ranks i over below =
-      let same : length (ends_of ranks) ≡ length ranks = length-map ranks ended in
+      let same : length (ends_of ranks) ≡ length ranks = length-map ranks end_of_account in
       all R (ends_of ranks) i (omega (arith, same, over)) below
 
   pub of_rank : (i : ℕ) (a : RankAccount) → i < length ranks → a ≡ get_or ranks i a → EachRank R (ends_of ranks) →
-      R i (ended a)
+      R i (end_of_account a)
   of_rank i a inside is each = subst (λ (o : Option Ended). IfSome o (R i)) (end_at ranks i a inside is) (each i)
 
   pub rank_breaks : (i : ℕ) (a : RankAccount) → i < length ranks → a ≡ get_or ranks i a →
-      (R i (ended a) → ⊥) → EachRank R (ends_of ranks) → ⊥
+      (R i (end_of_account a) → ⊥) → EachRank R (ends_of ranks) → ⊥
   rank_breaks i a inside is broken each = broken (of_rank i a inside is each)

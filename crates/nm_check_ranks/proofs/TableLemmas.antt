@@ -9,20 +9,21 @@ use Rattle.std.specs.Prelude.{Bool}
 use Rattle.nm_types.specs.declared.scripts.Line.{Line}
 use Rattle.nm_history.specs.Quiescence.{Ended, history_of}
 use Rattle.nm_report.specs.declared.accounts.RankAccount.{RankAccount}
-use Rattle.nm_report.specs.Ends.{ends_of}
+use Rattle.nm_report.specs.Ends.{end_of_account, ends_of}
+use Rattle.nm_report.proofs.EndLemmas.{end_at}
 use Rattle.nm_lookups.specs.Deciding.{Decides}
 use Rattle.nm_check_ranks.specs.Marked.{AreMarks}
 use Rattle.nm_check_rank.specs.Tabled.{AreRankTables}
 use Rattle.nm_check_ranks.specs.Tabled.{AreTabled}
 use Rattle.nm_check_ranks.specs.declared.marks.Marks.{Marks}
 use Rattle.nm_check_rank.specs.declared.paired.tables.Tables.{Tables}
-use Rattle.nm_check_ranks.proofs.RankLemmas.{end_at, ended, no_end}
+use Rattle.nm_check_ranks.proofs.RankLemmas.{no_end}
 
 -- there are as many tables as ranks
 pub table_inside : (ranks : List RankAccount) (tables : List Tables) (i : ℕ) → AreTabled (ends_of ranks) tables →
     i < length ranks → i < length tables
 table_inside ranks tables i tabled inside =
-    let same : length (ends_of ranks) ≡ length ranks = length-map ranks ended in
+    let same : length (ends_of ranks) ≡ length ranks = length-map ranks end_of_account in
     let many : length tables ≡ length (ends_of ranks) = tabled.1.as_many in
     omega (arith, same, many, inside)
 

@@ -19,7 +19,7 @@ use Rattle.nm_script.specs.declared.command_line.Mode.{Mode}
 use Rattle.nm_script.specs.declared.command_line.Mode.TheVariants as mode
 use Rattle.nm_script.specs.FloodScripts.{flood_lines}
 use Rattle.nm_script.specs.Spelled.{IsTextOf}
-use Rattle.nm_report.specs.Cells.{AllCellsFree}
+use Rattle.nm_report.specs.Cells.{AllCellsFree, all_home}
 use Rattle.nm_report.specs.Lawful.{IsRunIn}
 use Rattle.nm_report.specs.Report.{report_text}
 use Rattle.nm_report.specs.Summary.{told_summary}
@@ -31,7 +31,7 @@ use Rattle.nm_sure.specs.PlainText.{plain_done, plain_text, plain_told}
 use Rattle.nm_cli.specs.Answers.{end_status, run_text}
 use Rattle.nm_cli.specs.Done.{Ending, Ends}
 use Rattle.nm_cli.specs.Endings.{IsReported}
-use Rattle.nm_cli.specs.Plains.{IsDeterminate, all_home, sure_text}
+use Rattle.nm_cli.specs.Plains.{IsDeterminate, sure_text}
 use Rattle.nm_cli.specs.Scripts.{IsAsked, IsKnown, Runs, read_of, sizes_for}
 use Rattle.nm_world.specs.declared.whole.Ways.{Ways}
 use Rattle.nm_cli.specs.declared.answers.Response.{Response}

@@ -1,6 +1,5 @@
 -- What is said of a plain script, all of whose runs have one report.
-use Rattle.std.specs.Prelude.{◌≡◌, ℕ, ◌*◌, Bool, List, ◌++◌, Some, codes, decimal}
-use Rattle.nm_types.specs.declared.answers.Account.{Account}
+use Rattle.std.specs.Prelude.{◌≡◌, ℕ, Bool, List, ◌++◌, Some, codes, decimal}
 use Rattle.nm_types.specs.declared.scripts.Line.{Line}
 use Rattle.nm_types.specs.Sizes.{Sizes}
 use Rattle.nm_script.specs.declared.command_line.CommandLine.{CommandLine}
@@ -8,6 +7,7 @@ use Rattle.nm_script.specs.declared.command_line.Mode.{Mode}
 use Rattle.nm_script.specs.declared.command_line.Mode.TheVariants.{Run, Flood}
 use Rattle.nm_script.specs.Spelled.{IsTextOf}
 use Rattle.nm_report.specs.Summary.{told_summary}
+use Rattle.nm_report.specs.Cells.{all_home}
 use Rattle.nm_sure.specs.Agree.{ArePlain}
 use Rattle.nm_sure.specs.Plain.{first_free}
 use Rattle.nm_sure.specs.PlainText.{plain_done, plain_text, plain_told}
@@ -32,10 +32,6 @@ pub record IsPlain (line : CommandLine) (text : List ℕ) (done : Bool) (bytes :
   pub plain : ArePlain lines
   pub reported : text ≡ plain_text (sizes_for line ranks) lines
   pub ended : done ≡ plain_done (sizes_for line ranks) lines
-
--- the account of a run, all of whose cells are home
-abbrev pub all_home : Sizes → Account
-all_home shape = record { total = shape.ranks * shape.cells; home = shape.ranks * shape.cells }
 
 -- these words say the same of each run of this script: of a plain one its report, of a flood its summary
 abbrev pub IsDeterminate : Mode → List Line → Type 0

@@ -20,7 +20,6 @@ use Rattle.nm_history.specs.declared.events.Happened.TheVariants.{Cancel, Recall
 use Rattle.nm_history.specs.declared.events.Happened.TheVariants.{Undone, Claim, Match, Ran}
 use Rattle.nm_history.specs.AtEach.{AtEach, AtEachAfter}
 use Rattle.nm_history.specs.Delivery.{AreDelivered, ArriveInOrder}
-use Rattle.nm_history.specs.Quiescence.{Ended}
 use Rattle.nm_history.specs.RankRun.{IsRankRun, NumberAt, StampAt}
 use Rattle.nm_history.specs.Sends.{Arrived, Sent, arrivals, arrived_of, sends, sent_of}
 use Rattle.nm_history.proofs.AtEachLemmas.{AtEach-split}
@@ -28,7 +27,7 @@ use Rattle.nm_history.proofs.DeliveryLemmas.{sends-push}
 use Rattle.nm_history.proofs.OnceLemmas.{eqb_self}
 use Rattle.nm_report.specs.declared.accounts.RankAccount.{RankAccount}
 use Rattle.nm_report.specs.declared.records.RunRecord.{RunRecord}
-use Rattle.nm_report.specs.Ends.{ends_of}
+use Rattle.nm_report.specs.Ends.{end_of_account, ends_of}
 use Rattle.nm_report.specs.Lawful.{IsRunIn}
 use Rattle.nm_diagram.specs.declared.frames.Span.{Span}
 use Rattle.nm_diagram.specs.declared.anchors.Anchor.TheVariants as anchor
@@ -239,13 +238,9 @@ joined span many rank stamp ranks sender a s false comes few shown earlier numbe
     let shaft = sent_by-found span a.env.from rank a.n s.stamp ranks sender few comes (stamps-rise hi stamps) found in
     inr (record { sent = s.stamp; before = earlier; one = arrow_made span rank stamp s.stamp ranks a shown shaft })
 
--- a rank's end, by its account
-abbrev ended_of : RankAccount → Ended
-ended_of account = record { at = account.at; waits = account.waits; events = account.history.events }
-
 end_got : (ranks : List RankAccount) (i : ℕ) (account : RankAccount) → slice_get ranks i ≡ Some account →
-    slice_get (ends_of ranks) i ≡ Some (ended_of account)
-end_got ranks i account got = slice_get-map ended_of ranks i ∙ ap (λ o. option_map ended_of o) got
+    slice_get (ends_of ranks) i ≡ Some (end_of_account account)
+end_got ranks i account got = slice_get-map end_of_account ranks i ∙ ap (λ o. option_map end_of_account o) got
 
 pub arrival_has_arrow : (shape : Sizes) (lines : List Line) (run : RunRecord) (part : Part) (frame : Frame) →
     IsRunIn shape lines run → IsFrame part run.ranks frame → (rank stamp : ℕ) (receiver : RankAccount) (a : Arrival)
@@ -262,7 +257,7 @@ arrival_has_arrow shape lines run part frame is of_ranks rank stamp receiver a b
     let here = AtEach-split (λ b e. NumberAt shape.ranks b e.what) before (event_of stamp (Arrive a)) after
     (subst (λ l. AtEach (λ b e. NumberAt shape.ranks b e.what) l) split its.numbers) in
     let many = lawful.one_each in
-    let mapped = length-map ranks ended_of in
+    let mapped = length-map ranks end_of_account in
     let within = here.0 in
     let sender = get_or ranks from receiver in
     let comes = slice_get-get_or ranks from receiver (omega (arith, within, many, mapped)) in

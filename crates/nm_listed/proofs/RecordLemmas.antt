@@ -1,10 +1,9 @@
 -- The record of a log, one entry, one rank and one count after another.
 use Rattle.std.proofs.Common.{◌≡◌, ℕ, zero, suc, ◌+◌, ◌<◌, ◌≤◌, ◌&&◌, Bool, Option, Some, None}
-use Rattle.std.proofs.Common.{List, [], ◌∷◌, ◌++◌, length, get_or, refl, sym, ◌∙◌, ap, subst, arith, append_assoc, zero-add}
+use Rattle.std.proofs.Common.{List, [], ◌∷◌, ◌++◌, length, refl, sym, ◌∙◌, ap, subst, arith, append_assoc, zero-add}
 use Rattle.std.specs.Prelude.{filter_map, is_none, option_map}
 use Rattle.std.specs.List.{cons_option, list_all, range_with_len, slice_get}
 use Rattle.std.proofs.lemmas.List.{length-map, map-append}
-use Rattle.std.proofs.lemmas.Option.{slice_get-get_or, slice_get-map}
 use Rattle.nm_types.specs.declared.scripts.Line.{Line}
 use Rattle.nm_types.specs.Sizes.{Sizes}
 use Rattle.nm_types.proofs.OptionLemmas.{mapped_some, no_some}
@@ -13,7 +12,7 @@ use Rattle.nm_history.specs.Outgoing.{packets_to}
 use Rattle.nm_history.specs.Quiescence.{Ended}
 use Rattle.nm_history.specs.RankRun.{Always, NumberAt}
 use Rattle.nm_report.specs.declared.accounts.RankAccount.{RankAccount}
-use Rattle.nm_report.specs.Ends.{are_done, ends_of}
+use Rattle.nm_report.specs.Ends.{are_done, end_of_account, ends_of}
 use Rattle.nm_outcomes.specs.Logs.{Step, history_in}
 use Rattle.nm_outcomes.specs.RankStates.{Spot}
 use Rattle.nm_outcomes.proofs.PathLemmas.{history_split}
@@ -141,22 +140,11 @@ module _ (shape : Sizes) (lines : List Line) (t : Telling) (countable : IsCounta
         (countable.packets i to place.0);
   }
 
--- what became of a rank, by its account
-abbrev pub end_of : RankAccount → Ended
-end_of rank = record { at = rank.at; waits = rank.waits; events = rank.history.events }
-
-pub end_there : (ranks : List RankAccount) (i : ℕ) (a : RankAccount) → i < length ranks → a ≡ get_or ranks i a →
-    slice_get (ends_of ranks) i ≡ Some (end_of a)
-end_there ranks i a inside is =
-    slice_get-map end_of ranks i
-    ∙ ap (λ (o : Option RankAccount). option_map end_of o)
-    (slice_get-get_or ranks i a inside ∙ ap (λ (x : RankAccount). Some x) (sym is))
-
 -- one account more
 pub ends_next : (ranks new : List RankAccount) (a : RankAccount) (ended : Ended) → new ≡ ranks ++ a ∷ [] →
-    end_of a ≡ ended → ends_of new ≡ ends_of ranks ++ ended ∷ []
+    end_of_account a ≡ ended → ends_of new ≡ ends_of ranks ++ ended ∷ []
 ends_next ranks new a ended more is =
-    ap (λ (rs : List RankAccount). ends_of rs) more ∙ map-append end_of ranks (a ∷ [])
+    ap (λ (rs : List RankAccount). ends_of rs) more ∙ map-append end_of_account ranks (a ∷ [])
     ∙ ap (λ (e : Ended). ends_of ranks ++ e ∷ []) is
 
 -- one rank more of those that are taken out
@@ -176,11 +164,11 @@ accounts_next lines old log states i entries now new o at same so_far one =
     ∙ ap (λ (es : List Ended). old ++ es) (sym (ended_more lines (record { log = log; states = states }) i))
 
 pub ends_many : (ranks : List RankAccount) → length (ends_of ranks) ≡ length ranks
-ends_many ranks = length-map ranks end_of
+ends_many ranks = length-map ranks end_of_account
 
 -- an account with these parts
 pub account_is : (a : RankAccount) (ended : Ended) → a.at ≡ ended.at → a.waits ≡ ended.waits →
-    a.history.events ≡ ended.events → end_of a ≡ ended
+    a.history.events ≡ ended.events → end_of_account a ≡ ended
 account_is a ended one two three = λ i. record { at = one i; waits = two i; events = three i }
 
 -- the log with one entry more

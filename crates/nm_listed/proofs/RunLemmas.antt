@@ -55,7 +55,7 @@ use Rattle.nm_history.proofs.RankRunLemmas.{rank_run-from_splits}
 use Rattle.nm_report.specs.declared.accounts.RankAccount.{RankAccount}
 use Rattle.nm_report.specs.declared.pairs.PairCount.{PairCount}
 use Rattle.nm_report.specs.declared.records.RunRecord.{RunRecord}
-use Rattle.nm_report.specs.Ends.{are_done, ends_of}
+use Rattle.nm_report.specs.Ends.{account_of, are_done, ends_of}
 use Rattle.nm_report.specs.Lawful.{IsRunIn}
 use Rattle.nm_report.specs.Told.{RankTold, Told, told_by, told_of}
 use Rattle.nm_outcomes.specs.Logs.{Step, history_in}
@@ -687,10 +687,6 @@ module _ (shape : Sizes) (lines : List Line) (commands : AreCommands shape.ranks
           let own = few_commands i 2 lines in
           let few : length lines < 65536 = script.few_lines in
           omega (arith, ran, own, few)
-
--- a record of what became of ranks
-abbrev account_of : Ended → RankAccount
-account_of end = record { history = record { events = end.events; spare = 0 }; at = end.at; waits = end.waits }
 
 abbrev record_of_ends : Sizes → List Line → List Ended → RunRecord
 record_of_ends shape lines ends = record {

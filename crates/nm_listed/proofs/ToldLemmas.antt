@@ -16,20 +16,16 @@ use Rattle.nm_report.specs.declared.records.RunRecord.{RunRecord}
 use Rattle.nm_report.specs.Ends.{are_done, ends_of}
 use Rattle.nm_report.specs.Lawful.{IsRunIn}
 use Rattle.nm_report.specs.Report.{report_text}
-use Rattle.nm_report.specs.Told.{told_of, told_of_rank, told_text}
+use Rattle.nm_report.specs.Told.{SayWhatWasTold, told_of, told_of_rank, told_text}
+use Rattle.nm_report.specs.Cells.{all_home}
 use Rattle.nm_explored.specs.declared.ends.End.{End}
 use Rattle.nm_outcomes.specs.Outcomes.{AreOutcomes, AreRising, IsReportOfRun}
 use Rattle.nm_explored.specs.Lists.{Has}
 use Rattle.nm_explored.specs.Ends.{TellsAll, TellsOnly, told_at_end}
 use Rattle.nm_listed.specs.Ends.{EndsAreRuns}
-use Rattle.nm_listed.specs.Finding.{all_home, text_of_told}
+use Rattle.nm_listed.specs.Finding.{text_of_told}
 use Rattle.nm_listed.specs.Texts.{SameTexts}
 use Rattle.nm_listed.proofs.OrderLemmas.{image_is_there}
-
--- a report says what was told
-abbrev pub SayWhatWasTold : Type 0
-SayWhatWasTold =
-    (run : RunRecord) → report_text false run ≡ told_text (told_of run) run.cells run.done
 
 -- no rank waits, by the accounts, by their ends and by what they told
 pub done_by_told : (ranks : List RankAccount) →

@@ -1,23 +1,19 @@
 -- What was found of a script.
-use Rattle.std.specs.Prelude.{◌≡◌, ℕ, ◌*◌, ◌-◌, ◌<◌, ◌≤◌, true, false, List, Some, is_none, length, slice_get}
+use Rattle.std.specs.Prelude.{◌≡◌, ℕ, ◌-◌, ◌<◌, ◌≤◌, true, false, List, Some, is_none, length, slice_get}
 use Rattle.std.specs.List.{list_all}
-use Rattle.nm_types.specs.declared.answers.Account.{Account}
 use Rattle.nm_types.specs.declared.scripts.Line.{Line}
 use Rattle.nm_types.specs.Sizes.{Sizes}
 use Rattle.nm_report.specs.declared.records.RunRecord.{RunRecord}
 use Rattle.nm_report.specs.Lawful.{IsRunIn}
 use Rattle.nm_report.specs.Report.{report_text}
 use Rattle.nm_report.specs.Told.{RankTold, told_text}
+use Rattle.nm_report.specs.Cells.{all_home}
 use Rattle.nm_outcomes.specs.Outcomes.{AreOutcomes}
 use Rattle.nm_listed.specs.Texts.{total_length}
 use Rattle.nm_listed.specs.declared.finding.Found.{Found}
 use Rattle.nm_listed.specs.declared.finding.Found.TheVariants as found
 use Rattle.nm_listed.specs.declared.tracing.Traced.{Traced}
 use Rattle.nm_listed.specs.declared.tracing.Traced.TheVariants as traced
-
--- the account of a run whose cells are all with their owners
-abbrev pub all_home : Sizes → Account
-all_home shape = record { total = shape.ranks * shape.cells; home = shape.ranks * shape.cells }
 
 -- the report of what the ranks of a run told: all cells are home, and it is done where no rank waits
 abbrev pub text_of_told : Sizes → List RankTold → List ℕ

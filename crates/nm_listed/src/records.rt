@@ -3,9 +3,10 @@
 ghost use Rattle.std.specs.Prelude.{◌≡◌, ℕ, IfOk, List, is_none, map};
 ghost use Rattle.std.specs.List.{list_all};
 ghost use Rattle.nm_report.specs.Told.{told_of_rank};
+ghost use Rattle.nm_report.specs.Cells.{all_home as all_home_lem};
 ghost use Rattle.nm_explored.specs.Ends.{told_at_end};
 ghost use Rattle.nm_listed.specs.Ends.{IsEndWay};
-ghost use Rattle.nm_listed.specs.Finding.{all_home as all_home_lem, text_of_told};
+ghost use Rattle.nm_listed.specs.Finding.{text_of_told};
 ghost use Rattle.nm_listed.specs.Tracing.{IsReportByWay, IsTraceWith};
 
 use crate::retold::retold;

@@ -11,10 +11,10 @@ use Rattle.nm_types.specs.Limits.{IsScript, is_in_range}
 use Rattle.nm_types.specs.declared.scripts.Line.{Line}
 use Rattle.nm_types.specs.Commands.{Numbered, StandAtLines, command_at, commands_from, commands_of}
 use Rattle.nm_types.specs.Sizes.{Sizes}
-use Rattle.nm_history.specs.Quiescence.{Ended, history_of}
+use Rattle.nm_history.specs.Quiescence.{history_of}
 use Rattle.nm_report.specs.declared.accounts.RankAccount.{RankAccount}
 use Rattle.nm_report.specs.declared.records.RunRecord.{RunRecord}
-use Rattle.nm_report.specs.Ends.{ends_of, packets_of}
+use Rattle.nm_report.specs.Ends.{end_of_account, ends_of, packets_of}
 use Rattle.nm_report.specs.Lawful.{IsRunIn}
 use Rattle.nm_report.specs.Told.{Told, told_of, told_of_rank}
 use Rattle.nm_types.proofs.ListLemmas.{get_map, map_length}
@@ -103,23 +103,20 @@ each_numbered {A} {B} f T n (x ∷ xs) each =
     shift : (n k : ℕ) → n + suc k ≡ n + 1 + k
     shift n k = omega arith
 
--- a rank's end, by its account
-abbrev end_of : RankAccount → Ended
-end_of a = record { at = a.at; waits = a.waits; events = a.history.events }
-
 module _ (shape : Sizes) (lines : List Line) (run : RunRecord) (commands : AreCommands shape.ranks lines)
     (is : IsRunIn shape lines run) (log : List Step) (log_of : IsLogOf shape lines (ends_of run.ranks) log)
     (w : ℕ → RankPoint) (ends : (i : ℕ) → IsPlaceOf i (commands_of i lines) (history_of (ends_of run.ranks) i) (w i))
   where
     rank_told : (k : ℕ) (a : RankAccount) → slice_get run.ranks k ≡ Some a → told_of_rank a ≡ told_at lines w k
     rank_told k a here =
-        let there : slice_get (ends_of run.ranks) k ≡ Some (end_of a) = get_map end_of run.ranks k a here in
+        let there : slice_get (ends_of run.ranks) k ≡ Some (end_of_account a) =
+        get_map end_of_account run.ranks k a here in
         ap (λ (ts : List Told). record { answers = ts; waits = a.waits })
         (sym (told_is shape lines (ends_of run.ranks) (packets_of run.pairs) commands is.lawful log log_of w ends k
-        (end_of a) there))
+        (end_of_account a) there))
         ∙ ap (λ (o : Option ℕ). record { answers = (w k).told; waits = o })
         (waits_is shape lines (ends_of run.ranks) (packets_of run.pairs) commands is.lawful log log_of w ends k
-        (end_of a)
+        (end_of_account a)
         there)
 
     zero_add : (k : ℕ) → 0 + k ≡ k
@@ -130,7 +127,7 @@ module _ (shape : Sizes) (lines : List Line) (run : RunRecord) (commands : AreCo
         each_numbered told_of_rank (told_at lines w) 0 run.ranks
         (λ k a here. rank_told k a here ∙ ap (told_at lines w) (sym (zero_add k)))
         ∙ ap (λ (n : ℕ). map (told_at lines w) (range_with_len 0 n))
-        (sym (map_length end_of run.ranks) ∙ is.lawful.one_each)
+        (sym (map_length end_of_account run.ranks) ∙ is.lawful.one_each)
 
 pub runs_are_found : StandAtLines → RunsAreFound
 runs_are_found stand shape lines run script is =

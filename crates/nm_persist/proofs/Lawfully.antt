@@ -172,7 +172,7 @@ module _ (shape : Sizes) (lines : List PlanLine) (record' : RunRecord) (stand : 
       ∙ commands_are j 2 (expand lines) in
       subst (λ (as' : List Answer). AllByRecursion (KeepsPromise lines j)
       (entries (asked_at j (asked_behind [] lines)) [] as')) told
-      (kept_all shape lines (at_in ranks) (history_of ranks) run lengths fine (λ i. commands_rise i (expand lines)) lasts
-      j inside
+      (kept_all shape lines (at_in ranks) (history_of ranks) run lengths fine (λ i. commands_rise i (expand lines))
+      lasts j inside
       (commands_rise j (expand lines)) (apart j) w.list w.begun (λ front back split. w.states front back split)
       (map (λ (c : Numbered). c.command) (drop n (cs j))) left)

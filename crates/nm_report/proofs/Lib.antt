@@ -1,3 +1,4 @@
+pub mod EndLemmas
 pub mod Written
 mod ToldLemmas
 mod TotalsLemmas

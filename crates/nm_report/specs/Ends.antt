@@ -5,6 +5,14 @@ use Rattle.nm_history.specs.Quiescence.{Ended, Packets}
 use Rattle.nm_report.specs.declared.accounts.RankAccount.{RankAccount}
 use Rattle.nm_report.specs.declared.pairs.PairCount.{PairCount}
 
+-- what an account says of its rank
+abbrev pub end_of_account : RankAccount → Ended
+end_of_account rank = record { at = rank.at; waits = rank.waits; events = rank.history.events }
+
+-- the account of a rank that ended so
+abbrev pub account_of : Ended → RankAccount
+account_of end = record { history = record { events = end.events; spare = 0 }; at = end.at; waits = end.waits }
+
 -- the ends of the ranks
 abbrev pub ends_of : List RankAccount → List Ended
 ends_of ranks =

@@ -1,5 +1,5 @@
 -- What a run told: the answers of its commands with their lines, and where each rank waits.
-use Rattle.std.specs.Prelude.{ℕ, ◌+◌, Bool, Option, Some, None, List, [], ◌∷◌, map, filter_map, flat_map}
+use Rattle.std.specs.Prelude.{◌≡◌, ℕ, ◌+◌, Bool, false, Option, Some, None, List, [], ◌∷◌, map, filter_map, flat_map}
 use Rattle.nm_types.specs.declared.answers.Account.{Account}
 use Rattle.nm_types.specs.declared.answers.Answer.{Answer}
 use Rattle.nm_history.specs.declared.events.Happened.{Happened}
@@ -7,7 +7,7 @@ use Rattle.nm_history.specs.declared.events.Happened.TheVariants.{Ran}
 use Rattle.nm_report.specs.declared.accounts.RankAccount.{RankAccount}
 use Rattle.nm_report.specs.declared.records.RunRecord.{RunRecord}
 use Rattle.nm_report.specs.Layout.{◌⧺◌}
-use Rattle.nm_report.specs.Report.{answer_line, cells_line, end_line, waits_line}
+use Rattle.nm_report.specs.Report.{answer_line, cells_line, end_line, report_text, waits_line}
 
 -- an answer with the line of its command
 pub record Told : Type 0 where
@@ -49,3 +49,7 @@ told_from rank (told ∷ others) = told_lines rank told ⧺ told_from (rank + 1)
 -- the report of what was told
 abbrev pub told_text : List RankTold → Account → Bool → List ℕ
 told_text told cells done = told_from 0 told ⧺ cells_line cells ⧺ end_line done
+
+-- a report without its trace says what was told
+abbrev pub SayWhatWasTold : Type 0
+SayWhatWasTold = (run : RunRecord) → report_text false run ≡ told_text (told_of run) run.cells run.done

@@ -172,8 +172,8 @@ module _ (shape : Sizes) (lines : List Line) (ranks : List Ended) (packets : Lis
   -- each rank gets just as far as in the plain run
   pub as_far : (i : ℕ) → at_in ranks i ≡ at_of (plain_end shape.eager shape.ranks lines) i
   as_far i =
-      let high = ceiling shape lines (at_in ranks) (history_of ranks) assembled (plain_end shape.eager shape.ranks lines)
-      all_ended i in
+      let high = ceiling shape lines (at_in ranks) (history_of ranks) assembled
+      (plain_end shape.eager shape.ranks lines) all_ended i in
       let low = floor shape lines (at_in ranks) (history_of ranks) assembled (length lines) (replicate shape.ranks 0)
       (λ j. let zero_at = at_start shape.eager lines shape.ranks j in omega (arith, zero_at)) i in
       omega (arith, high, low)

@@ -17,7 +17,8 @@ use Rattle.nm_report.specs.declared.records.RunRecord.{RunRecord}
 use Rattle.nm_report.specs.Ends.{are_done, ends_of}
 use Rattle.nm_report.specs.Lawful.{IsRunIn}
 use Rattle.nm_report.specs.Report.{answer_line, cells_line, end_line, report_text, waits_line}
-use Rattle.nm_report.specs.Told.{RankTold, Told, told_by, told_from, told_lines, told_of, told_of_rank, told_text}
+use Rattle.nm_report.specs.Told.{RankTold, Told, told_by, told_from, told_lines, told_of}
+use Rattle.nm_report.specs.Told.{SayWhatWasTold, told_of_rank}
 use Rattle.nm_sure.specs.Agree.{ArePlain}
 use Rattle.nm_sure.specs.Plain.{at_of, next_of, plain_end}
 use Rattle.nm_sure.specs.PlainText.{are_at_end, plain_done, plain_text, plain_told, rank_text, rank_told, told_after}
@@ -28,10 +29,6 @@ use Rattle.nm_sure.proofs.ShownAnswers.{told_all}
 use Rattle.nm_types.proofs.ListLemmas.{get_map}
 use Rattle.nm_types.proofs.OptionLemmas.{if_some}
 use Rattle.nm_types.specs.Bodies.{HaveTheirLength}
-
--- the law of reports
-abbrev pub SayWhatWasTold : Type 0
-SayWhatWasTold = (run : RunRecord) → report_text false run ≡ told_text (told_of run) run.cells run.done
 
 -- where each rank tells its text, the texts are theirs in order
 each_text : (T : ℕ → List ℕ) (n : ℕ) (accounts : List RankAccount) →

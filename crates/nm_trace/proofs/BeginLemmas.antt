@@ -15,11 +15,10 @@ use Rattle.nm_history.specs.declared.events.Event.{Event}
 use Rattle.nm_history.specs.declared.events.Happened.{Happened}
 use Rattle.nm_history.specs.declared.events.Happened.TheVariants as what
 use Rattle.nm_history.specs.Quiescence.{Ended}
-use Rattle.nm_report.specs.declared.accounts.RankAccount.{RankAccount}
 use Rattle.nm_report.specs.declared.pairs.PairCount.{PairCount}
 use Rattle.nm_report.specs.declared.records.RunRecord.{RunRecord}
 use Rattle.nm_report.specs.Answers.{answer_words}
-use Rattle.nm_report.specs.Ends.{ends_of}
+use Rattle.nm_report.specs.Ends.{account_of, ends_of}
 use Rattle.nm_report.specs.Events.{event_line, event_words, pair_line}
 use Rattle.nm_report.specs.Report.{cells_line, end_line, ran_line}
 use Rattle.nm_trace.specs.declared.notes.Note.{Note}
@@ -118,11 +117,6 @@ line_filled : (note : Note) (rank : ℕ) → note.rank ≡ rank → event_line r
 line_filled note rank same =
     rw (← same) (ap (λ ws. text_line (codes "@" ∷ decimal note.rank ∷ decimal note.event.stamp ∷ ws))
     (told_filled note.event.what note.len))
-
--- the account of a rank that ended so
-abbrev account_of : Ended → RankAccount
-account_of e =
-    record { history = record { events = e.events; spare = 0 }; at = e.at; waits = e.waits }
 
 ends_are : (ends : List Ended) → ends_of (map account_of ends) ≡ ends
 ends_are [] = refl

@@ -7,7 +7,7 @@ use Rattle.nm_history.specs.declared.events.Event.{Event}
 use Rattle.nm_history.specs.Quiescence.{Ended}
 use Rattle.nm_report.specs.declared.accounts.RankAccount.{RankAccount}
 use Rattle.nm_report.specs.declared.pairs.PairCount.{PairCount}
-use Rattle.nm_report.specs.Ends.{ends_of}
+use Rattle.nm_report.specs.Ends.{end_of_account, ends_of}
 use Rattle.nm_script.specs.Lines.{words_of}
 use Rattle.nm_trace.specs.declared.notes.Note.{Note}
 use Rattle.nm_trace.specs.Answers.{is_due, given}
@@ -16,7 +16,7 @@ use Rattle.nm_trace.specs.Lines.{first_line}
 use Rattle.nm_trace.specs.Machine.{Trace, Noting, Counting, Telling, Closing, Over}
 use Rattle.nm_trace.specs.Machine.{cells_of, counting, end_of, ended, feed, is_next, last_rank, next_note}
 use Rattle.nm_trace.specs.Machine.{noting, settled, telling, waits_of}
-use Rattle.nm_trace.specs.Outcome.{AnswerPlace, end_of_account, line_as, tells, tells_next, told}
+use Rattle.nm_trace.specs.Outcome.{AnswerPlace, line_as, tells, tells_next, told}
 use Rattle.nm_trace.proofs.OutcomeLemmas.{first_or_none, told_none, told_passes, told_read, told_refused}
 use Rattle.nm_trace.proofs.OutcomeLemmas.{told_same, told_stops}
 use Rattle.nm_trace.proofs.SoundLemmas.{more_ranks}

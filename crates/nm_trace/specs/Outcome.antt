@@ -3,7 +3,6 @@ use Rattle.std.specs.Prelude.{◌≡◌, ℕ, ◌+◌, ◌<◌, List, [], ◌∷
 use Rattle.std.specs.Prelude.{Result, Ok, Err}
 use Rattle.nm_history.specs.declared.events.Event.{Event}
 use Rattle.nm_history.specs.Quiescence.{Ended}
-use Rattle.nm_report.specs.declared.accounts.RankAccount.{RankAccount}
 use Rattle.nm_report.specs.declared.pairs.PairCount.{PairCount}
 use Rattle.nm_trace.specs.declared.faults.TraceFault.{TraceFault}
 use Rattle.nm_trace.specs.declared.faults.TraceFault.TheVariants as fault
@@ -55,10 +54,6 @@ tells p events due = Telling p.pairs (record { ends = p.ends; events = events; d
 abbrev pub tells_next : AnswerPlace → Ended → List Note → Stage
 tells_next p rank due =
     Telling p.pairs (record { ends = p.ends ++ rank ∷ []; events = []; due = due })
-
--- what an account says of its rank
-abbrev pub end_of_account : RankAccount → Ended
-end_of_account rank = record { at = rank.at; waits = rank.waits; events = rank.history.events }
 
 -- a fault that names a line names the one that stops the text
 abbrev pub Stops : Result Trace ℕ → TraceFault → Type 0

@@ -6,13 +6,13 @@ ghost use Rattle.nm_history.specs.declared.events.Event.{Event};
 ghost use Rattle.nm_history.specs.Quiescence.{Ended};
 ghost use Rattle.nm_report.specs.declared.pairs.PairCount.{PairCount};
 ghost use Rattle.nm_report.specs.declared.records.RunRecord.{RunRecord};
-ghost use Rattle.nm_report.specs.Ends.{ends_of};
+ghost use Rattle.nm_report.specs.Ends.{end_of_account, ends_of};
 ghost use Rattle.nm_report.specs.Lawful.{SameRun};
 ghost use Rattle.nm_trace.specs.declared.faults.TraceFault.TheVariants.{Bad, Memory};
 ghost use Rattle.nm_trace.specs.declared.notes.Note.{Note};
 ghost use Rattle.nm_trace.specs.Answers.{is_ran};
 ghost use Rattle.nm_trace.specs.Machine.{Closing, Counting, Part, Telling, is_next, start};
-ghost use Rattle.nm_trace.specs.Outcome.{AnswerPlace, Stops, end_of_account, tells, tells_next, told};
+ghost use Rattle.nm_trace.specs.Outcome.{AnswerPlace, Stops, tells, tells_next, told};
 ghost use Rattle.nm_trace.specs.Texts.{trace_of};
 ghost use Rattle.nm_trace.specs.Traces.{IsFirstBad, IsTraceOf, Names};
 

@@ -2,14 +2,14 @@ use Rattle.std.proofs.Common.{◌≡◌, ℕ, ◌+◌, ◌∷◌, [], List, leng
 use Rattle.std.proofs.lemmas.List.{length-map}
 use Rattle.nm_types.specs.Commands.{commands_of}
 use Rattle.nm_history.specs.RankRun.{IsRankRun}
-use Rattle.nm_report.specs.Ends.{ends_of}
+use Rattle.nm_report.specs.Ends.{end_of_account, ends_of}
 use Rattle.nm_check_rank.specs.Tabled.{AreRankTables}
 use Rattle.nm_check_rank.specs.declared.paired.tables.Tables.{Tables}
 use Rattle.nm_check_rank.specs.FirstBroken.{IsFirstBroken}
 use Rattle.nm_check_rank.specs.OwnClauses.{KeepsOwn, own_order}
 use Rattle.nm_check.specs.Verdicts.{RunsItsOwn}
 use Rattle.nm_check_ranks.proofs.ItemLemmas.{EachItem, no_item, one_more}
-use Rattle.nm_check_ranks.proofs.RankLemmas.{all_ranks, below, ended, next_rank, none_yet}
+use Rattle.nm_check_ranks.proofs.RankLemmas.{all_ranks, below, next_rank, none_yet}
 use Rattle.nm_check.proofs.RankedLemmas.{of_end}
 use Rattle.nm_check_ranks.proofs.TableLemmas.{TabledAt}
 use Rattle.nm_check.proofs.ranking.judge_ranks.Goals as goal
@@ -61,7 +61,8 @@ loop-i-preserved c =
 
 pub returns : goal.returns
 returns c =
-    let many : length (ends_of c.args.ranks.now) ≡ length c.args.ranks.now = length-map c.args.ranks.now ended in (
+    let many : length (ends_of c.args.ranks.now) ≡ length c.args.ranks.now =
+    length-map c.args.ranks.now end_of_account in (
       all_ranks (RunsItsOwn c.args.shape c.args.lines.now) c.args.ranks.now c.loop-i.i c.loop-i-test.false
           c.loop-i.invariant.1,
       record {

@@ -1,8 +1,7 @@
 use Rattle.std.proofs.Common.{◌≡◌, ℕ, ◌+◌, ◌∷◌, [], length, sym, ◌∙◌, ap, subst, arith, length-append}
 use Rattle.std.proofs.lemmas.List.{length-map}
-use Rattle.nm_report.specs.Ends.{ends_of}
+use Rattle.nm_report.specs.Ends.{end_of_account, ends_of}
 use Rattle.nm_check_ranks.proofs.ItemLemmas.{one_more}
-use Rattle.nm_check_ranks.proofs.RankLemmas.{ended}
 use Rattle.nm_check_ranks.proofs.TableLemmas.{TabledAt, tabled_rank}
 use Rattle.nm_check_ranks.proofs.WasLemmas.{rank_keeps}
 use Rattle.nm_check_ranks.proofs.tabling.tables_of.Goals as goal
@@ -29,7 +28,8 @@ loop-i-preserved c =
 
 pub returns : goal.returns
 returns c =
-    let many : length (ends_of c.args.ranks.now) ≡ length c.args.ranks.now = length-map c.args.ranks.now ended in
+    let many : length (ends_of c.args.ranks.now) ≡ length c.args.ranks.now =
+    length-map c.args.ranks.now end_of_account in
     record {
       as_many = omega (arith, many, c.loop-i.invariant.0, c.loop-i-test.false, c.loop-i.auto.i-end);
       each = c.loop-i.invariant.1;

@@ -1,8 +1,8 @@
 use Rattle.std.proofs.Common.{◌≡◌, ◌<◌, [], arith, length, sym, ◌∙◌}
 use Rattle.std.proofs.lemmas.List.{length-map, length_push}
 use Rattle.std.proofs.lemmas.Result.{err_from_is_err_and}
-use Rattle.nm_report.specs.Ends.{ends_of}
-use Rattle.nm_trace.specs.Outcome.{AnswerPlace, end_of_account}
+use Rattle.nm_report.specs.Ends.{end_of_account, ends_of}
+use Rattle.nm_trace.specs.Outcome.{AnswerPlace}
 use Rattle.nm_trace.proofs.StageLemmas.{ends_more, ranks_end}
 use Rattle.nm_trace.proofs.reading.read_ranks.Goals as goal
 

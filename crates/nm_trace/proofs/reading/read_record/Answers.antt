@@ -1,8 +1,7 @@
 use Rattle.std.proofs.Common.{◌≡◌, length, ◌∙◌}
 use Rattle.std.proofs.lemmas.List.{length-map}
 use Rattle.std.proofs.lemmas.Result.{err_from_is_err_and}
-use Rattle.nm_report.specs.Ends.{ends_of}
-use Rattle.nm_trace.specs.Outcome.{end_of_account}
+use Rattle.nm_report.specs.Ends.{end_of_account, ends_of}
 use Rattle.nm_trace.proofs.reading.read_record.Goals as goal
 
 pub returns-in_err-ranks-clause-stops : goal.returns-in_err-ranks-clause-stops

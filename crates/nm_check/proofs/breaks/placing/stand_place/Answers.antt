@@ -1,7 +1,7 @@
 use Rattle.std.proofs.Common.{◌≡◌, ◌<◌, Option, ℕ, length, sym, ap, arith, get_or}
 use Rattle.nm_report.specs.declared.accounts.RankAccount.{RankAccount}
-use Rattle.nm_report.specs.Ends.{ends_of}
-use Rattle.nm_check_ranks.proofs.RankLemmas.{end_at, ended}
+use Rattle.nm_report.specs.Ends.{end_of_account, ends_of}
+use Rattle.nm_report.proofs.EndLemmas.{end_at}
 use Rattle.nm_check.specs.declared.breaks.places.Place.TheVariants.{Standing}
 use Rattle.nm_check.proofs.SpotLemmas.{many_ends, standing_known, waits_here}
 use Rattle.nm_check.proofs.breaks.placing.stand_place.Goals as goal
@@ -23,7 +23,7 @@ returns-in-Some c =
       c.in-Some.rank,
       c.in-Some.ensures,
       ap (λ (o : Option ℕ). Standing c.in-Some.rank o) (sym (waits_here (ends_of c.args.ranks.now) c.in-Some.rank
-          (ended a) (end_at c.args.ranks.now c.in-Some.rank a inside is))),
+          (end_of_account a) (end_at c.args.ranks.now c.in-Some.rank a inside is))),
     )
 
 pub returns-in-None : goal.returns-in-None

@@ -5,10 +5,9 @@ use Rattle.nm_history.specs.declared.events.Event.{Event}
 use Rattle.nm_history.specs.Matching.{matched_pairs}
 use Rattle.nm_history.specs.Outgoing.{packets_to}
 use Rattle.nm_history.specs.Quiescence.{Ended, packets_by_rank}
-use Rattle.nm_report.specs.Ends.{ends_of, packets_of}
+use Rattle.nm_report.specs.Ends.{end_of_account, ends_of, packets_of}
 use Rattle.nm_check_ranks.specs.Counting.{AreDue}
 use Rattle.nm_check_rank.specs.declared.paired.tables.Tables.{Tables}
-use Rattle.nm_check_ranks.proofs.RankLemmas.{ended}
 use Rattle.nm_check_ranks.proofs.TableLemmas.{table_inside, tables_at}
 use Rattle.nm_check_ranks.proofs.CountingLemmas.{all_decided, rank_breaks, rank_more}
 use Rattle.nm_check_ranks.proofs.rest.counts.are_counted.Goals as goal
@@ -54,7 +53,7 @@ returns-in-None c = λ lines same.
 pub returns : goal.returns
 returns c = λ lines.
     let ends : List Ended = ends_of c.args.ranks.now in
-    let many : length ends ≡ length c.args.ranks.now = length-map c.args.ranks.now ended in
+    let many : length ends ≡ length c.args.ranks.now = length-map c.args.ranks.now end_of_account in
     let over : length ends ≤ c.loop-i.i = omega (arith, many, c.loop-i-test.false) in
     all_decided (packets_of c.args.pairs.now) (packets_of c.loop-i.left.now)
     (packets_by_rank lines (range_with_len 0 (length ends)) 0 ends) c.is_empty.result

@@ -2,8 +2,9 @@ use Rattle.std.proofs.Common.{get_or, ap, sym, subst, Option}
 use Rattle.std.specs.Prelude.{IsSomeAnd}
 use Rattle.nm_history.specs.Quiescence.{Ended}
 use Rattle.nm_report.specs.Ends.{ends_of}
+use Rattle.nm_report.proofs.EndLemmas.{end_at}
 use Rattle.nm_check_rank.specs.Breaks.{BreaksFirstAt}
-use Rattle.nm_check_ranks.proofs.RankLemmas.{all_ranks, below, end_at, next_rank, none_yet}
+use Rattle.nm_check_ranks.proofs.RankLemmas.{all_ranks, below, next_rank, none_yet}
 use Rattle.nm_check_rank.specs.declared.paired.tables.Tables.{Tables}
 use Rattle.nm_check_ranks.proofs.TableLemmas.{table_inside, tables_at}
 use Rattle.nm_check_ranks.specs.RestBreaks.{KeepRestAt}

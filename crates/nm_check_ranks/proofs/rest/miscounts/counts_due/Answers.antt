@@ -5,11 +5,11 @@ use Rattle.nm_history.specs.declared.events.Event.{Event}
 use Rattle.nm_history.specs.Matching.{matched_pairs}
 use Rattle.nm_history.specs.Outgoing.{packets_to}
 use Rattle.nm_history.specs.Quiescence.{Ended, packets_by_rank}
-use Rattle.nm_report.specs.Ends.{ends_of, packets_of}
+use Rattle.nm_report.specs.Ends.{end_of_account, ends_of, packets_of}
 use Rattle.nm_check_rank.specs.declared.paired.tables.Tables.{Tables}
 use Rattle.nm_check_ranks.specs.Counting.{AreDue}
 use Rattle.nm_check_ranks.proofs.MiscountLemmas.{rows_pushed}
-use Rattle.nm_check_ranks.proofs.RankLemmas.{ended, of_rank}
+use Rattle.nm_check_ranks.proofs.RankLemmas.{of_rank}
 use Rattle.nm_check_ranks.proofs.TableLemmas.{table_inside, tables_at}
 use Rattle.nm_check_ranks.proofs.rest.miscounts.counts_due.Goals as goal
 
@@ -61,7 +61,7 @@ loop-i-preserved c = λ lines.
 pub returns : goal.returns
 returns c = λ lines.
     let ends : List Ended = ends_of c.args.ranks.now in
-    let many : length ends ≡ length c.args.ranks.now = length-map c.args.ranks.now ended in
+    let many : length ends ≡ length c.args.ranks.now = length-map c.args.ranks.now end_of_account in
     let over : length ends ≤ c.loop-i.i = omega (arith, many, c.loop-i-test.false) in
     c.loop-i.invariant lines
     ∙ ap (λ (es : List Ended). packets_by_rank lines (range_with_len 0 (length ends)) 0 es)

@@ -3,7 +3,8 @@ use Rattle.std.specs.Prelude.{IsSomeAnd}
 use Rattle.nm_types.specs.Commands.{commands_of}
 use Rattle.nm_history.specs.Quiescence.{Ended, IsStopped}
 use Rattle.nm_report.specs.Ends.{ends_of}
-use Rattle.nm_check_ranks.proofs.RankLemmas.{all_ranks, below, end_at, next_rank, none_yet}
+use Rattle.nm_report.proofs.EndLemmas.{end_at}
+use Rattle.nm_check_ranks.proofs.RankLemmas.{all_ranks, below, next_rank, none_yet}
 use Rattle.nm_check_ranks.proofs.TableLemmas.{table_inside, tables_at}
 use Rattle.nm_check_ranks.proofs.rest.waits.first_not_standing.Goals as goal
 
