@@ -10,13 +10,13 @@ use Rattle.nm_script.specs.declared.command_line.Mode.TheVariants as mode
 use Rattle.nm_script.specs.Spelled.{IsTextOf, SpellsNone}
 use Rattle.nm_script.specs.declared.faults.Kind.{Kind}
 use Rattle.nm_script.specs.declared.faults.TextFault.TheVariants as fault
+use Rattle.nm_script.specs.FaultTexts.{fault_text}
 use Rattle.nm_report.specs.declared.records.RunRecord.{RunRecord}
 use Rattle.nm_world.specs.declared.whole.Ways.{Ways}
 use Rattle.nm_cli.specs.Answers.{Refuses, end_status, run_text}
 use Rattle.nm_cli.specs.Done.{Ending, Ends}
 use Rattle.nm_cli.specs.Endings.{IsRefused, IsReported}
 use Rattle.nm_check.specs.Endings.{OrFails, OrUnwritten}
-use Rattle.nm_cli.specs.Faults.{fault_text}
 use Rattle.nm_cli.specs.Plains.{IsNotPlain, IsPlain}
 use Rattle.nm_cli.specs.Scripts.{HandsOut, IsAsked, IsKnown, IsRunOfWords, Makes, Reads}
 use Rattle.nm_cli.specs.Scripts.{ReadsSource, Runs, read_of}

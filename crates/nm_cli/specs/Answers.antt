@@ -11,6 +11,7 @@ use Rattle.nm_script.specs.Spelled.{IsTextOf, SpellsNone}
 use Rattle.nm_script.specs.declared.faults.Kind.{Kind}
 use Rattle.nm_script.specs.declared.faults.TextFault.{TextFault}
 use Rattle.nm_script.specs.declared.faults.TextFault.TheVariants as fault
+use Rattle.nm_script.specs.FaultTexts.{fault_text}
 use Rattle.nm_report.specs.Report.{report_text}
 use Rattle.nm_report.specs.Summary.{CountsFit, summary_text}
 use Rattle.nm_report.specs.Told.{told_of}
@@ -33,7 +34,6 @@ use Rattle.nm_persist.specs.Report.{run_text as plan_run_text}
 use Rattle.nm_persist.specs.Rules.{IsTextOf as IsPlanText}
 use Rattle.nm_check.specs.Answers.{unread}
 use Rattle.nm_cli.specs.Checks.{IsCheckedAs, IsCheckedIn, checked_status, checked_text}
-use Rattle.nm_cli.specs.Faults.{fault_text}
 use Rattle.nm_cli.specs.Plains.{IsNotPlain, IsPlain, free_text}
 use Rattle.nm_cli.specs.Plans.{IsRunOfPlan, PlanRefuses, plan_fault_text}
 use Rattle.nm_cli.specs.Scripts.{IsRunOfScript, IsRunOfWords, Reads, ReadsSource, Runs}

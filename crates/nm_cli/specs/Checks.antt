@@ -2,13 +2,13 @@
 use Rattle.std.specs.Prelude.{◌≡◌, ℕ, List, take, Option, IfSome}
 use Rattle.nm_outside.specs.Told.{Appends}
 use Rattle.nm_script.specs.declared.command_line.CommandLine.{CommandLine}
+use Rattle.nm_script.specs.FaultTexts.{fault_text}
 use Rattle.nm_check.specs.declared.verdicts.Verdict.TheVariants.{Holds}
 use Rattle.nm_check.specs.Answers.{IsTraced, verdict_status}
 use Rattle.nm_check.specs.Checks.{IsChecked}
 use Rattle.nm_check.specs.Texts.{trace_fault_text, verdict_text}
 use Rattle.nm_check.specs.declared.checked.checks.Checked.{Checked}
 use Rattle.nm_check.specs.declared.checked.checks.Checked.TheVariants.{NoTrace, NoScript, BadTrace, Judged}
-use Rattle.nm_cli.specs.Faults.{fault_text}
 use Rattle.nm_cli.specs.Scripts.{limit_of}
 
 -- what is said of a script and its trace: of a script that is none, what is said of it without a trace

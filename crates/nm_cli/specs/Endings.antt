@@ -4,13 +4,13 @@ use Rattle.nm_outside.specs.Told.{Appends}
 use Rattle.nm_script.specs.declared.command_line.CommandLine.{CommandLine}
 use Rattle.nm_script.specs.declared.faults.Kind.{Kind}
 use Rattle.nm_script.specs.declared.faults.TextFault.TheVariants as fault
+use Rattle.nm_script.specs.FaultTexts.{fault_text}
 use Rattle.nm_report.specs.declared.records.RunRecord.{RunRecord}
 use Rattle.nm_world.specs.declared.whole.Ways.{Ways}
 use Rattle.nm_multi.specs.Calls.{Logged as Log}
 use Rattle.nm_multi.specs.Programs.{IsWhole}
 use Rattle.nm_multi.specs.Text.{log_text}
 use Rattle.nm_cli.specs.Answers.{Refuses, end_status, run_text}
-use Rattle.nm_cli.specs.Faults.{fault_text}
 use Rattle.nm_persist.specs.Report.{run_text as plan_run_text}
 use Rattle.nm_plans.specs.declared.faults.PlanKind.{PlanKind}
 use Rattle.nm_plans.specs.declared.lines.PlanLine.{PlanLine}

@@ -2,7 +2,6 @@ pub mod Answers
 pub mod Checks
 pub mod Done
 pub mod Endings
-pub mod Faults
 pub mod Plains
 pub mod Plans
 pub mod Scripts

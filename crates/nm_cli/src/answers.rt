@@ -6,7 +6,6 @@ ghost use Rattle.nm_report.specs.Told.{told_of};
 ghost use Rattle.nm_cli.specs.Answers.{CanBeTold, run_text as run_text_lem};
 ghost use Rattle.nm_cli.specs.Checks.{checked_status as checked_status_lem};
 ghost use Rattle.nm_cli.specs.Checks.{checked_text as checked_text_lem};
-ghost use Rattle.nm_cli.specs.Faults.{fault_text, kind_text};
 ghost use Rattle.nm_cli.specs.Answers.{end_status as end_status_lem, status_of, text_of, usage};
 ghost use Rattle.nm_cli.specs.Plans.{plan_fault_text as plan_fault_text_lem, plan_kind_text};
 ghost use Rattle.nm_cli.specs.Plains.{free_text as free_text_lem};
@@ -16,8 +15,8 @@ use nm_check::checked::{Checked, trace_fault_text, verdict_text};
 use nm_multi::CallLog;
 use nm_persist::{Plan, PlanKind};
 use nm_report::RunRecord;
-use nm_script::Kind;
 use nm_script::command_line::Mode;
+use nm_script::{Kind, fault_text};
 use nm_sure::PlainRun;
 use nm_types::Memory;
 use nm_world::Ways;
@@ -89,7 +88,7 @@ pub fn text(alloc: Global, answer: &Response) -> Result<Vec<u8>, Memory>
     match answer {
         Response::Usage => Ok(line(alloc, USAGE)?),
         Response::Unread => Ok(line(alloc, "fault read\n")?),
-        Response::Refused { line, kind } => Ok(fault(alloc, *line, *kind)?),
+        Response::Refused { line, kind } => Ok(fault_text(alloc, *line, *kind)?),
         Response::Ran { mode, run, .. } => run_text(alloc, mode, run),
         Response::Free { line } => Ok(free_text(alloc, *line)?),
         Response::Determinate { run } => Ok(run.text.clone()?),
@@ -163,7 +162,7 @@ fn checked_text(alloc: Global, checked: Checked) -> Result<Vec<u8>, AllocError>
 {
     match checked {
         Checked::NoTrace => trace_fault_text(alloc, 0),
-        Checked::NoScript { line, kind } => fault(alloc, line, kind),
+        Checked::NoScript { line, kind } => fault_text(alloc, line, kind),
         Checked::BadTrace { line } => trace_fault_text(alloc, line),
         Checked::Judged { verdict } => verdict_text(alloc, verdict),
     }
@@ -209,28 +208,4 @@ fn line(alloc: Global, text: &str) -> Result<Vec<u8>, AllocError>
     ensures { IfOk result (λ bytes. bytes.items ≡ text.now) }
 {
     Vec::from_slice(alloc, text.as_bytes())
-}
-
-fn fault(alloc: Global, line: u32, kind: Kind) -> Result<Vec<u8>, AllocError>
-    ensures { IfOk result (λ bytes. bytes.items ≡ fault_text line kind) }
-{
-    let text = format!(in alloc; "fault script {} {}\n", line, kind_name(kind))?;
-    Ok(text.into_bytes())
-}
-
-fn kind_name(kind: Kind) -> &'static str
-    ensures { result.now ≡ kind_text kind }
-{
-    match kind {
-        Kind::TooLong => "toolong",
-        Kind::NotAscii => "notascii",
-        Kind::Lines => "lines",
-        Kind::First => "first",
-        Kind::Rank => "rank",
-        Kind::Command => "command",
-        Kind::Count => "count",
-        Kind::Number => "number",
-        Kind::Body => "body",
-        Kind::BodyTotal => "bodytotal",
-    }
 }

@@ -5,6 +5,7 @@ use Rattle.nm_types.specs.declared.scripts.Line.{Line}
 use Rattle.nm_types.specs.Sizes.{Sizes}
 use Rattle.nm_script.specs.Rules.{IsFirstFault}
 use Rattle.nm_script.specs.Spelled.{IsTextOf}
+use Rattle.nm_script.specs.FaultTexts.{fault_text}
 use Rattle.nm_check.specs.Checks.{IsInput}
 use Rattle.nm_check.specs.Done.{Ending, IsSaid}
 use Rattle.nm_check.specs.Inputs.{HasNoCut}
@@ -23,7 +24,7 @@ use Rattle.nm_outcomes_top.specs.declared.tellings.Telling.TheVariants.{Fewer, L
 use Rattle.nm_outcomes_top.specs.declared.words.Asked.{Asked}
 use Rattle.nm_outcomes_top.specs.declared.words.Question.{Question}
 use Rattle.nm_outcomes_top.specs.declared.words.Question.TheVariants.{All, Trace, Among}
-use Rattle.nm_outcomes_top.specs.Texts.{fault_text, fewer_text, is_stuck, no_report, outcomes_text, outgrown_text}
+use Rattle.nm_outcomes_top.specs.Texts.{fewer_text, is_stuck, no_report, outcomes_text, outgrown_text}
 use Rattle.nm_outcomes_top.specs.Texts.{place_text, stuck_count, usage}
 use Rattle.nm_check.specs.Answers.{unread}
 use Rattle.nm_outcomes_top.specs.OptionWords.{IsTaken, NotTaken, sizes_for}

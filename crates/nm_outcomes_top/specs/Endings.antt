@@ -5,6 +5,7 @@ use Rattle.nm_types.specs.declared.scripts.Line.{Line}
 use Rattle.nm_script.specs.declared.faults.Kind.{Kind}
 use Rattle.nm_script.specs.Rules.{IsFirstFault}
 use Rattle.nm_script.specs.Spelled.{IsTextOf}
+use Rattle.nm_script.specs.FaultTexts.{fault_text}
 use Rattle.nm_outcomes.specs.Outcomes.{AreOutcomes}
 use Rattle.nm_listed.specs.Finding.{HasFewer, IsOutcomeTrace}
 use Rattle.nm_listed.specs.Places.{IsFirstNew}
@@ -13,7 +14,7 @@ use Rattle.nm_outcomes_top.specs.declared.words.Asked.{Asked}
 use Rattle.nm_outcomes_top.specs.declared.words.Question.{Question}
 use Rattle.nm_outcomes_top.specs.declared.words.Question.TheVariants.{All, Trace, Among}
 use Rattle.nm_outcomes_top.specs.Answers.{IsInputOf, IsOutgrowing, listed_status, read_of, traced_status}
-use Rattle.nm_outcomes_top.specs.Texts.{fault_text, fewer_text, outcomes_text, outgrown_text, place_text}
+use Rattle.nm_outcomes_top.specs.Texts.{fewer_text, outcomes_text, outgrown_text, place_text}
 use Rattle.nm_outcomes_top.specs.OptionWords.{sizes_for}
 
 -- the bytes spell no script, and their first fault was said

@@ -3,8 +3,6 @@ use Rattle.std.specs.Prelude.{ℕ, ◌+◌, ◌++◌, Bool, List, [], ◌∷◌,
 use Rattle.std.specs.List.{ends_with}
 use Rattle.nm_listed.specs.declared.places.Place.{Place}
 use Rattle.nm_listed.specs.declared.places.Place.TheVariants.{At, Not}
-use Rattle.nm_script.specs.declared.faults.Kind.{Kind}
-use Rattle.nm_script.specs.declared.faults.Kind.TheVariants as kind
 
 -- a report whose last line says that a rank is stuck
 abbrev pub is_stuck : List ℕ → Bool
@@ -56,21 +54,3 @@ usage =
     codes "usage: outcomes [--cells N] [--eager N] STATES <SCRIPT\n"
     ++ codes "       outcomes --trace K [--cells N] [--eager N] STATES <SCRIPT\n"
     ++ codes "       outcomes --among [--cells N] [--eager N] STATES <SCRIPT_AND_REPORT\n"
-
--- the name of a kind of fault
-abbrev pub kind_text : Kind → List ℕ
-kind_text kind.TooLong = codes "toolong"
-kind_text kind.NotAscii = codes "notascii"
-kind_text kind.Lines = codes "lines"
-kind_text kind.First = codes "first"
-kind_text kind.Rank = codes "rank"
-kind_text kind.Command = codes "command"
-kind_text kind.Count = codes "count"
-kind_text kind.Number = codes "number"
-kind_text kind.Body = codes "body"
-kind_text kind.BodyTotal = codes "bodytotal"
-
--- what is said of a fault of the script
-abbrev pub fault_text : ℕ → Kind → List ℕ
-fault_text line kind =
-    codes "fault script " ++ (decimal line ++ (codes " " ++ (kind_text kind ++ codes "\n")))

@@ -2,10 +2,10 @@
 
 ghost use Rattle.std.specs.Prelude.{◌≡◌, IfOk};
 ghost use Rattle.nm_outcomes_top.specs.Answers.{status_of, text_of};
-ghost use Rattle.nm_outcomes_top.specs.Texts.{fault_text, kind_text, outgrown_text};
+ghost use Rattle.nm_outcomes_top.specs.Texts.{outgrown_text};
 
 use crate::tellings::{Telling, telling_status, telling_text};
-use nm_script::Kind;
+use nm_script::{Kind, fault_text};
 use nm_types::Memory;
 use std::alloc::{AllocError, Global};
 
@@ -39,32 +39,6 @@ fn line(alloc: Global, text: &str) -> Result<Vec<u8>, AllocError>
     Vec::from_slice(alloc, text.as_bytes())
 }
 
-/// The name of a kind of fault.
-fn kind_name(kind: Kind) -> &'static str
-    ensures { result.now ≡ kind_text kind }
-{
-    match kind {
-        Kind::TooLong => "toolong",
-        Kind::NotAscii => "notascii",
-        Kind::Lines => "lines",
-        Kind::First => "first",
-        Kind::Rank => "rank",
-        Kind::Command => "command",
-        Kind::Count => "count",
-        Kind::Number => "number",
-        Kind::Body => "body",
-        Kind::BodyTotal => "bodytotal",
-    }
-}
-
-/// What is said of a fault of the script.
-fn fault(alloc: Global, line: u32, kind: Kind) -> Result<Vec<u8>, AllocError>
-    ensures { IfOk result (λ bytes. bytes.items ≡ fault_text line kind) }
-{
-    let text = format!(in alloc; "fault script {} {}\n", line, kind_name(kind))?;
-    Ok(text.into_bytes())
-}
-
 /// What is said where there are too many states, or the reports are too long.
 fn outgrown(alloc: Global, states: u32) -> Result<Vec<u8>, AllocError>
     ensures { IfOk result (λ bytes. bytes.items ≡ outgrown_text states) }
@@ -81,7 +55,7 @@ pub fn text(alloc: Global, answer: &Response) -> Result<Vec<u8>, Memory>
         Response::Usage => Ok(line(alloc, USAGE)?),
         Response::Unread => Ok(line(alloc, "fault read\n")?),
         Response::NoReport => Ok(line(alloc, "fault report\n")?),
-        Response::Refused { line, kind } => Ok(fault(alloc, *line, *kind)?),
+        Response::Refused { line, kind } => Ok(fault_text(alloc, *line, *kind)?),
         Response::Outgrown { states } => Ok(outgrown(alloc, *states)?),
         Response::Told { telling } => telling_text(alloc, telling),
     }

@@ -5,6 +5,7 @@ pub mod CommandWords
 pub mod Commands
 pub mod Decimal
 pub mod Digits
+pub mod FaultTexts
 pub mod Faults
 pub mod FloodScripts
 pub mod Keywords

@@ -35,7 +35,8 @@
 //! - What is read is spelled by the bytes, within the limits (clause `taken`).
 //! - Whatever bytes spell is read as just that, unless memory runs out (clause `takes`).
 //! - A refusal has the line and the kind of the first fault, and each text with a fault is refused
-//!   with it, unless memory runs out (clauses `fault`, `faults`).
+//!   with it, unless memory runs out (clauses `fault`, `faults`). What is said of it is its line, and the
+//!   name of its kind (`fault_text`).
 //! - What is written is the script's one text, and it is spelled by a script within its limits
 //!   (clauses `exact`, `spelled`).
 //! - Bytes spell at most one script; what was written is read as the same script; what was read is
@@ -48,6 +49,7 @@
 mod bodies;
 pub mod command_line;
 mod commands;
+mod fault_texts;
 mod faults;
 pub mod flood;
 mod keywords;
@@ -60,6 +62,7 @@ mod writing;
 
 pub use bodies::body_from;
 pub use commands::rank_from;
+pub use fault_texts::fault_text;
 pub use faults::{Kind, LineFault, ScriptFault, TextFault};
 pub use lengths::{command_len, is_too_long};
 pub use reading::read;
