@@ -3,5 +3,5 @@ mod KeptLemmas
 mod ListLemmas
 mod OpeningLemmas
 mod PortLemmas
-mod RingLemmas
+pub mod RingLemmas
 mod StepLemmas

@@ -6,6 +6,7 @@ use Rattle.std.proofs.lemmas.List.{get_or-map, length-map, map-set}
 use mathlib.Core.Option as maybe
 use Rattle.atomic_table.specs.Table.{step, rest}
 use Rattle.nm_chain.specs.Spoken.{view}
+use Rattle.nm_chain.specs.Plays.{capped}
 use Rattle.nm_types.specs.declared.packets.Piece.{Piece}
 use Rattle.nm_copyring.specs.declared.table.Work.{Work}
 use Rattle.nm_copyring.specs.declared.table.Work.TheVariants.{Idle, Filling, Emptying}
@@ -14,7 +15,7 @@ use Rattle.nm_copyring.specs.declared.table.Look.TheVariants.{Fresh, Free, Full}
 use Rattle.nm_copyring.specs.declared.table.Entry.{Entry}
 use Rattle.nm_copyring.specs.declared.table.Lane.{Lane}
 use Rattle.nm_copyring.specs.declared.tallies.Tally.{Tally}
-use Rattle.nm_copyring.specs.Counted.{Counts, counted, tally}
+use Rattle.nm_copyring.specs.Counted.{Counts, tally}
 use Rattle.nm_copyring.specs.Rule.{Load, lane, new_lane, place}
 use Rattle.nm_copyring.specs.Plays.{Knowing, Rests, IsOne, mine, knowing, unlooked, with_work, with_look, with_lane}
 use Rattle.nm_copyring.specs.Plays.{one_pushed, one_pulled, one_full, one_empty, next_out, next_in}
@@ -136,8 +137,8 @@ counts_lane e ts j f t counts is =
     (λ i. set (counts i) j (is i)) ∙ sym (map-set tally e.lanes j (f (lane e j)))
 
 -- a count stands still at its last value
-pub counted_more : (k n m : ℕ) → n ≡ counted k → m ≡ min (n + 1) 18446744073709551615
-    → m ≡ counted (suc k)
+pub counted_more : (k n m : ℕ) → n ≡ capped k → m ≡ min (n + 1) 18446744073709551615
+    → m ≡ capped (suc k)
 counted_more k n m is more = grind (arith, nat_tests, is, more)
 
 -- what a port knows once a call changed what it has of one rank

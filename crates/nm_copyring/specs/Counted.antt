@@ -1,21 +1,18 @@
 -- What a port counts.
-use Rattle.std.specs.Prelude.{◌≡◌, ℕ, List, length, map, min, slice_index_or}
+use Rattle.std.specs.Prelude.{◌≡◌, ℕ, List, length, map, slice_index_or}
+use Rattle.nm_chain.specs.Plays.{capped}
 use Rattle.nm_copyring.specs.declared.tallies.Tally.{Tally}
 use Rattle.nm_copyring.specs.declared.table.Lane.{Lane}
 use Rattle.nm_copyring.specs.declared.table.Entry.{Entry}
 use Rattle.nm_copyring.specs.Rule.{new_lane}
-
--- a count stands still at the last value of its 64 bits
-abbrev pub counted : ℕ → ℕ
-counted k = min k 18446744073709551615
 
 -- what is counted of what the rank has of another one
 abbrev pub tally : Lane → Tally
 tally l = record {
   pushed = length l.pushed;
   pulled = length l.pulled;
-  full = counted l.full;
-  empty = counted l.empty;
+  full = capped l.full;
+  empty = capped l.empty;
 }
 
 -- these are the counts of what a rank knows

@@ -5,4 +5,3 @@ pub mod Counted
 pub mod Plays
 pub mod Ports
 pub mod Rule
-pub mod Slots

@@ -1,11 +1,12 @@
 //! What a port tells of itself, and how its counts change.
 
 ghost use Rattle.std.specs.Prelude.{◌≡◌, ◌<◌, ◌↔◌, ◌^◌, IsTrue, length};
+ghost use Rattle.nm_chain.specs.Plays.{capped};
 ghost use Rattle.nm_copyring.specs.declared.table.Entry.{Entry};
 ghost use Rattle.nm_types.specs.declared.packets.Piece.{Piece};
 ghost use Rattle.nm_copyring.specs.Rule.{lane};
 ghost use Rattle.nm_copyring.specs.Plays.{one_empty, one_full, one_pulled, one_pushed, with_lane};
-ghost use Rattle.nm_copyring.specs.Counted.{Counts, counted, tally, tally_in};
+ghost use Rattle.nm_copyring.specs.Counted.{Counts, tally, tally_in};
 ghost use Rattle.nm_copyring.specs.Ports.{knows, pushed_to, pulled_from, full_to, empty_from};
 
 use crate::port::RingPort;
@@ -47,7 +48,7 @@ impl RingPort {
     /// How often the next place for a rank was found full. The count stands still at 2^64 - 1.
     pub fn full(&self, to: u8) -> u64
         requires { to < (knows self.now).ranks }
-        ensures { result ≡ counted (full_to self.now to) }
+        ensures { result ≡ capped (full_to self.now to) }
     {
         self.tally(to).full
     }
@@ -55,7 +56,7 @@ impl RingPort {
     /// How often the next place of a rank was found empty. The count stands still at 2^64 - 1.
     pub fn empty(&self, sender: u8) -> u64
         requires { sender < (knows self.now).ranks }
-        ensures { result ≡ counted (empty_from self.now sender) }
+        ensures { result ≡ capped (empty_from self.now sender) }
     {
         self.tally(sender).empty
     }

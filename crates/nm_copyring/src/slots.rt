@@ -21,7 +21,7 @@ pub struct Slot {
 impl Model for Slot {
     ghost use Rattle.std.specs.Prelude.{Option};
     ghost use Rattle.nm_types.specs.declared.packets.Piece.{Piece};
-    ghost use Rattle.nm_copyring.specs.Slots.{load_of};
+    ghost use Rattle.nm_chain.specs.Slots.{load_of};
 
     ghost Value = { Option Piece };
 

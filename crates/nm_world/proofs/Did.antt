@@ -13,9 +13,10 @@ use Rattle.nm_cells.specs.Ports.{sent_by, taken_by}
 use Rattle.nm_copyring.specs.declared.port.RingPort.{RingPort}
 use Rattle.nm_copyring.specs.Rule.{lane}
 use Rattle.nm_copyring.specs.Ports as ring
+use Rattle.nm_chain.specs.Total.{total}
 use Rattle.nm_world.specs.declared.actors.Actor.{Actor}
 use Rattle.nm_world.specs.Actors.{Grew, Grows, PortGrows, RingGrows, did}
-use Rattle.nm_world.specs.Actors.{AllContinue, Continues, SomeGrew, ActorInvariant, did_any, done_by, done_of, sum_below}
+use Rattle.nm_world.specs.Actors.{AllContinue, Continues, SomeGrew, ActorInvariant, did_any, done_by, done_of}
 use Rattle.nm_types.specs.declared.scripts.Line.{Line}
 use Rattle.nm_types.specs.Sizes.{Sizes}
 use Rattle.nm_global.specs.ProcessInvariant.{GoesOn}
@@ -25,14 +26,14 @@ use Rattle.nm_world.specs.Actors.Grew.{events, sent, taken, pushed, pulled}
 use Rattle.nm_world.proofs.Grows.{kept_on, port_same, ring_same}
 
 -- sums
-pub sum_up : (n : ℕ) (f g : ℕ → ℕ) → ((i : ℕ) → f i ≤ g i) → sum_below n f ≤ sum_below n g
+pub sum_up : (n : ℕ) (f g : ℕ → ℕ) → ((i : ℕ) → f i ≤ g i) → total n f ≤ total n g
 sum_up zero f g up = omega arith
 sum_up (suc n) f g up = let rest = sum_up n f g up in let one = up n in omega (arith, rest, one)
 
-pub sum_more : (n k : ℕ) (f g : ℕ → ℕ) → ((i : ℕ) → f i ≤ g i) → k < n → f k < g k → sum_below n f < sum_below n g
+pub sum_more : (n k : ℕ) (f g : ℕ → ℕ) → ((i : ℕ) → f i ≤ g i) → k < n → f k < g k → total n f < total n g
 sum_more zero k f g up low more = absurd (omega (arith, low))
 sum_more (suc n) k f g up low more = by (λ before. sum_more n k f g up before more) (ℕ_discrete k n) where
-  by : (k < n → sum_below n f < sum_below n g) → Dec (k ≡ n) → sum_below (suc n) f < sum_below (suc n) g
+  by : (k < n → total n f < total n g) → Dec (k ≡ n) → total (suc n) f < total (suc n) g
   by before (yes e) =
       let rest = sum_up n f g up in
       let here = subst (λ (i : ℕ). f i < g i) e more in omega (arith, rest, here)
@@ -40,16 +41,16 @@ sum_more (suc n) k f g up low more = by (λ before. sum_more n k f g up before m
       let rest = before (omega (arith, low, ne)) in
       let one = up n in omega (arith, rest, one)
 
-pub sum_same : (n : ℕ) (f g : ℕ → ℕ) → ((i : ℕ) → g i ≡ f i) → sum_below n g ≡ sum_below n f
+pub sum_same : (n : ℕ) (f g : ℕ → ℕ) → ((i : ℕ) → g i ≡ f i) → total n g ≡ total n f
 sum_same zero f g same = refl
 sum_same (suc n) f g same =
     let rest = sum_same n f g same in let one = same n in omega (arith, rest, one)
 
 -- where a sum is greater, one of its parts is
-sum_part : (n : ℕ) (f g : ℕ → ℕ) → sum_below n f < sum_below n g → (k : ℕ) × (k < n) × (f k < g k)
+sum_part : (n : ℕ) (f g : ℕ → ℕ) → total n f < total n g → (k : ℕ) × (k < n) × (f k < g k)
 sum_part zero f g more = absurd (omega (arith, more))
 sum_part (suc n) f g more = by (λ before. sum_part n f g before) (dec_le (suc (f n)) (g n)) where
-  by : (sum_below n f < sum_below n g → (k : ℕ) × (k < n) × (f k < g k)) → Dec (suc (f n) ≤ g n) →
+  by : (total n f < total n g → (k : ℕ) × (k < n) × (f k < g k)) → Dec (suc (f n) ≤ g n) →
       (k : ℕ) × (k < suc n) × (f k < g k)
   by before (yes up) = (n, omega arith, omega (arith, up))
   by before (no down) =
@@ -74,16 +75,16 @@ events_up a b up =
 
 -- the five parts of what was done
 module _ (n : ℕ) (a b : Actor) (up : Grows a b) where
-  up_sent : sum_below n (λ j. sent_by a.port j) ≤ sum_below n (λ j. sent_by b.port j)
+  up_sent : total n (λ j. sent_by a.port j) ≤ total n (λ j. sent_by b.port j)
   up_sent = sum_up n _ _ up.port.sent
 
-  up_taken : sum_below n (λ j. taken_by a.port j) ≤ sum_below n (λ j. taken_by b.port j)
+  up_taken : total n (λ j. taken_by a.port j) ≤ total n (λ j. taken_by b.port j)
   up_taken = sum_up n _ _ up.port.taken
 
-  up_pushed : sum_below n (λ j. length (ring.pushed_to a.ring j)) ≤ sum_below n (λ j. length (ring.pushed_to b.ring j))
+  up_pushed : total n (λ j. length (ring.pushed_to a.ring j)) ≤ total n (λ j. length (ring.pushed_to b.ring j))
   up_pushed = sum_up n _ _ (λ j. (up.ring j).pushed)
 
-  up_pulled : sum_below n (λ j. length (ring.pulled_from a.ring j)) ≤ sum_below n
+  up_pulled : total n (λ j. length (ring.pulled_from a.ring j)) ≤ total n
       (λ j. length (ring.pulled_from b.ring j))
   up_pulled = sum_up n _ _ (λ j. (up.ring j).pulled)
 
@@ -232,16 +233,16 @@ abbrev long : Actor → ℕ
 long a = length a.process.rank.events
 
 abbrev sents : ℕ → Actor → ℕ
-sents n a = sum_below n (λ j. sent_by a.port j)
+sents n a = total n (λ j. sent_by a.port j)
 
 abbrev takes : ℕ → Actor → ℕ
-takes n a = sum_below n (λ j. taken_by a.port j)
+takes n a = total n (λ j. taken_by a.port j)
 
 abbrev pushes : ℕ → Actor → ℕ
-pushes n a = sum_below n (λ j. length (ring.pushed_to a.ring j))
+pushes n a = total n (λ j. length (ring.pushed_to a.ring j))
 
 abbrev pulls : ℕ → Actor → ℕ
-pulls n a = sum_below n (λ j. length (ring.pulled_from a.ring j))
+pulls n a = total n (λ j. length (ring.pulled_from a.ring j))
 
 grew_of : (n : ℕ) (a b : Actor) → done_by n a < done_by n b → Grew n a b
 grew_of n a b more = by_events (dec_le (suc (long a)) (long b)) where

@@ -38,7 +38,8 @@ use Rattle.nm_chain.specs.declared.table.parcels.Parcel.{Parcel}
 use Rattle.nm_world.specs.Parcels.{packet_of, parcel_of}
 use Rattle.nm_world.specs.declared.actors.Actor.{Actor}
 use Rattle.nm_world.specs.Actors.{ActorInvariant}
-use Rattle.nm_world.proofs.Steps.{SameGot, got_same, lane_else, lane_here, stands_of}
+use Rattle.nm_world.proofs.Steps.{SameGot, got_same, stands_of}
+use Rattle.nm_copyring.proofs.RingLemmas.{lane_else, lane_here}
 use Rattle.nm_world.proofs.Steps.{tried_got}
 use Rattle.nm_types.proofs.NumberLemmas.{same_number, differ}
 

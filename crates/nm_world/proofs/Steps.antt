@@ -1,7 +1,7 @@
 -- What each step of an actor keeps, but for those by which something leaves it.
 use Rattle.std.proofs.Common.{◌≡◌, ◌≢◌, ⊎_elim, ℕ, ◌<◌, ◌==◌, Bool, true, false, cond}
 use Rattle.std.proofs.Common.{Some, None, List, [], ◌∷◌, ◌++◌, length, map, refl, sym, ap, ◌∙◌, subst}
-use Rattle.std.proofs.Common.{arith, append-nil, get_or-set_same, get_or-set_other}
+use Rattle.std.proofs.Common.{arith, append-nil}
 use Rattle.std.specs.List.{cons_option}
 use Rattle.std.proofs.lemmas.List.{map-append}
 use Rattle.nm_types.specs.declared.packets.Packet.{Packet}
@@ -23,10 +23,11 @@ use Rattle.nm_copyring.specs.declared.port.RingPort.{RingPort}
 use Rattle.nm_copyring.specs.declared.port.Rings.{Rings}
 use Rattle.nm_copyring.specs.declared.table.Entry as ring_entry
 use Rattle.nm_copyring.specs.declared.table.Lane.{Lane}
-use Rattle.nm_copyring.specs.Rule.{lane, new_lane}
+use Rattle.nm_copyring.specs.Rule.{lane}
 use Rattle.nm_copyring.specs.Calls.{KeepsRingPort, Pulls}
 use Rattle.nm_copyring.specs.Plays.{one_pulled, with_lane}
 use Rattle.nm_copyring.specs.Ports as ring
+use Rattle.nm_copyring.proofs.RingLemmas.{lane_else, lane_here}
 use Rattle.nm_global.specs.Emitted.{Emitted}
 use Rattle.nm_channels.specs.Moments.{LogEntry, pulled_from, taken_from}
 use Rattle.nm_rank.specs.Calls.{taken_of}
@@ -227,14 +228,6 @@ take_on law lines f r a v port p s keeps rest polls work on =
       pulled = λ i within. ap (map (λ (d : Pulled). d.piece))
           (pulled_still i s.past.log (took a.process.rank (packet_of p)) refl) ∙ s.is.pulled i within;
     })
-
--- what a rank has of another one, after a change of one
-pub lane_here : (e : ring_entry.Entry) (j : ℕ) (g : Lane → Lane) → j < length e.lanes →
-    lane (with_lane g j e) j ≡ g (lane e j)
-lane_here e j g low = get_or-set_same e.lanes j (g (lane e j)) new_lane low
-
-pub lane_else : (e : ring_entry.Entry) (j k : ℕ) (g : Lane → Lane) → k ≢ j → lane (with_lane g j e) k ≡ lane e k
-lane_else e j k g ne = get_or-set_other e.lanes j k (g (lane e j)) new_lane ne
 
 pub pull_on : (lines : List Line) (f : Fabric Packet) (r : Rings) (a : Actor) (v : ProcessView)
     (port : RingPort) (sender : ℕ) (q : Piece) (s : ActorInvariant lines f r a) → KeepsRingPort r a.ring port →

@@ -1,5 +1,5 @@
 -- How an actor stands: its process, its ports, and what was.
-use Rattle.std.specs.Prelude.{◌≡◌, ℕ, zero, suc, ◌+◌, ◌<◌, ◌≤◌, Bool, nat_lt, List, [], ◌∷◌, ◌++◌}
+use Rattle.std.specs.Prelude.{◌≡◌, ℕ, ◌+◌, ◌<◌, ◌≤◌, Bool, nat_lt, List, [], ◌∷◌, ◌++◌}
 use Rattle.std.specs.Prelude.{length, map, slice_index, Some}
 use Rattle.std.specs.List.{AllZip, slice_get}
 use Rattle.nm_types.specs.declared.scripts.Line.{Line}
@@ -9,6 +9,7 @@ use Rattle.nm_history.specs.declared.events.Event.{Event}
 use Rattle.nm_chain.specs.declared.table.table.Misses.{Misses}
 use Rattle.nm_chain.specs.Plays.{missed_of}
 use Rattle.nm_chain.specs.OwnQueues.{OwnQueue}
+use Rattle.nm_chain.specs.Total.{total}
 use Rattle.nm_cells.specs.declared.port.Fabric.{Fabric}
 use Rattle.nm_cells.specs.declared.port.Port.{Port}
 use Rattle.nm_cells.specs.Ports.{Owns, knows, sent_by, taken_by}
@@ -109,18 +110,13 @@ pub record Continues (lines : List Line) (f : Fabric Packet) (r : Rings) (a b : 
 abbrev pub AllContinue : List Line → Fabric Packet → Rings → List Actor → List Actor → Type 0
 AllContinue lines f r = AllZip (Continues lines f r)
 
--- f 0 + f 1 + .., of the first n
-abbrev pub sum_below : ℕ → (ℕ → ℕ) → ℕ
-sum_below zero f = 0
-sum_below (suc n) f = sum_below n f + f n
-
 -- how much an actor has done among n ranks: its events, and what its ports sent, passed on,
 -- pushed and pulled
 abbrev pub done_by : ℕ → Actor → ℕ
 done_by n a =
-    length a.process.rank.events + sum_below n (λ j. sent_by a.port j)
-    + sum_below n (λ i. taken_by a.port i) + sum_below n (λ j. length (ring.pushed_to a.ring j))
-    + sum_below n (λ i. length (ring.pulled_from a.ring i))
+    length a.process.rank.events + total n (λ j. sent_by a.port j)
+    + total n (λ i. taken_by a.port i) + total n (λ j. length (ring.pushed_to a.ring j))
+    + total n (λ i. length (ring.pulled_from a.ring i))
 
 -- whether an actor did something between two moments
 abbrev pub did : ℕ → Actor → Actor → Bool

@@ -11,8 +11,8 @@ use Rattle.nm_cells.specs.Ports.{knows, taken_by}
 use Rattle.nm_rank.specs.Ranks.{IsFresh}
 use Rattle.nm_process.specs.Processes.{ProcessView}
 use Rattle.nm_process.specs.Steps.{is_look, looks_on}
+use Rattle.nm_chain.specs.Total.{total}
 use Rattle.nm_world.specs.declared.actors.Actor.{Actor}
-use Rattle.nm_world.specs.Actors.{sum_below}
 use Rattle.nm_types.specs.declared.packets.Packet.{Packet}
 
 -- the command of a line looks at what came
@@ -27,7 +27,7 @@ looks_in commands h = count_by (is_look_at commands) (ran_lines h)
 -- of these
 abbrev pub polls_of : ℕ → Port Packet → ℕ
 polls_of n p =
-    sum_below n (λ i. taken_by p i) + (knows p).receive_missed.head_empty
+    total n (λ i. taken_by p i) + (knows p).receive_missed.head_empty
     + (knows p).receive_missed.link_missing
 
 -- one of the counts of these misses stands at the last number of 64 bits
