@@ -67,7 +67,7 @@ right_append eager known (t ∷ ts) more first rest =
     (first.0, right_append eager (known_after known t) ts more first.1 rest)
 
 -- the same packet, as one that continued
-abbrev continuing : Taken → Taken
+abbrev pub continuing : Taken → Taken
 continuing t = record t { continued = true }
 
 -- a packet of the sender's own messages that continued tells and carries the same; any other carries

@@ -29,7 +29,7 @@ use Rattle.nm_history.specs.Completion.Request.{Sending as sending, Receiving as
 use Rattle.nm_history.specs.Happens.{happened, is_arrival, is_claim, is_out, is_recall, is_send, is_undone, is_whole}
 use Rattle.nm_history.specs.Happens.{is_withdraw}
 use Rattle.nm_history.specs.Matching.{first_message, is_free_message, is_of_receive, matched_pairs}
-use Rattle.nm_history.specs.RankRun.{CancelAt, CancelsFor, CancelsOf, ClaimAt, EndAt, StartAt, WholeAt}
+use Rattle.nm_history.specs.RankRun.{CancelAt, CancelsFor, CancelsOf, ClaimAt, EndAt, StartAt, WholeAt, is_canceller}
 use Rattle.nm_history.specs.RankRun.{cancels_since, claim_of, how_of, is_asking, is_cancelling, is_matched_probe}
 use Rattle.nm_history.specs.RankRun.{is_start, lacks_message, since_command, start_of, starts_since, without_number}
 use Rattle.nm_history.specs.Sends.{is_ask}
@@ -42,7 +42,6 @@ use Rattle.nm_check_rank.specs.Arguments.{IsFirstMismatch, arguments}
 use Rattle.nm_check_rank.specs.Cancellings.{cancel_due, cancels_due, receive_cancels, receive_due, send_cancels, send_due}
 use Rattle.nm_check_rank.specs.Claimings.{claim_due, claims_due, message_due}
 use Rattle.nm_match.specs.Names.{id_of_arrival}
-use Rattle.nm_check_rank.specs.Kinds.{is_canceller}
 use Rattle.nm_check_rank.specs.Manies.{many_due, many_of}
 use Rattle.nm_check_rank.specs.Objections.{either, end_objection, once_after, whole_objection, word_after}
 use Rattle.nm_check_rank.specs.Startings.{IsStartDue, IsStartsDue, IsTakenDue, limit_due, mismatch_due, one_due, sent_due}

@@ -18,13 +18,12 @@ use Rattle.nm_history.specs.AtEach.{AtEach}
 use Rattle.nm_history.specs.Completion.{Request as Meant}
 use Rattle.nm_history.specs.Happens.{happened, is_recall}
 use Rattle.nm_history.specs.RankRun.{CancelAt, CancelsFor, CancelsOf, cancels_since, is_cancelling, since_after}
-use Rattle.nm_history.specs.RankRun.{since_command}
+use Rattle.nm_history.specs.RankRun.{is_canceller, since_command}
 use Rattle.nm_history.proofs.AtEachLemmas.{AtEach-front, AtEach-split}
 use Rattle.nm_history.proofs.OnceLemmas.{eqb_self}
 use Rattle.nm_history.proofs.RankRunLemmas.{since-push}
 use Rattle.nm_lookups.specs.Deciding.{Decides}
 use Rattle.nm_lookups.specs.AskedFor.{asked_request, name_of}
-use Rattle.nm_check_rank.specs.Kinds.{is_canceller}
 use Rattle.nm_check_rank.proofs.PushLemmas.{by_pushes, since_happened}
 
 module _ (commands : List Numbered) (to n : ℕ) where

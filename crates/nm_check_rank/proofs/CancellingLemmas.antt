@@ -12,9 +12,9 @@ use Rattle.nm_history.specs.declared.events.Happened.{Happened}
 use Rattle.nm_history.specs.declared.events.Happened.TheVariants.{Ran}
 use Rattle.nm_history.specs.Answers.{live}
 use Rattle.nm_history.specs.Completion.{Request as Meant}
+use Rattle.nm_history.specs.RankRun.{is_canceller}
 use Rattle.nm_lookups.specs.AskedFor.{name_of}
 use Rattle.nm_check_rank.specs.Cancellings.{cancel_due, receive_cancels, send_cancels}
-use Rattle.nm_check_rank.specs.Kinds.{is_canceller}
 use Rattle.nm_check_rank.specs.Manies.{many_due, many_of}
 use Rattle.nm_check_rank.specs.Objections.{cancel_objection}
 use Rattle.nm_check_rank.specs.declared.paired.dues.Due.TheVariants.{Against}

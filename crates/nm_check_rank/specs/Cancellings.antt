@@ -11,10 +11,9 @@ use Rattle.nm_history.specs.Completion.{Request as Meant}
 use Rattle.nm_history.specs.Completion.Request.{Sending as sending, Receiving as receiving}
 use Rattle.nm_history.specs.Happens.{happened, is_recall}
 use Rattle.nm_history.specs.Matching.{is_of_receive, matched_pairs}
-use Rattle.nm_history.specs.RankRun.{cancels_since}
+use Rattle.nm_history.specs.RankRun.{cancels_since, is_canceller}
 use Rattle.nm_lookups.specs.AskedFor.{name_of}
 use Rattle.nm_lookups.specs.declared.asked.requests.Request.TheVariants.{Sending, Receiving}
-use Rattle.nm_check_rank.specs.Kinds.{is_canceller}
 use Rattle.nm_check_rank.specs.Manies.{many_due, many_of}
 use Rattle.nm_check_rank.specs.Objections.{cancel_objection, word_after}
 use Rattle.nm_check_rank.specs.declared.paired.dues.Due.{Due}

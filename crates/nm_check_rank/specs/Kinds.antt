@@ -1,6 +1,5 @@
 -- The kinds of events that commands call for.
-use Rattle.std.specs.Prelude.{Bool, true, false, is_some}
-use Rattle.nm_types.specs.declared.scripts.Command.{Command}
+use Rattle.std.specs.Prelude.{Bool, is_some}
 use Rattle.nm_types.specs.declared.scripts.Command.TheVariants as command
 use Rattle.nm_history.specs.declared.events.Happened.{Happened}
 use Rattle.nm_history.specs.RankRun.{line_of_claim}
@@ -8,8 +7,3 @@ use Rattle.nm_history.specs.RankRun.{line_of_claim}
 -- a claim (starts are `is_start`, cancels and recalls `is_cancelling`)
 abbrev pub is_claiming : Happened → Bool
 is_claiming what = is_some (line_of_claim what)
-
--- a command is a cancel
-abbrev pub is_canceller : Command → Bool
-is_canceller (command.Cancel q) = true
-is_canceller _ = false

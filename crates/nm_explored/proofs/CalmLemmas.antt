@@ -13,6 +13,7 @@ use Rattle.nm_types.specs.declared.scripts.Line.{Line}
 use Rattle.nm_types.specs.Commands.{Numbered, command_at, commands_from, commands_of}
 use Rattle.nm_history.specs.Answers.{Message as Claimed}
 use Rattle.nm_history.specs.Matching.{is_of_message}
+use Rattle.nm_history.specs.RankRun.{is_canceller}
 use Rattle.nm_match.specs.Deeds.{is_message}
 use Rattle.nm_types.proofs.ListLemmas.{get_set_other, get_set_same, no_item, place_below}
 use Rattle.nm_types.proofs.NumberLemmas.{differ, same_number}
@@ -29,7 +30,7 @@ use Rattle.nm_explored.specs.declared.choices.moves.Move.TheVariants as move
 use Rattle.nm_explored.specs.declared.choices.moves.Turn.{Turn}
 use Rattle.nm_explored.specs.Successors.{answer_in, is_test_of, is_withdrawn_next, match_at, may_begin, start_in}
 use Rattle.nm_explored.specs.Moves.{IsChoiceOf, IsDeedOf, IsTurn, moved_at}
-use Rattle.nm_explored.specs.Chosen.{AreCalm, Goes, HasNoCancel, is_cancel}
+use Rattle.nm_explored.specs.Chosen.{AreCalm, Goes, HasNoCancel}
 use Rattle.nm_explored.specs.Met.{IsMet, IsWay}
 use Rattle.nm_explored.proofs.SeenLemmas.{after_arrival, after_deed}
 
@@ -71,8 +72,8 @@ passes_from test rank number line (l ∷ lines) c all here =
 
 -- no command of a script without cancels is one
 never_cancel : (lines : List Line) → HasNoCancel lines → (i line : ℕ) (c : Command) →
-    command_at (commands_of i lines) line ≡ Some c → not (is_cancel c) ≡ true
-never_cancel lines none i line c here = passes_from (λ (c : Command). not (is_cancel c)) i 2 line lines c none here
+    command_at (commands_of i lines) line ≡ Some c → not (is_canceller c) ≡ true
+never_cancel lines none i line c here = passes_from (λ (c : Command). not (is_canceller c)) i 2 line lines c none here
 
 -- what comes of another command is neither a cancel nor a recall
 module _ (eager : ℕ) (lines : List Line) (v : ℕ → Option Spot) (i : ℕ) (x : Spot) (line : ℕ) (d : Deed) where
@@ -82,7 +83,7 @@ module _ (eager : ℕ) (lines : List Line) (v : ℕ → Option Spot) (i : ℕ) (
   calm_as : (e : Deed) → Some e ≡ Some d → is_cancelling_by e ≡ false → IsCalm
   calm_as e same calm = subst (λ (z : Deed). is_cancelling_by z ≡ false) (same_some e d same) calm
 
-  calm_start : (c : Command) → not (is_cancel c) ≡ true → start_in eager lines i x line c ≡ Some d → IsCalm
+  calm_start : (c : Command) → not (is_canceller c) ≡ true → start_in eager lines i x line c ≡ Some d → IsCalm
   calm_start (command.Send q to tag ctx body sync) other starts = calm_as _ starts refl
   calm_start (command.Recv q from tag ctx cap) other starts = calm_as _ starts refl
   calm_start (command.Mrecv q m cap) other starts = by_message (message_in lines i x.deeds m) starts
@@ -105,7 +106,7 @@ module _ (eager : ℕ) (lines : List Line) (v : ℕ → Option Spot) (i : ℕ) (
   calm_start (command.Probe from tag ctx) other starts = absurd (no_some d starts)
   calm_start (command.Await from tag ctx) other starts = absurd (no_some d starts)
 
-  calm_deed : (c : Command) → not (is_cancel c) ≡ true → IsDeedOf eager lines v i x line c d → IsCalm
+  calm_deed : (c : Command) → not (is_canceller c) ≡ true → IsDeedOf eager lines v i x line c d → IsCalm
   calm_deed c other (inl does) = by_start (start_in eager lines i x line c) refl does.1
     where
       by_held : (e : Deed) → start_in eager lines i x line c ≡ Some e → (b : Bool) →

@@ -18,6 +18,7 @@ use Rattle.nm_types.specs.declared.scripts.Line.{Line}
 use Rattle.nm_history.specs.declared.plain.Pair.{Pair}
 use Rattle.nm_history.specs.Matching.{is_of_message, is_of_receive}
 use Rattle.nm_history.specs.Selection.{matches, matches_source, matches_tag}
+use Rattle.nm_history.specs.RankRun.{is_canceller}
 use Rattle.nm_match.specs.Deeds.{is_message}
 use Rattle.nm_types.proofs.ListLemmas.{find_passes, get_set_other, get_set_same, place_below, set_twice}
 use Rattle.nm_types.proofs.NumberLemmas.{differ, same_number}
@@ -42,7 +43,7 @@ use Rattle.nm_explored.specs.declared.choices.moves.Move.TheVariants as move
 use Rattle.nm_explored.specs.Successors.{arrival_by, message_next, result_in, seen_at}
 use Rattle.nm_explored.specs.Lines.{line_in}
 use Rattle.nm_explored.specs.Moves.{IsAct, IsChoiceOf, IsDeedOf, IsNextMessage, moved_at}
-use Rattle.nm_explored.specs.Chosen.{Goes, is_cancel}
+use Rattle.nm_explored.specs.Chosen.{Goes}
 use Rattle.nm_explored.specs.Coming.{AreEnoughAt, Choice, Comes, LetsCome, Makes}
 use Rattle.nm_explored.specs.Coming.Choice.{Acting, Arriving}
 use Rattle.nm_explored.specs.Ends.{AreAtRest}
@@ -339,7 +340,7 @@ found_same x y from tag ctx same = ap (λ (ms : List Arrival). find (λ a. match
 -- what a rank may do, it may do behind a message that went to a receive
 act_behind : (eager : ℕ) (lines : List Line) (v w : ℕ → Option Spot) → AreSeen v w →
     (i : ℕ) (x y : Spot) → IsLater x y →
-    y.free ≡ x.free → (d : Deed) → (act : IsAct eager lines v i x d) → not (is_cancel act.command) ≡ true →
+    y.free ≡ x.free → (d : Deed) → (act : IsAct eager lines v i x d) → not (is_canceller act.command) ≡ true →
     not (is_claiming act.command) ≡ true → IsAct eager lines w i y d
 act_behind eager lines v w seen i x y later free d act none claims = record {
   line = act.line;
@@ -364,7 +365,7 @@ act_behind eager lines v w seen i x y later free d act none claims = record {
         r.0 r.1)
         ∙ ap (λ (e : Deed). Some e) r.2
 
-    by_command : (c : Command) → not (is_cancel c) ≡ true → not (is_claiming c) ≡ true →
+    by_command : (c : Command) → not (is_canceller c) ≡ true → not (is_claiming c) ≡ true →
         IsDeedOf eager lines v i x act.line c d → IsDeedOf eager lines w i (record y { deeds = x.deeds }) act.line c d
     by_command (command.Send q to tag ctx body sync) none claims does = does
     by_command (command.Recv q from tag ctx cap) none claims does = does
@@ -540,8 +541,8 @@ module _ (eager ranks : ℕ) (lines : List Line) (i from : ℕ) (s : List Spot) 
             ∙ sym (set_twice s i (arrived_at x a) (spot_after (arrived_at x a) d)),
       )
     where
-      none : not (is_cancel act.command) ≡ true
-      none = passes_from (λ (c : Command). not (is_cancel c)) i 2 act.line lines act.command at.no_cancel act.at
+      none : not (is_canceller act.command) ≡ true
+      none = passes_from (λ (c : Command). not (is_canceller c)) i 2 act.line lines act.command at.no_cancel act.at
 
       claims : not (is_claiming act.command) ≡ true
       claims = passes_from (λ (c : Command). not (is_claiming c)) i 2 act.line lines act.command at.no_claim act.at

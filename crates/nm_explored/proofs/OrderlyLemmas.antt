@@ -13,6 +13,7 @@ use Rattle.nm_types.specs.declared.scripts.Command.TheVariants as command
 use Rattle.nm_types.specs.declared.scripts.Line.{Line}
 use Rattle.nm_history.specs.Matching.{is_of_message, is_of_receive}
 use Rattle.nm_history.specs.Selection.{matches}
+use Rattle.nm_history.specs.RankRun.{is_canceller}
 use Rattle.nm_match.specs.Deeds.{is_message}
 use Rattle.nm_types.proofs.ListLemmas.{get_set_other, get_set_same, no_item, place_below}
 use Rattle.nm_types.proofs.NumberLemmas.{differ, eq_less, eq_true, same_number}
@@ -35,7 +36,7 @@ use Rattle.nm_explored.specs.declared.choices.moves.Turn.{Turn}
 use Rattle.nm_explored.specs.Successors.{answer_in, arrival_by, is_test_of, may_begin, start_in}
 use Rattle.nm_explored.specs.Lists.{Has}
 use Rattle.nm_explored.specs.Moves.{IsChoiceOf, IsDeedOf, IsNextMessage, IsTurn, moved_at}
-use Rattle.nm_explored.specs.Chosen.{AreCalm, Goes, HasNoCancel, is_cancel}
+use Rattle.nm_explored.specs.Chosen.{AreCalm, Goes, HasNoCancel}
 use Rattle.nm_explored.specs.Met.{IsMet, IsWay}
 use Rattle.nm_explored.specs.Orderly.{AreOrderly, HasNoClaim, IsOrderly, came_of, is_claiming, is_numbered, is_rare_by}
 use Rattle.nm_explored.proofs.CalmLemmas.{any_along, no_withdrawal, passes_from, way_calm}
@@ -341,7 +342,7 @@ module _ (eager : ℕ) (lines : List Line) (v : ℕ → Option Spot) (i : ℕ) (
   common_as : (e : Deed) → Some e ≡ Some d → IsCommon e → IsCommon d
   common_as e same common = subst (λ (z : Deed). IsCommon z) (same_some e d same) common
 
-  common_start : (c : Command) → not (is_cancel c) ≡ true → not (is_claiming c) ≡ true →
+  common_start : (c : Command) → not (is_canceller c) ≡ true → not (is_claiming c) ≡ true →
       start_in eager lines i x line c ≡ Some d → IsCommon d
   common_start (command.Send q to tag ctx body sync) none claims starts = common_as _ starts (refl, tt)
   common_start (command.Recv q from tag ctx cap) none claims starts = common_as _ starts (refl, refl)
@@ -353,7 +354,7 @@ module _ (eager : ℕ) (lines : List Line) (v : ℕ → Option Spot) (i : ℕ) (
   common_start (command.Probe from tag ctx) none claims starts = absurd (no_some d starts)
   common_start (command.Await from tag ctx) none claims starts = absurd (no_some d starts)
 
-  pub common_deed : (c : Command) → not (is_cancel c) ≡ true → not (is_claiming c) ≡ true →
+  pub common_deed : (c : Command) → not (is_canceller c) ≡ true → not (is_claiming c) ≡ true →
       IsDeedOf eager lines v i x line c d → IsCommon d
   common_deed c none claims (inl does) = by_start (start_in eager lines i x line c) refl does.1
     where
@@ -424,7 +425,7 @@ module _ (eager ranks : ℕ) (lines : List Line) (none : HasNoCancel lines) (cla
       IsChoiceOf eager ranks lines (λ k. slice_get s k) i x m → IsOrderly (moved_at x m)
   orderly_move s calm i x here (move.Act d) is act =
       let common = common_deed eager lines (λ k. slice_get s k) i x act.line d act.command
-      (passes_from (λ (c : Command). not (is_cancel c)) i 2 act.line lines act.command none act.at)
+      (passes_from (λ (c : Command). not (is_canceller c)) i 2 act.line lines act.command none act.at)
       (passes_from (λ (c : Command). not (is_claiming c)) i 2 act.line lines act.command claims act.at) act.deed_of in
       orderly_deed x is d common.0 common.1
   orderly_move s calm i x here (move.Arrive a) is next =

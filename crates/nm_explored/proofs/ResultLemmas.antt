@@ -36,15 +36,11 @@ use Rattle.nm_outcomes.specs.Looks.{is_send_by}
 use Rattle.nm_outcomes.specs.RankStates.{IsSpotOf, Spot}
 use Rattle.nm_outcomes.proofs.SaidLemmas.{said}
 use Rattle.nm_outcomes.proofs.SpotLemmas.{off_is}
+use Rattle.nm_report.specs.Summary.{is_got}
 use Rattle.nm_explored.specs.Successors.{got_by, result_in, sent_at, shown_at}
 use Rattle.nm_explored.specs.Settings.{IsAt}
 use Rattle.nm_explored.proofs.PlacedLemmas.{came_said, free_said, numbers_in, placed}
 use Rattle.nm_explored.proofs.SendLemmas.{sent_deed}
-
--- an answer with bytes
-abbrev pub is_got : Answer → Bool
-is_got (answer.Got from tag body) = true
-is_got _ = false
 
 -- an answer without bytes is what is left of it without them
 pub plain_answer : (a x : Answer) → is_got x ≡ false → x ≡ without_bytes a → a ≡ x

@@ -1,6 +1,6 @@
 -- Which moves are enough at a state: those of the next command of one rank, where no other move changes
 -- which they are or what they do.
-use Rattle.std.specs.Prelude.{◌≡◌, ℕ, ◌<◌, Bool, true, false, not, Option, Some, List, count_by}
+use Rattle.std.specs.Prelude.{◌≡◌, ℕ, ◌<◌, true, false, not, Option, Some, List, count_by}
 use Rattle.std.specs.List.{list_all, list_any, slice_get, slice_set}
 use Rattle.nm_types.specs.declared.scripts.Command.{Command}
 use Rattle.nm_types.specs.declared.scripts.Command.TheVariants as command
@@ -10,6 +10,7 @@ use Rattle.nm_outcomes.specs.declared.spots.deeds.Deed.{Deed}
 use Rattle.nm_outcomes.specs.declared.spots.deeds.Reply.{Reply}
 use Rattle.nm_outcomes.specs.Looks.{is_answer_by, is_cancelling_by}
 use Rattle.nm_outcomes.specs.RankStates.{Spot, spot_after}
+use Rattle.nm_history.specs.RankRun.{is_canceller}
 use Rattle.nm_explored.specs.declared.choices.moves.Move.TheVariants as move
 use Rattle.nm_explored.specs.declared.choices.moves.Turn.{Turn}
 use Rattle.nm_explored.specs.Successors.{answer_in}
@@ -24,14 +25,9 @@ Goes eager ranks lines s u =
     (t : Turn) × (t.rank < ranks) × (turn : IsTurn eager ranks lines (λ i. slice_get s i) t)
     × (u ≡ slice_set s t.rank (moved_at turn.spot t.by))
 
--- a command is a cancel
-abbrev pub is_cancel : Command → Bool
-is_cancel (command.Cancel q) = true
-is_cancel _ = false
-
 -- no command of the script is a cancel
 abbrev pub HasNoCancel : List Line → Type 0
-HasNoCancel lines = list_all (λ line. not (is_cancel line.command)) lines ≡ true
+HasNoCancel lines = list_all (λ line. not (is_canceller line.command)) lines ≡ true
 
 -- no rank has cancelled or recalled anything
 abbrev pub AreCalm : List Spot → Type 0

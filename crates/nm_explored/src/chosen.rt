@@ -6,6 +6,7 @@ ghost use Rattle.nm_outcomes.specs.declared.spots.deeds.Deed as deed;
 ghost use Rattle.nm_outcomes.specs.declared.spots.deeds.Receive as receive;
 ghost use Rattle.nm_outcomes.specs.RankStates as spots;
 ghost use Rattle.nm_outcomes.specs.RankStates.{receive_of_spot};
+ghost use Rattle.nm_history.specs.RankRun.{is_canceller as is_cancel_lem};
 ghost use Rattle.nm_explored.specs.declared.choices.moves.Move.TheVariants.{Act};
 ghost use Rattle.nm_explored.specs.declared.choices.moves.Turn as the_turn;
 ghost use Rattle.nm_explored.specs.Successors.{message_next, spot_in};
@@ -13,7 +14,6 @@ ghost use Rattle.nm_explored.specs.Lists.{Has};
 ghost use Rattle.nm_explored.specs.Moves.{AreSendsShort, IsAct, IsTurn};
 ghost use Rattle.nm_explored.specs.Chosen.{IsSettled, IsSettledBy};
 ghost use Rattle.nm_explored.specs.Coming.{AreEnoughTurns, IsNamed, IsNamedTurn};
-ghost use Rattle.nm_explored.specs.Chosen.{is_cancel as is_cancel_lem};
 ghost use Rattle.nm_explored.specs.Orderly.{is_claiming as is_claiming_lem};
 
 use crate::choices::choices::{View, answer, line_at, next_message};

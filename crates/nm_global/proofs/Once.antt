@@ -37,38 +37,35 @@ use Rattle.nm_types.proofs.NumberLemmas.{eq_true, same_number}
 use Rattle.nm_types.proofs.ListLemmas.{all_append, all_along, find_passes, find_nothing}
 use Rattle.nm_types.proofs.OptionLemmas.{mapped_some}
 use Rattle.nm_types.proofs.TruthLemmas.{both, and_left, and_right}
-
--- the message is that of this rank and number
-abbrev is_numbered : ℕ → ℕ → Arrival → Bool
-is_numbered from n a = a.env.from == from && a.n == n
+use Rattle.nm_match.specs.Deeds.{is_message}
 
 -- a message came where its arrival is in the history
 came_happened : (events : List Event) (from n : ℕ) →
-    list_any (is_numbered from n) (messages events) ≡ happened (is_arrival from n) events
+    list_any (is_message from n) (messages events) ≡ happened (is_arrival from n) events
 came_happened [] from n = refl
 came_happened (e ∷ events) from n = by_what e.what (came_happened events from n) where
   by_what : (w : Happened) →
-      list_any (is_numbered from n) (messages events) ≡ happened (is_arrival from n) events →
-      list_any (is_numbered from n) (cons_option (arrival_of w) (messages events))
+      list_any (is_message from n) (messages events) ≡ happened (is_arrival from n) events →
+      list_any (is_message from n) (cons_option (arrival_of w) (messages events))
       ≡ (is_arrival from n w || happened (is_arrival from n) events)
-  by_what (Arrive a) same = ap (λ (b : Bool). is_numbered from n a || b) same
+  by_what (Arrive a) same = ap (λ (b : Bool). is_message from n a || b) same
   by_what w same = same
 
 -- its number is below the count of the arrivals
 message_below : (ranks from n : ℕ) (h : List Event) → Always (NumberAt ranks) h →
-    list_any (is_numbered from n) (messages h) ≡ true → n < length (arrivals h from)
+    list_any (is_message from n) (messages h) ≡ true → n < length (arrivals h from)
 unfolding AtEach
 message_below ranks from n h numbers came =
     came_below ranks [] h from n numbers (sym (came_happened h from n) ∙ came)
 
 -- a message is that of its rank and number
-numbered_parts : (from n : ℕ) (a : Arrival) → is_numbered from n a ≡ true → (a.env.from ≡ from) × (a.n ≡ n)
+numbered_parts : (from n : ℕ) (a : Arrival) → is_message from n a ≡ true → (a.env.from ≡ from) × (a.n ≡ n)
 numbered_parts from n a is = (
   same_number a.env.from from (and_left (a.env.from == from) (a.n == n) is),
   same_number a.n n (and_right (a.env.from == from) (a.n == n) is),
 )
 
-numbered_self : (a : Arrival) → is_numbered a.env.from a.n a ≡ true
+numbered_self : (a : Arrival) → is_message a.env.from a.n a ≡ true
 numbered_self a = both (a.env.from == a.env.from) (a.n == a.n) (self_true a.env.from) (self_true a.n)
 
 -- none of these pairs has the message of this one
@@ -136,7 +133,7 @@ new_apart ranks h (Match number from n size line) pair numbers right made =
     (and_right (happened (is_claim from n) h) _ right.matches) in
     subst (AreOthers found) taken.2
     (not_found found from n (pair_of_claimed number size a)
-    (numbered_parts from n a (find_passes (is_numbered from n) (messages h) a taken.1)) none)
+    (numbered_parts from n a (find_passes (is_message from n) (messages h) a taken.1)) none)
 new_apart ranks h w pair numbers right made = cc
 
 apart_after : (ranks : ℕ) (h events : List Event) → Always (NumberAt ranks) h →
@@ -201,7 +198,7 @@ one_receive (x ∷ pairs) k g p q apart found_k found_g is =
 
 -- the first of these messages of this one's rank and number
 abbrev first_as : List Arrival → Arrival → Option Arrival
-first_as as' a = find (is_numbered a.env.from a.n) as'
+first_as as' a = find (is_message a.env.from a.n) as'
 
 -- each of these messages is the first of its rank and number
 abbrev AreNamed : List Arrival → Type 0
@@ -211,11 +208,11 @@ AreNamed as' = AllByRecursion (λ (a : Arrival). first_as as' a ≡ Some a) as'
 first-push : (as' : List Arrival) (a b : Arrival) (o : Option Arrival) → first_as as' b ≡ o →
     first_as (as' ++ a ∷ []) b ≡ option_or o (first_as (a ∷ []) b)
 first-push as' a b o is =
-    find-append (is_numbered b.env.from b.n) as' (a ∷ [])
+    find-append (is_message b.env.from b.n) as' (a ∷ [])
     ∙ ap (λ (o : Option Arrival). option_or o (first_as (a ∷ []) b)) is
 
 named_push : (as' : List Arrival) (o : Option Arrival) → AreNamed as' →
-    ((a : Arrival) → o ≡ Some a → list_any (is_numbered a.env.from a.n) as' ≡ false) →
+    ((a : Arrival) → o ≡ Some a → list_any (is_message a.env.from a.n) as' ≡ false) →
     AreNamed (as' ++ cons_option o [])
 named_push as' None named new = rw (append-nil as') named
 named_push as' (Some a) named new =
@@ -240,7 +237,7 @@ named_after ranks h (e ∷ events) numbers named each =
     each.1)
   where
     by_what : (w : Happened) → NumberAt ranks h w → (a : Arrival) → arrival_of w ≡ Some a →
-        list_any (is_numbered a.env.from a.n) (messages h) ≡ false
+        list_any (is_message a.env.from a.n) (messages h) ≡ false
     by_what (Arrive b) number a is =
         let same : b ≡ a = cc in
         let next : a.n ≡ length (arrivals h a.env.from) =

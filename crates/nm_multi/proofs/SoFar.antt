@@ -1,5 +1,5 @@
 -- What came so far of what a rank sends to itself, where more is still to come: as if it took that next.
-use Rattle.std.proofs.Common.{◌≡◌, ℕ, ◌+◌, ◌<◌, max, true, false, Some, List, [], ◌∷◌, ◌++◌, map, refl, sym}
+use Rattle.std.proofs.Common.{◌≡◌, ℕ, ◌+◌, ◌<◌, max, false, Some, List, [], ◌∷◌, ◌++◌, map, refl, sym}
 use Rattle.std.proofs.Common.{◌∙◌, ap, subst, append-nil, append_assoc, arith}
 use Rattle.std.specs.Prelude.{slice_get}
 use Rattle.std.specs.List.{AllByRecursion}
@@ -28,7 +28,7 @@ use Rattle.nm_channels.proofs.EagerBytes.{eager_all, eager_body_at, eager_bytes-
 use Rattle.nm_channels.proofs.Logs.{sound-push}
 use Rattle.nm_channels.proofs.Streaming.{Carries, InTime}
 use Rattle.nm_types.proofs.NumberLemmas.{eq_true}
-use Rattle.nm_channels.proofs.SoFar.{same_bytes, continuing_packets, continuing_go}
+use Rattle.nm_channels.proofs.SoFar.{same_bytes, continuing_packets, continuing_go, continuing}
 use Rattle.nm_history.proofs.AppendLemmas.{arrivals-append}
 
 -- the moment of a rank that takes this packet next
@@ -81,10 +81,6 @@ called_own k (c ∷ cs) [] [] called = tt
 called_own k (c ∷ cs) [] (p ∷ ps) called = (called.0.sender, called_own (k + 1) cs [] ps called.1)
 called_own k [] (x ∷ xs) ps called = absurd called
 called_own k (c ∷ cs) (x ∷ xs) ps called = called_own (k + 1) cs xs ps called.1
-
--- the same packet, as one that continued
-abbrev continuing : Taken → Taken
-continuing t = record t { continued = true }
 
 times : (ts : List Taken) → AllByRecursion (λ p. p.stamp < WORN_STAMP) (map (λ t. t.packet) ts) → InTime ts
 times [] early = tt

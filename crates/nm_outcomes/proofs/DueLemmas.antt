@@ -1,5 +1,5 @@
 -- At each event of a rank's run, a start and an answer are those of its next command.
-use Rattle.std.proofs.Common.{◌≡◌, ◌⊎◌, inl, inr, ℕ, Bool, true, false, cond, Option, Some, None, List, [], ◌∷◌, ◌++◌}
+use Rattle.std.proofs.Common.{◌≡◌, inl, inr, ℕ, Bool, true, false, cond, Option, Some, None, List, [], ◌∷◌, ◌++◌}
 use Rattle.std.proofs.Common.{length, map, take, drop, refl, sym, ◌∙◌, ap, subst, arith, append-nil, append_assoc}
 use Rattle.std.specs.List.{cons_option, filter, slice_get}
 use Rattle.std.specs.Option.{option_map_or}
@@ -20,6 +20,7 @@ use Rattle.nm_history.specs.RankRun.{IsRankRun, StartAt, is_start, ran_lines, ra
 use Rattle.nm_history.specs.RankRun.{start_of, starts_since, without_number}
 use Rattle.nm_history.proofs.RankRunLemmas.{since-push}
 use Rattle.nm_types.proofs.ListLemmas.{get_before, get_behind, get_from_map}
+use Rattle.nm_sure.proofs.Progress.{AtMostOne}
 use Rattle.nm_outcomes.specs.Due.{AreAtLines, IsAnswerOf, IsNextCommand, IsStartOf}
 
 -- one more answer, and the command that it is of
@@ -39,10 +40,6 @@ next_answer commands at before after stamp line answer order =
           ∙ get_before (take at commands) (drop at commands) (length (ran_lines before)) c.0 c.1;
       line_is = c.2;
     }
-
--- starts that were made, and what was called for: nothing, or one
-abbrev pub AtMostOne : List Happened → Type 0
-AtMostOne ys = (ys ≡ []) ⊎ ((z : Happened) × (ys ≡ z ∷ []))
 
 not_empty : (pre mid : List Happened) (w : Happened) → map without_number (pre ++ w ∷ mid) ≡ [] → ⊥
 not_empty [] mid w none = grind arith

@@ -26,13 +26,13 @@ use Rattle.nm_eager.specs.Streams.{continues as continues_message}
 use Rattle.nm_rndv.specs.Offers.{Offering, destined, with_answer, with_clearance, with_destined}
 use Rattle.nm_sending.specs.Departures.{SendingView}
 use Rattle.nm_sending.specs.Sent.{AreSent, Preserves, MayBeAnswered, is_of_sending}
+use Rattle.nm_sending.proofs.TurnLemmas.{numbers_to}
 use Rattle.nm_receiving.specs.Calls.{MayBeTakenIn, TakesMessagePacket}
 use Rattle.nm_receiving.specs.Receipts.{AddsBytes, ReceivingView, came_of, of_eager, stream_of}
 use Rattle.nm_receiving.specs.Received.{AreReceived, PreservesSender, is_of_receiving}
 use Rattle.nm_rank.specs.Calls.{offers_by}
 use Rattle.nm_rank.specs.Fields.{endings}
 use Rattle.nm_rank.specs.Takes.{Accepts, MayBeAccepted}
-use Rattle.nm_rank.proofs.Goes.{cleared_in}
 use Rattle.nm_rank.proofs.LeaveLemmas.{StaysSent, StaysReceived}
 use Rattle.nm_types.proofs.NumberLemmas.{unequal}
 use Rattle.nm_types.proofs.ListLemmas.{all_append}
@@ -165,8 +165,8 @@ one-test true from n = refl
 one-test false from n = refl
 
 cleared-more : (to from n : ℕ) (order : List (ℕ × ℕ))
-    → cleared_in to (order ++ (from, n) ∷ [])
-    ≡ cleared_in to order ++ (if from == to then n ∷ [] else [])
+    → numbers_to to (order ++ (from, n) ∷ [])
+    ≡ numbers_to to order ++ (if from == to then n ∷ [] else [])
 cleared-more to from n [] = one-test (from == to) from n
 cleared-more to from n (m ∷ order) = first-test (m.0 == to) m
     (filter (λ (x : ℕ × ℕ). x.0 == to) (order ++ (from, n) ∷ []))
@@ -251,16 +251,16 @@ accepts-clear p n s s' r b e value kept cleared counted outbox pushed stays =
       tells = λ h known t cont. rw e (record {
         told = record { count = t.told.count; lacks = t.told.lacks };
         cleared = ap (λ (k : List ℕ). k ++ n ∷ []) t.cleared
-            ∙ sym (ap (cleared_in p.from) order ∙ cleared-more p.from p.from n s.offers.order
-            ∙ ap (λ (x : Bool). cleared_in p.from s.offers.order ++ (if x then n ∷ [] else []))
+            ∙ sym (ap (numbers_to p.from) order ∙ cleared-more p.from p.from n s.offers.order
+            ∙ ap (λ (x : Bool). numbers_to p.from s.offers.order ++ (if x then n ∷ [] else []))
             (self_true p.from));
       });
       others = λ other known ne t. (record {
         told = record { count = t.told.count; lacks = t.told.lacks };
-        cleared = t.cleared ∙ sym (ap (cleared_in other) order ∙ cleared-more other p.from n s.offers.order
-            ∙ ap (λ (x : Bool). cleared_in other s.offers.order ++ (if x then n ∷ [] else []))
+        cleared = t.cleared ∙ sym (ap (numbers_to other) order ∙ cleared-more other p.from n s.offers.order
+            ∙ ap (λ (x : Bool). numbers_to other s.offers.order ++ (if x then n ∷ [] else []))
             (unequal p.from other (λ same. ne (sym same)))
-            ∙ append-nil (cleared_in other s.offers.order));
+            ∙ append-nil (numbers_to other s.offers.order));
       });
       outbox = outbox;
       staying = λ h known sent cont. rw (e, ← value h sent, clear-length b p.from n) (omega arith);
@@ -421,11 +421,11 @@ accepts-undo p n done s s' r e kept counted answered outbox pushed stays = recor
       ));
   tells = λ h known t cont. rw e (record {
     told = record { count = t.told.count; lacks = t.told.lacks };
-    cleared = t.cleared ∙ sym (ap (λ (o : Offering). cleared_in p.from o.order) answered);
+    cleared = t.cleared ∙ sym (ap (λ (o : Offering). numbers_to p.from o.order) answered);
   });
   others = λ other known ne t. (record {
     told = record { count = t.told.count; lacks = t.told.lacks };
-    cleared = t.cleared ∙ sym (ap (λ (o : Offering). cleared_in other o.order) answered);
+    cleared = t.cleared ∙ sym (ap (λ (o : Offering). numbers_to other o.order) answered);
   });
   outbox = outbox;
   staying = λ h known sent cont. omega arith;

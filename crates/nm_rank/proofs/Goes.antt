@@ -1,6 +1,6 @@
 -- What the fields keep stays true where a rank does something by itself.
 use Rattle.std.proofs.Common.{◌≡◌, ℕ, ◌≤◌, Bool, false, Some, List, [], ◌++◌, length, sym, ◌∙◌, ap, subst}
-use Rattle.std.specs.Prelude.{map, filter, ◌==◌, slice_index_or}
+use Rattle.std.specs.Prelude.{slice_index_or}
 use Rattle.std.specs.List.{slice_get, AllByRecursion}
 use Rattle.nm_types.specs.Sizes.{Sizes}
 use Rattle.nm_history.specs.declared.events.Event.{Event}
@@ -22,6 +22,7 @@ use Rattle.nm_sending.specs.Outboxes.{OutboxView}
 use Rattle.nm_request.specs.Requests.{Live}
 use Rattle.nm_sending.specs.Departures.{SendingView, departures_to}
 use Rattle.nm_sending.specs.Sent.{AreSent}
+use Rattle.nm_sending.proofs.TurnLemmas.{numbers_to}
 use Rattle.nm_receiving.specs.Receipts.{ReceivingView, stream_of}
 use Rattle.nm_receiving.specs.Received.{AreReceived}
 use Rattle.nm_rank.specs.Ranks.{known_from, count_of}
@@ -82,17 +83,13 @@ peers-stay me sizes s s' r r' known took pulled k a = record {
   pieces = a.pieces;
 }
 
--- the messages to a rank in an order of clearances
-abbrev pub cleared_in : ℕ → List (ℕ × ℕ) → List ℕ
-cleared_in to order = map (λ m. m.1) (filter (λ m. m.0 == to) order)
-
 pub told-stays : (ranks : ℕ) (s s' : SendingView) (r r' : ReceivingView)
     (known : List Known) (took pulled : List ℕ) → StaysTold s s' r r'
     → AreTold ranks s r known took pulled → AreTold ranks s' r' known took pulled
 told-stays ranks s s' r r' known took pulled k a = record {
   counts = λ from b. (a.counts from b ∙ sym (k.counts from));
   missing = λ from b. (a.missing from b ∙ sym (k.missing from));
-  cleared = λ to b. (a.cleared to b ∙ ap (cleared_in to) (sym k.order));
+  cleared = λ to b. (a.cleared to b ∙ ap (numbers_to to) (sym k.order));
   few = a.few;
   drawn = λ from b. subst (λ (ds : List ℕ). slice_index_or ds from 0 ≤ count_of pulled from)
       (sym k.drawn) (a.drawn from b);

@@ -1,7 +1,6 @@
 -- The fields of a rank at which nothing happened.
 use Rattle.std.proofs.Common.{◌≡◌, ℕ, zero, suc, ◌<◌, Some, None, List, [], length, replicate, refl, sym, ◌∙◌, ap}
 use Rattle.std.proofs.Common.{arith}
-use Rattle.std.specs.Prelude.{map, filter, ◌==◌}
 use Rattle.nm_types.specs.Sizes.{Sizes}
 use Rattle.nm_history.specs.Known.{Known, nothing_known}
 use Rattle.nm_history.proofs.Agreeing.{agrees-none}
@@ -13,6 +12,7 @@ use Rattle.nm_request.specs.Requests.{Live, kind_of}
 use Rattle.nm_rndv.specs.Offers.{Offering, no_offers}
 use Rattle.nm_sending.specs.Departures.{SendingView}
 use Rattle.nm_sending.specs.Sent.{AreSent}
+use Rattle.nm_sending.proofs.TurnLemmas.{numbers_to}
 use Rattle.nm_receiving.specs.Receipts.{ReceivingView, stream_of, drawn_from}
 use Rattle.nm_receiving.specs.Received.{AreReceived}
 use Rattle.nm_rank.specs.Fields.{AreFields}
@@ -29,9 +29,6 @@ length-rep (suc n) x = ap suc (length-rep n x)
 
 none_live : (k : Kind) → None ≡ Some k → ⊥
 none_live k e = cc
-
-abbrev cleared_of : ℕ → List (ℕ × ℕ) → List ℕ
-cleared_of to order = map (λ m. m.1) (filter (λ m. m.0 == to) order)
 
 pub fields-new : (me : ℕ) (sizes : Sizes) (j : JournalView) (s : SendingView) (r : ReceivingView)
     (known : List Known) (q : Live) (took pulled : List ℕ)
@@ -65,7 +62,7 @@ fields-new me sizes j s r known q took pulled within e sent own popped offers st
         counts = λ from b. rw (kn, nothing-known sizes.ranks from, (nothing from).0) refl;
         missing = λ from b. rw (kn, nothing-known sizes.ranks from, (nothing from).0) refl;
         cleared = λ to b. (rw (kn, nothing-known sizes.ranks to) refl)
-            ∙ sym (ap (λ (o : Offering). cleared_of to o.order) offers);
+            ∙ sym (ap (λ (o : Offering). numbers_to to o.order) offers);
         few = λ from b. rw (kn, nothing-known sizes.ranks from) (omega arith);
         drawn = λ from b. rw ((nothing from).1) (omega arith);
       };

@@ -31,7 +31,8 @@ use Rattle.nm_rank.specs.Fields.{AreFields}
 use Rattle.nm_rank.specs.Ranks.{known_from, count_of}
 use Rattle.nm_rank.specs.Takes.{Accepts, Tells}
 use Rattle.nm_sending.specs.Outboxes.{OutboxView}
-use Rattle.nm_rank.proofs.Goes.{cleared_in, requests-more, sent-outbox}
+use Rattle.nm_sending.proofs.TurnLemmas.{numbers_to}
+use Rattle.nm_rank.proofs.Goes.{requests-more, sent-outbox}
 
 abbrev pub known_of : Told → Known
 known_of s = s.known
@@ -79,7 +80,7 @@ tells-order : (known : Known) (i : ℕ) (s s' : SendingView) (r : ReceivingView)
     → s'.offers.order ≡ s.offers.order → Tells known i s r → Tells known i s' r
 tells-order known i s s' r order t = record {
   told = record { count = t.told.count; lacks = t.told.lacks };
-  cleared = t.cleared ∙ ap (cleared_in i) (sym order);
+  cleared = t.cleared ∙ ap (numbers_to i) (sym order);
 }
 
 -- a packet announces one message at most

@@ -13,6 +13,7 @@ use Rattle.nm_history.specs.declared.plain.Pair.{Pair}
 use Rattle.nm_history.specs.Completion.{is_complete, is_here, pair_of_receive}
 use Rattle.nm_history.specs.Completion.Request.{Receiving}
 use Rattle.nm_history.specs.Pieces.{Due, due_pieces}
+use Rattle.nm_history.specs.Matching.{pair_of_claimed as pair}
 use Rattle.nm_rndv.specs.Grants.{Granted, expected_in, first_unfinished}
 use Rattle.nm_receiving.specs.Pieces.{AreDue}
 use Rattle.nm_receiving.proofs.DueLemmas.{due-first}
@@ -22,7 +23,6 @@ use Rattle.nm_receiving.specs.declared.receipts.Receive.{Receive}
 use Rattle.nm_receiving.specs.Kept.{ReceivingInvariant}
 use Rattle.nm_receiving.specs.Receipts.{ReceivingView, pair_with, receipt_of}
 use Rattle.nm_receiving.specs.Received.{AreReceived}
-use Rattle.nm_receiving.proofs.Dues.{pair}
 use Rattle.nm_receiving.proofs.Stood.{is_cancelled_at, is_whole_at}
 use Rattle.nm_types.proofs.ListLemmas.{get_some}
 use Rattle.nm_types.proofs.OptionLemmas.{some_mapped}

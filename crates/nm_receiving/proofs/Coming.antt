@@ -16,7 +16,7 @@ use Rattle.nm_history.specs.declared.events.Happened.TheVariants.{Arrive}
 use Rattle.nm_history.specs.declared.plain.Pair.{Pair}
 use Rattle.nm_history.specs.Completion.{pair_of_receive}
 use Rattle.nm_history.specs.Happens.{at, happened, is_cancel, is_whole}
-use Rattle.nm_history.specs.Matching.{first_receive, matched_pairs, pair_of}
+use Rattle.nm_history.specs.Matching.{first_receive, matched_pairs, pair_of, pair_of_claimed as pair}
 use Rattle.nm_history.specs.Sends.{arrivals, message_of}
 use Rattle.nm_history.proofs.MatchingLemmas.{matched_pairs-push}
 use Rattle.nm_match.specs.declared.deeds.Deed.TheVariants as deed
@@ -26,7 +26,7 @@ use Rattle.nm_receiving.specs.declared.receipts.Receipt.{Receipt}
 use Rattle.nm_receiving.specs.declared.receipts.Receive.{Receive}
 use Rattle.nm_receiving.specs.Receipts.{ReceivingView, receipts_from, receipt_of, drawn_from, pair_with}
 use Rattle.nm_receiving.specs.Steps.{grants_with, has_taken, with_taken}
-use Rattle.nm_receiving.proofs.Dues.{due-with, pair}
+use Rattle.nm_receiving.proofs.Dues.{due-with}
 use Rattle.nm_receiving.proofs.Grow.{arrivals_more, arrivals_other, happened_still}
 use Rattle.nm_receiving.proofs.Grow.{message_more, message_other, pair_new, pair_still}
 use Rattle.nm_receiving.proofs.Lists.{row-other, row-same, slice_get-last, slice_get-push_other}

@@ -8,8 +8,7 @@ use Rattle.std.proofs.Math.ListN.{set}
 use Rattle.std.proofs.lemmas.Bool.{cases_eq}
 use Rattle.nm_types.specs.declared.messages.Arrival.{Arrival}
 use Rattle.nm_history.specs.declared.events.Event.{Event}
-use Rattle.nm_history.specs.declared.plain.Pair.{Pair}
-use Rattle.nm_history.specs.Matching.{matched_pairs}
+use Rattle.nm_history.specs.Matching.{matched_pairs, pair_of_claimed as pair}
 use Rattle.nm_history.specs.Sends.{is_ask}
 use Rattle.nm_history.specs.Pieces.{granted, is_granted}
 use Rattle.nm_rndv.specs.Grants.{Granted, fresh}
@@ -19,10 +18,6 @@ use Rattle.nm_receiving.specs.Steps.{grants_after, grants_with}
 use Rattle.nm_receiving.proofs.Grow.{granted_more}
 use Rattle.nm_receiving.proofs.Lists.{row-other, row-same}
 use Rattle.nm_types.proofs.NumberLemmas.{unequal, eq_true}
-
--- the pair of a receive with this number and capacity
-abbrev pub pair : ℕ → ℕ → Arrival → Pair
-pair number cap a = record { number = number; cap = cap; arrival = a }
 
 module _ (h events : List Event) (number cap : ℕ) (a : Arrival)
     (grown : matched_pairs (h ++ events) ≡ matched_pairs h ++ pair number cap a ∷ []) where

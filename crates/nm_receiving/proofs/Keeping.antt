@@ -10,7 +10,7 @@ use Rattle.nm_history.specs.declared.events.Happened.TheVariants.{Whole}
 use Rattle.nm_history.specs.declared.plain.Pair.{Pair}
 use Rattle.nm_history.specs.Completion.{is_taken}
 use Rattle.nm_history.specs.Happens.{at, happened, is_arrival, is_cancel, is_whole}
-use Rattle.nm_history.specs.Matching.{matched_pairs, new_pair}
+use Rattle.nm_history.specs.Matching.{matched_pairs, new_pair, pair_of_claimed as pair}
 use Rattle.nm_history.specs.RankRun.{is_asking}
 use Rattle.nm_history.specs.Sends.{arrival_of, message_of, receive_of}
 use Rattle.nm_history.proofs.MatchingLemmas.{matched_pairs-push, matched_pairs-push_other}
@@ -22,7 +22,6 @@ use Rattle.nm_receiving.specs.declared.receipts.Receipt.{Receipt}
 use Rattle.nm_receiving.specs.Receipts.{ReceivingView, is_empty_ask, receipt_of, taken_events}
 use Rattle.nm_receiving.specs.Received.{AreReceived, Preserves}
 use Rattle.nm_receiving.specs.Steps.{rows_after, rows_with, rows_with_whole}
-use Rattle.nm_receiving.proofs.Dues.{pair}
 use Rattle.nm_receiving.proofs.Events.{right-one, right-two, unstamp-one, unstamp-two}
 use Rattle.nm_receiving.proofs.Facts.{arrived_from, empty_more}
 use Rattle.nm_receiving.proofs.Grow.{happened_later, happened_now, happened_still, taken_now}

@@ -13,12 +13,12 @@ use Rattle.nm_history.specs.declared.plain.Pair.{Pair}
 use Rattle.nm_history.specs.Answers.{without_bytes as answer_without_bytes}
 use Rattle.nm_history.specs.Completion.{is_here, pair_of_receive, result_of, shown}
 use Rattle.nm_history.specs.Completion.Request.{Receiving}
+use Rattle.nm_history.specs.Matching.{pair_of_claimed as pair}
 use Rattle.nm_receiving.specs.declared.receipts.Receipt.{Receipt}
 use Rattle.nm_receiving.specs.declared.receipts.Receive.{Receive}
 use Rattle.nm_receiving.specs.Receipts.{ReceivingView, ShowsBytes, bytes_of}
 use Rattle.nm_receiving.specs.Receipts.{pair_at, pair_with, receipt_of}
 use Rattle.nm_receiving.specs.Received.{AreReceived}
-use Rattle.nm_receiving.proofs.Dues.{pair}
 use Rattle.nm_receiving.proofs.Stood.{is_cancelled_at, is_whole_at}
 
 -- the result by the tables

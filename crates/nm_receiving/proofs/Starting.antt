@@ -14,7 +14,7 @@ use Rattle.nm_history.specs.declared.events.Happened.{Happened}
 use Rattle.nm_history.specs.declared.events.Happened.TheVariants.{Match, Post, Whole}
 use Rattle.nm_history.specs.Completion.{is_taken}
 use Rattle.nm_history.specs.Happens.{at, happened, is_withdraw}
-use Rattle.nm_history.specs.Matching.{first_message, is_claimed, matched_pairs}
+use Rattle.nm_history.specs.Matching.{first_message, is_claimed, matched_pairs, pair_of_claimed as pair}
 use Rattle.nm_history.specs.Sends.{is_ask, message_of, posts, post_of}
 use Rattle.nm_history.proofs.OnceLemmas.{posts-push}
 use Rattle.nm_history.specs.Rules.{AreRight}
@@ -29,7 +29,6 @@ use Rattle.nm_receiving.specs.Kept.{AreGrantedFor, TablesAgree, IsCleared, IsGra
 use Rattle.nm_receiving.specs.Receipts.{ReceivingView, granted_to, is_empty_ask, receipt_of}
 use Rattle.nm_receiving.specs.Received.{AreReceived}
 use Rattle.nm_receiving.specs.Steps.{grants_with, made_whole, rows_after, rows_with, rows_with_whole}
-use Rattle.nm_receiving.proofs.Dues.{pair}
 use Rattle.nm_receiving.proofs.Facts.{IsTakeable, claimed_takeable, first_takeable, right_named}
 use Rattle.nm_receiving.proofs.Goings.{goes_on, like-push}
 use Rattle.nm_receiving.proofs.Grants.{grant_new, granted_new}

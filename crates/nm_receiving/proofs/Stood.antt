@@ -11,7 +11,7 @@ use Rattle.nm_history.specs.declared.events.Event.{Event}
 use Rattle.nm_history.specs.declared.plain.Pair.{Pair}
 use Rattle.nm_history.specs.Completion.{pair_of_receive}
 use Rattle.nm_history.specs.Happens.{happened, is_cancel, is_whole}
-use Rattle.nm_history.specs.Matching.{is_matching, matched_pairs}
+use Rattle.nm_history.specs.Matching.{is_matching, matched_pairs, pair_of_claimed as pair}
 use Rattle.nm_history.specs.Sends.{arrivals, arrival_of, message_of, receives, receive_of}
 use Rattle.nm_history.specs.Rest.{EmptyAreHere}
 use Rattle.nm_match.specs.declared.deeds.Deed.{Deed}
@@ -24,7 +24,7 @@ use Rattle.nm_receiving.specs.Receipts.{ReceivingView, receipts_from, receipt_of
 use Rattle.nm_receiving.specs.Receipts.{pair_with}
 use Rattle.nm_receiving.specs.Received.{AreReceived}
 use Rattle.nm_receiving.specs.Steps.{grants_with}
-use Rattle.nm_receiving.proofs.Dues.{due-with, pair}
+use Rattle.nm_receiving.proofs.Dues.{due-with}
 use Rattle.nm_receiving.proofs.Grow.{arrivals_still, happened_still}
 use Rattle.nm_receiving.proofs.Grow.{message_still, pair_new, pair_still, pairs_still}
 use Rattle.nm_receiving.proofs.Lists.{slice_get-last, slice_get-push_other}

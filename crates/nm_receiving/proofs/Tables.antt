@@ -14,7 +14,7 @@ use Rattle.nm_types.specs.declared.messages.Post as post
 use Rattle.nm_history.specs.declared.events.Event.{Event}
 use Rattle.nm_history.specs.declared.plain.Pair.{Pair}
 use Rattle.nm_history.specs.Completion.{is_taken, pair_of_receive}
-use Rattle.nm_history.specs.Matching.{is_of_message, is_of_receive, matched_pairs}
+use Rattle.nm_history.specs.Matching.{is_of_message, is_of_receive, matched_pairs, pair_of_claimed as pair}
 use Rattle.nm_history.specs.Sends.{is_ask, posts}
 use Rattle.nm_match.specs.declared.deeds.Deed.{Deed}
 use Rattle.nm_eager.specs.Streams.{Incoming, message_of}
@@ -25,7 +25,6 @@ use Rattle.nm_receiving.specs.Kept.{AreGrantedFor, TablesAgree, HasBytes, HasOpe
 use Rattle.nm_receiving.specs.Kept.{IsHere, IsJoined}
 use Rattle.nm_receiving.specs.Receipts.{ReceivingView, granted_to, pair_with, receipt_of, stream_of}
 use Rattle.nm_receiving.specs.Received.{AreReceived}
-use Rattle.nm_receiving.proofs.Dues.{pair}
 use Rattle.nm_receiving.proofs.Grants.{Granted_now, grant_among, grant_new, grant_still, granted_cases}
 use Rattle.nm_receiving.proofs.Grants.{granted_length, granted_new, once_push, open_new, open_still}
 use Rattle.nm_receiving.proofs.Grow.{newly_taken, taken_later, taken_now}

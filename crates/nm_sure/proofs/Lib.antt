@@ -26,7 +26,7 @@ pub mod Fitting
 mod Numbering
 pub mod Lists
 mod Carried
-mod Progress
+pub mod Progress
 pub mod Gathered
 pub mod Fronts
 pub mod Named

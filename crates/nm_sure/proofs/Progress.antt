@@ -22,7 +22,7 @@ use Rattle.nm_sure.proofs.PlacedLemmas.{starts_grow}
 use Rattle.nm_types.proofs.ListLemmas.{front_empty}
 
 -- nothing, or one thing
-abbrev AtMostOne : List Happened → Type 0
+abbrev pub AtMostOne : List Happened → Type 0
 AtMostOne ys = (ys ≡ []) ⊎ ((z : Happened) × (ys ≡ z ∷ []))
 
 nothing_mapped : (ws : List Happened) → map without_number ws ≡ [] → ws ≡ []

@@ -19,6 +19,7 @@ use Rattle.nm_history.specs.declared.events.Happened.TheVariants as event
 use Rattle.nm_history.specs.Answers.{without_bytes}
 use Rattle.nm_history.specs.RankRun.{start_of}
 use Rattle.nm_history.specs.Sends.{Sent, sends, sent_bytes}
+use Rattle.nm_report.specs.Summary.{is_got}
 use Rattle.nm_sure.proofs.Fitting.{EachFits, Fits}
 use Rattle.nm_sure.proofs.Floor.{is_sending}
 use Rattle.nm_sure.proofs.Worlds.{fits}
@@ -79,11 +80,6 @@ length_sent lengths eager commands s calls =
     by_command (command.Send q to tag ctx body sync) len sends = lengths body ∙ len
     by_command (command.Mrecv q m cap) len sends = len
     by_command c len sends = absurd (false≢true sends)
-
--- an answer that shows bytes
-abbrev is_got : Answer → Bool
-is_got (answer.Got source t bytes) = true
-is_got _ = false
 
 -- a receive has the capacity of its command
 abbrev first_cap : List Happened → ℕ

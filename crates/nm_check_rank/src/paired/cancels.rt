@@ -8,12 +8,11 @@ ghost use Rattle.nm_types.specs.declared.scripts.Line as script_line;
 ghost use Rattle.nm_history.specs.declared.events.Event as event;
 ghost use Rattle.nm_history.specs.declared.events.Happened.TheVariants.{Cancel, Ran, Recall};
 ghost use Rattle.nm_history.specs.RankRun.{Always, CancelAt, Cancels as CancelsHold, CancelsOf};
-ghost use Rattle.nm_history.specs.RankRun.{cancels_since, is_cancelling};
+ghost use Rattle.nm_history.specs.RankRun.{cancels_since, is_canceller as is_canceller_lem, is_cancelling};
 ghost use Rattle.nm_check_rank.specs.Breaks.{Breaks};
 ghost use Rattle.nm_lookups.specs.Deciding.{Decides};
 ghost use Rattle.nm_lookups.specs.AskedFor.{meant_by};
 ghost use Rattle.nm_lookups.specs.SinceAnswer.{IsSince, of_kind};
-ghost use Rattle.nm_check_rank.specs.Kinds.{is_canceller as is_canceller_lem};
 ghost use Rattle.nm_check_rank.specs.Tabled.{AreRankTables};
 
 use crate::breaks::Break;

@@ -15,6 +15,7 @@ use Rattle.nm_history.specs.Answers.{without_bytes as answer_without_bytes}
 use Rattle.nm_history.specs.Completion.{result_of, shown}
 use Rattle.nm_history.specs.Completion.Request.{Receiving}
 use Rattle.nm_history.specs.Sends.{is_ask}
+use Rattle.nm_history.specs.Matching.{pair_of_claimed as pair}
 use Rattle.nm_eager.specs.Joining.{stream_from}
 use Rattle.nm_eager.specs.Senders.{Received}
 use Rattle.nm_eager.specs.Streams.{Stream, missing, without}
@@ -29,7 +30,6 @@ use Rattle.nm_receiving.specs.Seen.{seen}
 use Rattle.nm_receiving.specs.Steps.{IsThere, bytes_there, has_ended, streams_of, with_ended}
 use Rattle.nm_receiving.proofs.Beginning.{stream_at}
 use Rattle.nm_receiving.proofs.Changing.{keeps-ended}
-use Rattle.nm_receiving.proofs.Dues.{pair}
 use Rattle.nm_receiving.proofs.Finishing.{bytes-finished, bytes_there_now, ended_is, kept-ended}
 use Rattle.nm_receiving.proofs.Finishing.{kept-finished, received-finished, streams-finished, taken_from}
 use Rattle.nm_receiving.proofs.Showing.{result_cancelled, result_taken, result_untaken, shown_is, shows_bytes}
