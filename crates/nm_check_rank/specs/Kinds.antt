@@ -1,6 +1,5 @@
 -- The kinds of events that commands call for.
 use Rattle.std.specs.Prelude.{Bool, is_some}
-use Rattle.nm_types.specs.declared.scripts.Command.TheVariants as command
 use Rattle.nm_history.specs.declared.events.Happened.{Happened}
 use Rattle.nm_history.specs.RankRun.{line_of_claim}
 

@@ -23,8 +23,9 @@ use Rattle.nm_history.specs.RankRun.{is_cancelling, is_matched_probe, is_start, 
 use Rattle.nm_history.specs.RankRun.{since_command, start_of, starts_since, without_number}
 use Rattle.nm_history.proofs.AtEachLemmas.{AtEach-from_splits}
 use Rattle.nm_history.proofs.RankRunLemmas.{rank_run-split}
+use Rattle.nm_history.specs.Underway.{is_answer}
 use Rattle.nm_outcomes.specs.Due.{AreAtLines, EventsAreDue, IsAnswerOf, IsCancelOf, IsDue, IsMatchOf}
-use Rattle.nm_outcomes.proofs.DueLemmas.{few_starts, is_ran, next_answer, one_only, started}
+use Rattle.nm_outcomes.proofs.DueLemmas.{few_starts, next_answer, one_only, started}
 use Rattle.nm_outcomes.proofs.QuietLemmas.{AreQuiet, HasAnswer, first_answer, since_quiet}
 use Rattle.nm_outcomes.proofs.QuietLemmas.{first_one, none_before, ran_quiet}
 use Rattle.nm_outcomes.proofs.QuietLemmas.{back_empty, live_quiet, message_quiet, not_kept, one_in}
@@ -60,7 +61,7 @@ module _ (shape : Sizes) (commands : List Numbered) (at : ℕ) (h : List Event) 
 
   -- it comes, where what happened is none of what is left at the end
   next_at : (before : List Event) (stamp : ℕ) (w : Happened) (after : List Event) →
-      h ≡ before ++ record { stamp = stamp; what = w } ∷ after → is_ran w ≡ false →
+      h ≡ before ++ record { stamp = stamp; what = w } ∷ after → is_answer w ≡ false →
       (since_command h ≡ since_command before ++ w ∷ map (λ (e : Event). e.what) after → ⊥) → Next before stamp w
   next_at before stamp w after split no_answer not_last = by_answer (first_answer after)
     where

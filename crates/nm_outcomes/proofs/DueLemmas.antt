@@ -5,7 +5,7 @@ use Rattle.std.specs.List.{cons_option, filter, slice_get}
 use Rattle.std.specs.Option.{option_map_or}
 use Rattle.std.proofs.lemmas.Bool.{false≢true}
 use Rattle.std.proofs.lemmas.List.{take-append-drop}
-use Rattle.std.proofs.lemmas.List.Elements.{filter-append, filter_map-append}
+use Rattle.std.proofs.lemmas.List.Elements.{filter_map-append}
 use Rattle.nm_types.specs.declared.answers.Answer.{Answer}
 use Rattle.nm_types.specs.declared.scripts.Command.{Command}
 use Rattle.nm_types.specs.declared.scripts.Command.TheVariants as command
@@ -16,11 +16,12 @@ use Rattle.nm_history.specs.declared.events.Happened.{Happened}
 use Rattle.nm_history.specs.declared.events.Happened.TheVariants as event
 use Rattle.nm_history.specs.AtEach.{AtEach, AtEachAfter}
 use Rattle.nm_history.specs.Answers.{Message, is_started, live_message}
-use Rattle.nm_history.specs.RankRun.{IsRankRun, StartAt, is_start, ran_lines, ran_of, since_after, since_command}
+use Rattle.nm_history.specs.RankRun.{IsRankRun, StartAt, is_start, ran_lines, ran_of}
 use Rattle.nm_history.specs.RankRun.{start_of, starts_since, without_number}
-use Rattle.nm_history.proofs.RankRunLemmas.{since-push}
+use Rattle.nm_history.specs.Underway.{is_answer}
 use Rattle.nm_types.proofs.ListLemmas.{get_before, get_behind, get_from_map}
 use Rattle.nm_sure.proofs.Progress.{AtMostOne}
+use Rattle.nm_sure.proofs.PlacedLemmas.{starts_grow}
 use Rattle.nm_outcomes.specs.Due.{AreAtLines, IsAnswerOf, IsNextCommand, IsStartOf}
 
 -- one more answer, and the command that it is of
@@ -97,30 +98,14 @@ start_fresh eager l commands h before (command.Await from tag ctx) w posting sam
 start_fresh eager l commands h before (command.Cancel q) w posting same = same
 start_fresh eager l commands h before (command.Mprobe m from tag ctx) w posting same = same
 
--- the starts since the last answer, after one event more that is no answer
-abbrev pub is_ran : Happened → Bool
-is_ran (event.Ran line answer) = true
-is_ran _ = false
-
-starts-push : (h : List Event) (stamp : ℕ) (what : Happened) → is_ran what ≡ false →
-    starts_since (h ++ record { stamp = stamp; what = what } ∷ []) ≡ starts_since h ++ filter is_start (what ∷ [])
-starts-push h stamp what none =
-    ap (λ (ws : List Happened). filter is_start ws) (since-push h (record { stamp = stamp; what = what }))
-    ∙ by_event what none
-  where
-    by_event : (what : Happened) → is_ran what ≡ false →
-        filter is_start (since_after (since_command h) what) ≡ starts_since h ++ filter is_start (what ∷ [])
-    by_event (event.Ran line answer) none = absurd (false≢true (sym none))
-    by_event what none = filter-append is_start (since_command h) (what ∷ [])
-
-ran-push : (h : List Event) (stamp : ℕ) (what : Happened) → is_ran what ≡ false →
+ran-push : (h : List Event) (stamp : ℕ) (what : Happened) → is_answer what ≡ false →
     length (ran_lines (h ++ record { stamp = stamp; what = what } ∷ [])) ≡ length (ran_lines h)
 ran-push h stamp what none =
     ap (λ (ls : List ℕ). length ls)
     (filter_map-append (λ (e : Event). ran_of e.what) h (record { stamp = stamp; what = what } ∷ [])
     ∙ by_event what none)
   where
-    by_event : (what : Happened) → is_ran what ≡ false → ran_lines h ++ cons_option (ran_of what) [] ≡ ran_lines h
+    by_event : (what : Happened) → is_answer what ≡ false → ran_lines h ++ cons_option (ran_of what) [] ≡ ran_lines h
     by_event (event.Ran line answer) none = absurd (false≢true (sym none))
     by_event what none = append-nil (ran_lines h)
 
@@ -177,13 +162,13 @@ module _ (shape : Sizes) (commands : List Numbered) (at : ℕ) (stand : AreAtLin
       (ap (λ (k : List Event). starts_since k) (append_assoc h (e ∷ []) rest) ∙ none)
       (ap (λ (k : List Event). ran_lines k) (append_assoc h (e ∷ []) rest) ∙ order))
     where
-      other : (what : Happened) (stamp : ℕ) → is_ran what ≡ false →
+      other : (what : Happened) (stamp : ℕ) → is_answer what ≡ false →
           (length (ran_lines (h ++ record { stamp = stamp; what = what } ∷ [])) ≡ length (ran_lines before) →
           starts_since (h ++ record { stamp = stamp; what = what } ∷ [])
           ≡ pre ++ w ∷ (mid ++ filter is_start (what ∷ [])) → (pre ≡ []) × Start) → (pre ≡ []) × Start
       other what stamp no_answer later =
           later (ran-push h stamp what no_answer ∙ count)
-          (starts-push h stamp what no_answer
+          (starts_grow h stamp what no_answer
           ∙ ap (λ (ws : List Happened). ws ++ filter is_start (what ∷ [])) starts
           ∙ append_assoc pre (w ∷ mid) (filter is_start (what ∷ [])))
 
@@ -208,14 +193,14 @@ module _ (shape : Sizes) (commands : List Numbered) (at : ℕ) (h : List Event) 
     (run : IsRankRun shape commands at h) where
   pub started : (before : List Event) (stamp : ℕ) (w : Happened) (after : List Event) →
       h ≡ before ++ record { stamp = stamp; what = w } ∷ after → is_posting (without_number w) ≡ true →
-      is_ran w ≡ false → filter is_start (w ∷ []) ≡ w ∷ [] → IsStartOf shape.eager commands before w
+      is_answer w ≡ false → filter is_start (w ∷ []) ≡ w ∷ [] → IsStartOf shape.eager commands before w
   unfolding AtEach
   started before stamp w after split posting no_answer counts =
       let e : Event = record { stamp = stamp; what = w } in
       let whole : (before ++ e ∷ []) ++ after ≡ h = append_assoc before (e ∷ []) after ∙ sym split in
       let found = walk shape commands at stand before w posting (before ++ e ∷ []) after (starts_since before) []
       (ran-push before stamp w no_answer)
-      (starts-push before stamp w no_answer ∙ ap (λ (ws : List Happened). starts_since before ++ ws) counts)
+      (starts_grow before stamp w no_answer ∙ ap (λ (ws : List Happened). starts_since before ++ ws) counts)
       (after_front (λ b e. StartAt shape.eager commands b e.what) [] (before ++ e ∷ []) after
       (subst (λ (k : List Event). AtEachAfter (λ b e. StartAt shape.eager commands b e.what) [] k) (sym whole)
       run.starts.made))

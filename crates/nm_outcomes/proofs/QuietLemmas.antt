@@ -15,14 +15,15 @@ use Rattle.nm_history.specs.Answers.{Message, claim_at, claim_line_after, line_a
 use Rattle.nm_history.specs.Answers.{line_of_name, live, live_message, message_claimed, request_at, request_of}
 use Rattle.nm_history.specs.Completion.{Request}
 use Rattle.nm_history.specs.RankRun.{is_start, line_of_claim, ran_lines}
-use Rattle.nm_history.specs.RankRun.{ran_of, since_after, since_command, without_number}
+use Rattle.nm_history.specs.RankRun.{ran_of, since_command, without_number}
 use Rattle.nm_history.proofs.AnswerLemmas.{line-push, no_request}
 use Rattle.nm_history.proofs.RankRunLemmas.{since-push}
-use Rattle.nm_outcomes.proofs.DueLemmas.{is_ran}
+use Rattle.nm_history.specs.Underway.{is_answer}
+use Rattle.nm_history.proofs.AppendLemmas.{since_grows}
 
 -- no event of these is an answer
 abbrev pub AreQuiet : List Event → Type 0
-AreQuiet es = AllByRecursion (λ (e : Event). is_ran e.what ≡ false) es
+AreQuiet es = AllByRecursion (λ (e : Event). is_answer e.what ≡ false) es
 
 -- one of these is, and none before it
 pub record HasAnswer (after : List Event) : Type 0 where
@@ -63,12 +64,6 @@ first_answer (e ∷ after) = by_event e.what e.stamp (first_answer after)
         })
     by_event what stamp (inr quiet) = inr (refl, quiet)
 
--- what quiet events add and leave
-pub since_grown : (since : List Happened) (what : Happened) → is_ran what ≡ false →
-    since_after since what ≡ since ++ what ∷ []
-since_grown since (event.Ran line answer) none = absurd (false≢true (sym none))
-since_grown since what none = refl
-
 pub since_quiet : (h es : List Event) → AreQuiet es →
     since_command (h ++ es) ≡ since_command h ++ map (λ (e : Event). e.what) es
 since_quiet h [] quiet = ap (λ (k : List Event). since_command k) (append-nil h) ∙ sym (append-nil (since_command h))
@@ -76,14 +71,14 @@ since_quiet h (e ∷ es) quiet =
     ap (λ (k : List Event). since_command k) (sym (append_assoc h (e ∷ []) es))
     ∙ since_quiet (h ++ e ∷ []) es quiet.1
     ∙ ap (λ (ws : List Happened). ws ++ map (λ (e : Event). e.what) es)
-    (since-push h e ∙ since_grown (since_command h) e.what quiet.0)
+    (since-push h e ∙ since_grows (since_command h) e.what quiet.0)
     ∙ append_assoc (since_command h) (e.what ∷ []) (map (λ (e : Event). e.what) es)
 
 pub no_lines : (es : List Event) → AreQuiet es → ran_lines es ≡ []
 no_lines [] quiet = refl
 no_lines (e ∷ es) quiet = by_event e.what quiet.0 (no_lines es quiet.1)
   where
-    by_event : (what : Happened) → is_ran what ≡ false → ran_lines es ≡ [] →
+    by_event : (what : Happened) → is_answer what ≡ false → ran_lines es ≡ [] →
         cons_option (ran_of what) (filter_map (λ (e : Event). ran_of e.what) es) ≡ []
     by_event (event.Ran line answer) none later = absurd (false≢true (sym none))
     by_event what none later = later
@@ -101,7 +96,7 @@ names_quiet commands q h (e ∷ es) quiet =
     ∙ names_quiet commands q (h ++ e ∷ []) es quiet.1
     ∙ line-push commands h e q ∙ kept (line_of_name commands h q) e.what quiet.0
   where
-    kept : (line : Option ℕ) (what : Happened) → is_ran what ≡ false → line_after commands q line what ≡ line
+    kept : (line : Option ℕ) (what : Happened) → is_answer what ≡ false → line_after commands q line what ≡ line
     kept line (event.Ran ran answer) none = absurd (false≢true (sym none))
     kept line what none = refl
 
@@ -114,7 +109,7 @@ handles_quiet commands m h (e ∷ es) quiet =
     ∙ fold_push (λ (line : Option ℕ) (e : Event). claim_line_after commands m line e.what) None h e
     ∙ kept (line_of_handle commands h m) e.what quiet.0
   where
-    kept : (line : Option ℕ) (what : Happened) → is_ran what ≡ false → claim_line_after commands m line what ≡ line
+    kept : (line : Option ℕ) (what : Happened) → is_answer what ≡ false → claim_line_after commands m line what ≡ line
     kept line (event.Ran ran answer) none = absurd (false≢true (sym none))
     kept line what none = refl
 

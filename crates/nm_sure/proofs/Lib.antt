@@ -30,4 +30,4 @@ pub mod Progress
 pub mod Gathered
 pub mod Fronts
 pub mod Named
-mod PlacedLemmas
+pub mod PlacedLemmas

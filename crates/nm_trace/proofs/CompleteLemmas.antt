@@ -13,6 +13,7 @@ use Rattle.nm_history.specs.declared.events.Happened.{Happened}
 use Rattle.nm_history.specs.declared.events.Happened.TheVariants as what
 use Rattle.nm_history.specs.Quiescence.{Ended}
 use Rattle.nm_report.specs.declared.pairs.PairCount.{PairCount}
+use Rattle.nm_report.specs.Summary.{got_len}
 use Rattle.nm_script.specs.Lines.{words_of}
 use Rattle.nm_trace.specs.declared.notes.Note.{Note}
 use Rattle.nm_trace.specs.Answers.{given, given_what, is_due}
@@ -20,7 +21,7 @@ use Rattle.nm_trace.specs.Events.{note_of, pair_of}
 use Rattle.nm_trace.specs.Machine.{Trace, Stage, Noting, Counting, Telling, Closing, Over, start}
 use Rattle.nm_trace.specs.Machine.{counting, ended, fed, feed, is_next, last_rank, next_note}
 use Rattle.nm_trace.specs.Machine.{noting, telling, waits_of}
-use Rattle.nm_trace.specs.Notes.{BareIn, HasBytes, NoteIn, ToldIn, bare, bare_what, bytes_in, bytes_of_what}
+use Rattle.nm_trace.specs.Notes.{BareIn, HasBytes, NoteIn, ToldIn, bare, bare_what, bytes_of_what}
 use Rattle.nm_trace.specs.Notes.{cells_words, end_word, event_text, note_words, noted, pair_words, waits_words}
 use Rattle.nm_trace.specs.Outcome.{AnswerPlace, tells, tells_next}
 use Rattle.nm_trace.specs.Texts.{InOrder}
@@ -54,7 +55,7 @@ fed_behind ranks s t (l ∷ front) line rest same =
     fed_alike ranks s t l (front ++ line ∷ rest) (same l)
 
 -- events by their notes
-bare_in : (a : Answer) → AnswerIn a → BareIn (bare a) (bytes_in a)
+bare_in : (a : Answer) → AnswerIn a → BareIn (bare a) (got_len a)
 bare_in answer.Started h = refl
 bare_in answer.Busy h = refl
 bare_in answer.Null h = refl

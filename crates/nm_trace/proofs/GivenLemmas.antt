@@ -16,11 +16,12 @@ use Rattle.nm_types.specs.declared.answers.Answer.TheVariants as answer
 use Rattle.nm_history.specs.declared.events.Happened.{Happened}
 use Rattle.nm_history.specs.declared.events.Happened.TheVariants as what
 use Rattle.nm_report.specs.Answers.{answer_words, body_word}
+use Rattle.nm_report.specs.Summary.{got_len}
 use Rattle.nm_script.specs.Digits.{is_lower_digit}
 use Rattle.nm_script.proofs.DigitLemmas.{all_lower, lower_pairs}
 use Rattle.nm_trace.specs.Answers.{has_line, start_words, answer_start, behind, decoded}
 use Rattle.nm_trace.specs.Answers.{bytes_of, given_answer, given_what}
-use Rattle.nm_trace.specs.Notes.{BareIn, bare, bytes_in, answer_text, IsGiven, HasBytes}
+use Rattle.nm_trace.specs.Notes.{BareIn, bare, answer_text, IsGiven, HasBytes}
 use Rattle.nm_script.proofs.StepLemmas.{guard_some}
 use Rattle.nm_trace.proofs.FieldLemmas.{bind_some, same_bytes}
 
@@ -94,7 +95,7 @@ bytes_taken digits bytes len h =
 
 -- an answer's own line gives it
 pub own_line_gives : (rank line : ℕ) (a : Answer) → has_line a ≡ true → HasBytes a
-    → given_what rank (what.Ran line (bare a)) (bytes_in a) (answer_text rank line a)
+    → given_what rank (what.Ran line (bare a)) (got_len a) (answer_text rank line a)
     ≡ Some (what.Ran line a)
 unfolding given_what given_answer
 own_line_gives rank line (answer.Got from tag body) due small =
@@ -129,7 +130,7 @@ plain_given rank line a len rest x text is none words h =
 
 plain_taken : (rank line : ℕ) (a : Answer) (len : ℕ) (text : List ℕ) (w : Happened)
     → ((rest : List ℕ) → given_answer a len rest ≡ cond (bytes_eq rest []) (Some a) None)
-    → body_word a ≡ [] → start_words a len ≡ answer_words a → bare a ≡ a → bytes_in a ≡ len → HasBytes a
+    → body_word a ≡ [] → start_words a len ≡ answer_words a → bare a ≡ a → got_len a ≡ len → HasBytes a
     → given_what rank (what.Ran line a) len text ≡ Some w → IsGiven rank line a len text w
 unfolding given_what
 plain_taken rank line a len text w plain none words bare_is long bytes given =

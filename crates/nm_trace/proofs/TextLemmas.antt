@@ -15,10 +15,11 @@ use Rattle.nm_report.specs.declared.pairs.PairCount.{PairCount}
 use Rattle.nm_report.specs.Answers.{answer_words, body_word}
 use Rattle.nm_report.specs.Events.{event_line, event_words, pair_line}
 use Rattle.nm_report.specs.Report.{ran_line, answer_line, waits_line}
+use Rattle.nm_report.specs.Summary.{got_len}
 use Rattle.nm_trace.specs.declared.notes.Note.{Note}
 use Rattle.nm_trace.specs.Answers.{is_due, has_line, given, given_what}
 use Rattle.nm_trace.specs.Machine.{ended}
-use Rattle.nm_trace.specs.Notes.{bare, bytes_in, spoken_words, told_words, note_line, answer_text}
+use Rattle.nm_trace.specs.Notes.{bare, spoken_words, told_words, note_line, answer_text}
 use Rattle.nm_trace.specs.Notes.{ToldIn}
 use Rattle.nm_trace.specs.Texts.{events_from, answers_from, telling_text}
 use Rattle.nm_trace.proofs.FieldLemmas.{bind_some}
@@ -107,7 +108,7 @@ rank_more pairs ends events due waits =
     (flat_map (λ event. ran_line (length ends) event.what) events) (waits_line (length ends) waits))
 
 -- the words of an answer need its number of bytes alone
-bare_words : (a : Answer) → spoken_words (bare a) (bytes_in a) ≡ answer_words a
+bare_words : (a : Answer) → spoken_words (bare a) (got_len a) ≡ answer_words a
 bare_words answer.Started = refl
 bare_words answer.Busy = refl
 bare_words answer.Null = refl
@@ -218,7 +219,7 @@ ran_given rank stamp line a len text e within due h =
     let whole : record { stamp = stamp; what = what.Ran line g.whole } ≡ e =
     ap (λ w. record { stamp = stamp; what = w }) (sym g.is) ∙ is in
     let words : answer_words g.whole ≡ spoken_words a len = sym (bare_words g.whole)
-    ∙ ap (λ x. spoken_words x (bytes_in g.whole)) g.bare_is ∙ ap (λ n. spoken_words a n) g.long in
+    ∙ ap (λ x. spoken_words x (got_len g.whole)) g.bare_is ∙ ap (λ n. spoken_words a n) g.long in
     let has : has_line g.whole ≡ true = sym (bare_has g.whole) ∙ ap has_line g.bare_is ∙ due in
     rw (← whole) (record {
       line = ap (λ ws. text_line (codes "@" ∷ decimal rank ∷ decimal stamp ∷ codes "ran" ∷ decimal line ∷ ws))

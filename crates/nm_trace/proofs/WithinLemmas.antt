@@ -11,6 +11,7 @@ use Rattle.nm_history.specs.declared.events.Happened.{Happened}
 use Rattle.nm_history.specs.declared.events.Happened.TheVariants as what
 use Rattle.nm_history.specs.Quiescence.{Ended}
 use Rattle.nm_report.specs.declared.pairs.PairCount.{PairCount}
+use Rattle.nm_report.specs.Summary.{got_len}
 use Rattle.nm_script.specs.Lines.{words_of}
 use Rattle.nm_script.proofs.WordsStepLemmas.{chosen}
 use Rattle.nm_trace.specs.declared.notes.Note.{Note}
@@ -19,7 +20,7 @@ use Rattle.nm_trace.specs.Events.{pair_of}
 use Rattle.nm_trace.specs.Machine.{Stage, Noting, Counting, Telling, Closing, Over}
 use Rattle.nm_trace.specs.Machine.{ended, settled, is_next, with_given, telling, waits_of, next_note}
 use Rattle.nm_trace.specs.Machine.{cells_of, counting, end_of, feed, fed, last_rank, noting}
-use Rattle.nm_trace.specs.Notes.{BareIn, HasBytes, NoteIn, ToldIn, bare, bytes_in}
+use Rattle.nm_trace.specs.Notes.{BareIn, HasBytes, NoteIn, ToldIn, bare}
 use Rattle.nm_trace.specs.Steps.{◌>>=◌}
 use Rattle.nm_trace.specs.Texts.{InOrder, Right}
 use Rattle.nm_trace.specs.Traces.{AnswerIn, CellsIn, EndIn, EventIn, PairIn, WaitsIn, WhatIn}
@@ -73,7 +74,7 @@ bytes_all : (bytes : List ℕ) → IsBytes bytes → AllByRecursion (λ b. b < 2
 bytes_all [] h = tt
 bytes_all (b ∷ bytes) h = (h 0, bytes_all bytes (λ i. h (suc i)))
 
-answer_in : (a : Answer) → BareIn (bare a) (bytes_in a) → HasBytes a → AnswerIn a
+answer_in : (a : Answer) → BareIn (bare a) (got_len a) → HasBytes a → AnswerIn a
 answer_in answer.Started h bytes = tt
 answer_in answer.Busy h bytes = tt
 answer_in answer.Null h bytes = tt
@@ -94,7 +95,7 @@ what_given : (rank : ℕ) (w : Happened) (len : ℕ) (text : List ℕ) (x : Happ
 unfolding given_what
 what_given rank (what.Ran line a) len text x h is =
     let g = line_taken rank line a len text x h.1 is in
-    let within : BareIn (bare g.whole) (bytes_in g.whole) = rw (g.bare_is, g.long) h.1 in
+    let within : BareIn (bare g.whole) (got_len g.whole) = rw (g.bare_is, g.long) h.1 in
     rw g.is (h.0, answer_in g.whole within g.bytes)
 what_given rank (what.Send to n tag ctx size how line) len text x h is = cc
 what_given rank (what.Post post line) len text x h is = cc

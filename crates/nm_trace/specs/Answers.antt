@@ -26,11 +26,6 @@ abbrev pub is_due : Happened → Bool
 is_due (what.Ran line answer) = has_line answer
 is_due _ = false
 
--- a command gave its answer
-abbrev pub is_ran : Happened → Bool
-is_ran (what.Ran line answer) = true
-is_ran _ = false
-
 -- the words of an answer with this number of bytes, and the `x` before them
 abbrev pub start_words : Answer → ℕ → List (List ℕ)
 start_words (answer.Got from tag body) len =

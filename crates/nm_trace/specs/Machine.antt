@@ -6,11 +6,12 @@ use Rattle.std.specs.Str.{bytes_eq}
 use Rattle.nm_types.specs.declared.answers.Account.{Account}
 use Rattle.nm_history.specs.declared.events.Event.{Event}
 use Rattle.nm_history.specs.Quiescence.{Ended}
+use Rattle.nm_history.specs.Underway.{is_answer}
 use Rattle.nm_report.specs.declared.pairs.PairCount.{PairCount}
 use Rattle.nm_script.specs.Decimal.{number_of}
 use Rattle.nm_script.specs.Lines.{words_of}
 use Rattle.nm_trace.specs.declared.notes.Note.{Note}
-use Rattle.nm_trace.specs.Answers.{is_due, is_ran, given}
+use Rattle.nm_trace.specs.Answers.{is_due, given}
 use Rattle.nm_trace.specs.Events.{note_of, pair_of}
 use Rattle.nm_trace.specs.Steps.{◌>>=◌}
 
@@ -59,7 +60,7 @@ next_note ranks last words = do
 -- a rank by its events and the line at which it waits
 abbrev pub ended : List Event → Option ℕ → Ended
 ended events waits =
-    record { at = length (filter (λ e. is_ran e.what) events); waits = waits; events = events }
+    record { at = length (filter (λ e. is_answer e.what) events); waits = waits; events = events }
 
 -- the line at which a rank waits
 unfoldable pub waits_of : ℕ → List (List ℕ) → Option ℕ

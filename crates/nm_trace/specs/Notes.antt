@@ -1,5 +1,5 @@
 -- Events as the lines of a trace tell them: without the bytes that came, but with their number.
-use Rattle.std.specs.Prelude.{◌≡◌, Bool, true, false, ℕ, ◌<◌, ◌^◌, List, [], ◌∷◌, ◌++◌, length, codes, decimal}
+use Rattle.std.specs.Prelude.{◌≡◌, Bool, true, false, ℕ, ◌<◌, ◌^◌, List, [], ◌∷◌, ◌++◌, codes, decimal}
 use Rattle.nm_types.specs.declared.answers.Answer.{Answer}
 use Rattle.nm_types.specs.declared.answers.Answer.TheVariants as answer
 use Rattle.std.specs.List.{join_with_byte}
@@ -12,6 +12,7 @@ use Rattle.nm_history.specs.declared.events.Happened.TheVariants as what
 use Rattle.nm_report.specs.declared.pairs.PairCount.{PairCount}
 use Rattle.nm_report.specs.Answers.{answer_words, body_word}
 use Rattle.nm_report.specs.Events.{event_words}
+use Rattle.nm_report.specs.Summary.{got_len}
 use Rattle.nm_trace.specs.declared.notes.Note.{Note}
 use Rattle.nm_trace.specs.Traces.{WhatIn}
 
@@ -19,11 +20,6 @@ use Rattle.nm_trace.specs.Traces.{WhatIn}
 abbrev pub bare : Answer → Answer
 bare (answer.Got from tag body) = answer.Got from tag []
 bare a = a
-
--- how many bytes it has
-abbrev pub bytes_in : Answer → ℕ
-bytes_in (answer.Got from tag body) = length body
-bytes_in _ = 0
 
 -- the words of an answer that has this number of bytes
 abbrev pub spoken_words : Answer → ℕ → List (List ℕ)
@@ -47,7 +43,7 @@ bare_what w = w
 
 -- how many bytes there are in what happened
 abbrev pub bytes_of_what : Happened → ℕ
-bytes_of_what (what.Ran line answer) = bytes_in answer
+bytes_of_what (what.Ran line answer) = got_len answer
 bytes_of_what _ = 0
 
 -- the words of what happened, where the answer has this number of bytes
@@ -123,5 +119,5 @@ pub record IsGiven (rank line : ℕ) (a : Answer) (len : ℕ) (text : List ℕ) 
   pub is : w ≡ what.Ran line whole
   pub text_is : text ≡ answer_text rank line whole
   pub bare_is : bare whole ≡ a
-  pub long : bytes_in whole ≡ len
+  pub long : got_len whole ≡ len
   pub bytes : HasBytes whole

@@ -14,13 +14,13 @@ use Rattle.nm_history.specs.declared.events.Event.{Event}
 use Rattle.nm_history.specs.declared.events.Happened.{Happened}
 use Rattle.nm_history.specs.declared.events.Happened.TheVariants as what
 use Rattle.nm_history.specs.Quiescence.{Ended}
+use Rattle.nm_history.specs.Underway.{is_answer}
 use Rattle.nm_report.specs.declared.pairs.PairCount.{PairCount}
 use Rattle.nm_report.specs.declared.records.RunRecord.{RunRecord}
 use Rattle.nm_report.specs.Ends.{ends_of}
 use Rattle.nm_report.specs.Report.{report_text}
 use Rattle.nm_trace.specs.declared.faults.TraceFault.{TraceFault}
 use Rattle.nm_trace.specs.declared.faults.TraceFault.TheVariants as fault
-use Rattle.nm_trace.specs.Answers.{is_ran}
 use Rattle.nm_script.specs.Lines.{ended_lines}
 use Rattle.nm_trace.specs.Lines.{whole_lines}
 
@@ -76,7 +76,7 @@ WaitsIn None = Unit {0}
 pub record EndIn (e : Ended) : Type 0 where
   pub events : AllByRecursion EventIn e.events
   pub waits : WaitsIn e.waits
-  pub at : e.at ≡ length (filter (λ event. is_ran event.what) e.events)
+  pub at : e.at ≡ length (filter (λ event. is_answer event.what) e.events)
 
 -- a count of packets, with its ranks, within their types
 abbrev pub PairIn : PairCount → Type 0

@@ -2,7 +2,8 @@
 
 ghost use Rattle.std.specs.Prelude.{◌≡◌, IfOk, string_bytes};
 ghost use Rattle.std.specs.Option.{option_map};
-ghost use Rattle.nm_trace.specs.Answers.{is_due, is_ran, answer_start, behind, bytes_of};
+ghost use Rattle.nm_history.specs.Underway.{is_answer};
+ghost use Rattle.nm_trace.specs.Answers.{is_due, answer_start, behind, bytes_of};
 ghost use Rattle.nm_trace.specs.Answers.{given_answer, given};
 
 use crate::notes::Note;
@@ -24,7 +25,7 @@ pub fn is_due(what: &Happened) -> bool
 
 /// A command gave its answer.
 pub fn is_ran(what: &Happened) -> bool
-    ensures { result ≡ is_ran what.now }
+    ensures { result ≡ is_answer what.now }
 {
     matches!(what, Happened::Ran { .. })
 }

@@ -4,13 +4,13 @@ ghost use Rattle.std.specs.Prelude.{◌≡◌, ◌≤◌, ◌+◌, ◌⊎◌, �
 ghost use Rattle.std.specs.Prelude.{IfErr, IfOk, MatchOption, MatchResult, List, Ok, length, false};
 ghost use Rattle.nm_history.specs.declared.events.Event.{Event};
 ghost use Rattle.nm_history.specs.Quiescence.{Ended};
+ghost use Rattle.nm_history.specs.Underway.{is_answer};
 ghost use Rattle.nm_report.specs.declared.pairs.PairCount.{PairCount};
 ghost use Rattle.nm_report.specs.declared.records.RunRecord.{RunRecord};
 ghost use Rattle.nm_report.specs.Ends.{end_of_account, ends_of};
 ghost use Rattle.nm_report.specs.Lawful.{SameRun};
 ghost use Rattle.nm_trace.specs.declared.faults.TraceFault.TheVariants.{Bad, Memory};
 ghost use Rattle.nm_trace.specs.declared.notes.Note.{Note};
-ghost use Rattle.nm_trace.specs.Answers.{is_ran};
 ghost use Rattle.nm_trace.specs.Machine.{Closing, Counting, Part, Telling, is_next, start};
 ghost use Rattle.nm_trace.specs.Outcome.{AnswerPlace, Stops, tells, tells_next, told};
 ghost use Rattle.nm_trace.specs.Texts.{trace_of};
@@ -124,7 +124,7 @@ fn read_events<'a>(
         ≡ told p.ranks (tells p read.0.events.items notes.new.items)
         read.1.rest.now read.1.number) }
     ensures at { IfOk result (λ read.
-        read.0.at ≡ length (filter (λ event. is_ran event.what) read.0.events.items)) }
+        read.0.at ≡ length (filter (λ event. is_answer event.what) read.0.events.items)) }
     ensures others { IfOk result (λ read. is_next rank notes.new.items ≡ false) }
     ensures fewer { IfOk result (λ read. length notes.new.items ≤ length notes.old.items) }
     ensures stops { IfErr result (λ fault. (p : AnswerPlace) → rank ≡ length p.ends →

@@ -1,5 +1,5 @@
 use Rattle.std.proofs.Common.{◌≡◌, ◌≤◌, ◌+◌, [], filter, length}
-use Rattle.nm_trace.specs.Answers.{is_ran}
+use Rattle.nm_history.specs.Underway.{is_answer}
 use Rattle.nm_trace.specs.Outcome.{AnswerPlace, tells, told}
 use Rattle.nm_trace.proofs.reading.read_events.Given as goal
 
@@ -9,7 +9,7 @@ invariant-loop-note l = record {
   told : (p : AnswerPlace) → l.rank ≡ length p.ends
       → told p.ranks (tells p [] l.initial.notes.items) l.initial.text.rest.now l.initial.text.number
       ≡ told p.ranks (tells p l.events.items l.notes.items) l.text.rest.now l.text.number;
-  at : l.at ≡ length (filter (λ event. is_ran event.what) l.events.items);
+  at : l.at ≡ length (filter (λ event. is_answer event.what) l.events.items);
   few : l.at + length l.notes.items ≤ length l.initial.notes.items;
 }
 
