@@ -52,7 +52,7 @@ use Rattle.nm_outcomes.proofs.PathLemmas.{proper}
 use Rattle.nm_outcomes.proofs.SentLemmas.{came_within}
 use Rattle.nm_outcomes.specs.declared.spots.deeds.Deed.{Deed}
 use Rattle.nm_outcomes.specs.declared.spots.deeds.Deed.TheVariants as deed
-use Rattle.nm_outcomes.specs.declared.spots.deeds.Message as message
+use Rattle.nm_match.specs.declared.names.Message as message
 use Rattle.nm_outcomes.specs.declared.spots.deeds.Receive.{Receive}
 use Rattle.nm_outcomes.specs.Deeds.{happening}
 use Rattle.nm_outcomes.specs.Looks.{IsSaid, is_receive_by, is_recall_by, is_send_by}

@@ -12,7 +12,7 @@ use Rattle.nm_types.proofs.ListLemmas.{get_before, get_last, no_item}
 use Rattle.nm_outcomes.proofs.SentLemmas.{get_more}
 use Rattle.nm_types.proofs.OptionLemmas.{mapped_some, no_some, same_some}
 use Rattle.nm_outcomes.specs.declared.spots.deeds.Deed.{Deed}
-use Rattle.nm_outcomes.specs.declared.spots.deeds.Message.{Message}
+use Rattle.nm_match.specs.declared.names.Message.{Message}
 use Rattle.nm_outcomes.specs.RankStates.{Spot}
 use Rattle.nm_explored.specs.declared.choices.moves.Move.TheVariants as move
 use Rattle.nm_explored.specs.declared.choices.moves.Turn.{Turn}

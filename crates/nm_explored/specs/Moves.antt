@@ -16,7 +16,7 @@ use Rattle.nm_outcomes.specs.Logs.{IsLog, MayCome, Step, history_in}
 use Rattle.nm_outcomes.specs.Places.{is_quiet}
 use Rattle.nm_outcomes.specs.declared.spots.deeds.Deed.{Deed}
 use Rattle.nm_outcomes.specs.declared.spots.deeds.Deed.TheVariants as deed
-use Rattle.nm_outcomes.specs.declared.spots.deeds.Message.{Message}
+use Rattle.nm_match.specs.declared.names.Message.{Message}
 use Rattle.nm_outcomes.specs.declared.spots.deeds.Reply.TheVariants as reply
 use Rattle.nm_outcomes.specs.Looks.{is_answer_by}
 use Rattle.nm_outcomes.specs.RankStates.{IsSpotOf, Spot, arrived_at, spot_after, withdrawn_at}

@@ -36,7 +36,7 @@ use Rattle.nm_outcomes.specs.Logs.{Step, history_in}
 use Rattle.nm_outcomes.specs.Paths.{AreCommands}
 use Rattle.nm_outcomes.specs.RankStates.{IsSpotOf, Spot, arrived_at, free_lem, withdrawn_at}
 use Rattle.nm_outcomes.specs.declared.spots.deeds.Deed.{Deed}
-use Rattle.nm_outcomes.specs.declared.spots.deeds.Message as message
+use Rattle.nm_match.specs.declared.names.Message as message
 use Rattle.nm_outcomes.specs.Looks.{is_recall_by, is_send_by}
 use Rattle.nm_outcomes.proofs.EndLemmas.{all_follow}
 use Rattle.nm_outcomes.proofs.HappenedLemmas.{late_past}

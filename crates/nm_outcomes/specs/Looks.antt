@@ -18,17 +18,12 @@ use Rattle.nm_history.specs.Sends.{is_ask, receives, sends}
 use Rattle.nm_outcomes.specs.Results.{is_unasked}
 use Rattle.nm_outcomes.specs.declared.spots.deeds.Deed.{Deed}
 use Rattle.nm_outcomes.specs.declared.spots.deeds.Deed.TheVariants as deed
-use Rattle.nm_outcomes.specs.declared.spots.deeds.Message.{Message}
 use Rattle.nm_outcomes.specs.Deeds.{happening}
 use Rattle.nm_outcomes.specs.RankStates.{IsSpotOf, Spot}
 
 -- the history of these deeds alone; stamps play no part
 abbrev pub events_of : List Line → List Deed → List Event
 events_of lines deeds = map (λ d. record { stamp = 0; what = happening lines d }) deeds
-
--- the message that is meant
-abbrev pub message_meant : Message → Claimed
-message_meant m = record { from = m.rank; n = m.n }
 
 -- the line that a name stands for, and that a handle stands for
 abbrev pub name_in : List Line → ℕ → List Deed → ℕ → Option ℕ

@@ -19,7 +19,7 @@ use Rattle.nm_lookups.specs.Queues.{free_messages, open_receives, without_messag
 use Rattle.nm_outcomes.specs.Places.{IsProper}
 use Rattle.nm_outcomes.specs.declared.spots.deeds.Deed.{Deed}
 use Rattle.nm_outcomes.specs.declared.spots.deeds.Deed.TheVariants as deed
-use Rattle.nm_outcomes.specs.declared.spots.deeds.Message.{Message}
+use Rattle.nm_match.specs.declared.names.Message.{Message}
 use Rattle.nm_outcomes.specs.declared.spots.deeds.Receive.{Receive}
 use Rattle.nm_outcomes.specs.Deeds.{happening, post_of_lem}
 

@@ -22,12 +22,12 @@ use Rattle.nm_history.specs.declared.plain.Pair.{Pair}
 use Rattle.nm_history.specs.contracts.plain.PairPartialEq.TheImpl.{ghosts as pair_eq}
 use Rattle.nm_outcomes.specs.declared.spots.deeds.Deed.{Deed}
 use Rattle.nm_outcomes.specs.declared.spots.deeds.Deed.TheVariants as deed
-use Rattle.nm_outcomes.specs.declared.spots.deeds.Message.{Message}
+use Rattle.nm_match.specs.declared.names.Message.{Message}
 use Rattle.nm_outcomes.specs.declared.spots.deeds.Receive.{Receive}
 use Rattle.nm_outcomes.specs.declared.spots.deeds.Reply.{Reply}
 use Rattle.nm_outcomes.specs.declared.spots.deeds.Reply.TheVariants as reply
 use Rattle.nm_outcomes.specs.contracts.spots.deeds.DeedPartialEq.TheImpl.{ghosts as deed_eq}
-use Rattle.nm_outcomes.specs.contracts.spots.deeds.MessagePartialEq.TheImpl.{ghosts as message_eq}
+use Rattle.nm_match.specs.contracts.names.MessagePartialEq.TheImpl.{ghosts as message_eq}
 use Rattle.nm_outcomes.specs.contracts.spots.deeds.ReceivePartialEq.TheImpl.{ghosts as receive_eq}
 use Rattle.nm_outcomes.specs.contracts.spots.deeds.ReplyPartialEq.TheImpl.{ghosts as reply_eq}
 use Rattle.nm_outcomes.specs.Numbers.{spot_number}

@@ -4,7 +4,7 @@ use Rattle.std.specs.Cmp.Lexicographic.{pointwise}
 use Rattle.nm_types.specs.contracts.messages.ArrivalPartialEq.TheImpl.{ghosts as arrival_eq}
 use Rattle.nm_history.specs.contracts.plain.PairPartialEq.TheImpl.{ghosts as pair_eq}
 use Rattle.nm_outcomes.specs.contracts.spots.deeds.DeedPartialEq.TheImpl.{ghosts as deed_eq}
-use Rattle.nm_outcomes.specs.contracts.spots.deeds.MessagePartialEq.TheImpl.{ghosts as message_eq}
+use Rattle.nm_match.specs.contracts.names.MessagePartialEq.TheImpl.{ghosts as message_eq}
 use Rattle.nm_outcomes.specs.contracts.spots.deeds.ReceivePartialEq.TheImpl.{ghosts as receive_eq}
 use Rattle.nm_outcomes.specs.RankStates.{Spot}
 

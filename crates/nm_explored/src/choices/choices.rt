@@ -20,7 +20,8 @@ ghost use Rattle.nm_explored.specs.Successors.{spot_in, start_in, started_at};
 ghost use Rattle.nm_explored.specs.Lines.{line_in};
 ghost use Rattle.nm_match.specs.Deeds.{is_message};
 ghost use Rattle.nm_outcomes.specs.Looks.{claim_in, is_cancelling_by, is_claim_any, is_recall_by};
-ghost use Rattle.nm_outcomes.specs.Looks.{is_receive_by, is_send_by, is_starting_by, message_meant};
+ghost use Rattle.nm_lookups.specs.AskedFor.{message_meant};
+ghost use Rattle.nm_outcomes.specs.Looks.{is_receive_by, is_send_by, is_starting_by};
 ghost use Rattle.nm_outcomes.specs.RankStates.{free_lem};
 
 use nm_history::plain::Pair;

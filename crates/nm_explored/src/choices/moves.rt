@@ -6,7 +6,7 @@ ghost use Rattle.std.specs.List.{cons_option};
 ghost use Rattle.nm_types.specs.Limits.{sent_len};
 ghost use Rattle.nm_types.specs.declared.messages.Arrival as arrival;
 ghost use Rattle.nm_outcomes.specs.declared.spots.deeds.Deed as deed;
-ghost use Rattle.nm_outcomes.specs.declared.spots.deeds.Message as message;
+ghost use Rattle.nm_match.specs.declared.names.Message as message;
 ghost use Rattle.nm_explored.specs.declared.choices.moves.Move as the_move;
 ghost use Rattle.nm_explored.specs.declared.choices.moves.Turn as the_turn;
 ghost use Rattle.nm_explored.specs.Successors.{spot_in};

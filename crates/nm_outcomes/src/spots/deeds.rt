@@ -3,6 +3,7 @@
 ghost use Rattle.std.specs.Prelude.{◌≡◌};
 ghost use Rattle.nm_outcomes.specs.Deeds.{post_of_lem};
 
+pub use nm_match::Message;
 use nm_types::{How, Peer, Post, Seen, TagPick};
 
 /// The answer of a command.
@@ -47,13 +48,6 @@ impl Receive {
             cap: self.cap,
         }
     }
-}
-
-/// A message between this rank and another one, by its number.
-#[derive(Clone, Copy, PartialEq)]
-pub struct Message {
-    pub rank: u8,
-    pub n: u64,
 }
 
 /// What a rank does by its commands.

@@ -17,7 +17,8 @@ ghost use Rattle.nm_lookups.specs.AskedFor.{meant_by};
 ghost use Rattle.nm_outcomes.specs.Deeds.{answer_meant, happening};
 ghost use Rattle.nm_outcomes.specs.Looks.{claim_in, found_at, handle_in, is_answer_by, is_claim_at};
 ghost use Rattle.nm_outcomes.specs.Looks.{is_recall_by, is_receive_by, is_send_by, is_start_by};
-ghost use Rattle.nm_outcomes.specs.Looks.{is_unasked_by, live_in, message_in, message_meant};
+ghost use Rattle.nm_lookups.specs.AskedFor.{message_meant};
+ghost use Rattle.nm_outcomes.specs.Looks.{is_unasked_by, live_in, message_in};
 ghost use Rattle.nm_outcomes.specs.Looks.{name_in, request_in};
 
 use crate::spots::deeds::{Deed, Message, Reply};

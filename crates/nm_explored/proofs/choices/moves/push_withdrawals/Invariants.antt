@@ -2,7 +2,7 @@
 use Rattle.std.proofs.Common.{◌≡◌, ℕ, ◌<◌, Some, true}
 use Rattle.std.specs.List.{slice_get}
 use Rattle.nm_types.specs.declared.messages.Arrival as arrival
-use Rattle.nm_outcomes.specs.declared.spots.deeds.Message.{Message}
+use Rattle.nm_match.specs.declared.names.Message.{Message}
 use Rattle.nm_explored.specs.declared.choices.moves.Move.TheVariants.{Withdraw}
 use Rattle.nm_explored.specs.Successors.{is_withdrawn_next, spot_in}
 use Rattle.nm_explored.specs.Lists.{AddsOnly, Has, Extends}
