@@ -1,7 +1,7 @@
 -- Ranks that are alike have the same shapes.
 use Rattle.std.proofs.Common.{◌≡◌, ℕ, ◌+◌, ◌-◌, ◌≤◌, ◌<◌, ◌⊎◌, zero, suc, List, [], ◌∷◌, ◌++◌, Bool, true, false}
 use Rattle.std.proofs.Common.{◌&&◌, ◌||◌}
-use Rattle.std.proofs.Common.{cond, refl, sym, ap, ◌∙◌, subst, arith, codes, count_by, drop, flat_map, get_or, length, min}
+use Rattle.std.proofs.Common.{cond, refl, sym, ap, ◌∙◌, subst, arith, count_by, drop, flat_map, get_or, length, min}
 use Rattle.std.proofs.Common.{sum_by, take, Option, None, nat_lt, ◌^◌}
 use Rattle.std.specs.List.{AllByRecursion, filter, list_any, slice_get}
 use Rattle.std.specs.Option.{is_some}
@@ -18,10 +18,9 @@ use Rattle.nm_diagram.specs.declared.anchors.Anchor.TheVariants as anchor
 use Rattle.nm_diagram.specs.declared.arrows.Arrow.{Arrow}
 use Rattle.nm_diagram.specs.declared.frames.Frame.{Frame}
 use Rattle.nm_diagram.specs.declared.frames.Part.{Part}
-use Rattle.nm_diagram.specs.declared.links.Link.{Link}
 use Rattle.nm_diagram.specs.Alike.{AreAlike}
 use Rattle.nm_diagram.specs.Anchors.{first_stamp, found_by, since}
-use Rattle.nm_diagram.specs.Diagrams.{Lane, Mark, all_arrows, all_lanes, all_marks, arrow_from, arrow_of, arrows_at}
+use Rattle.nm_diagram.specs.Diagrams.{Lane, all_arrows, all_marks, arrow_from, arrow_of, arrows_at}
 use Rattle.nm_diagram.specs.Diagrams.{arrows_of, from_lane, lanes_at, marks_at, sent_by}
 use Rattle.nm_diagram.specs.Frames.{IsFrame, IsSilent, is_later, is_shown, latest, latest_of_all, shown_count, up_to}
 use Rattle.nm_diagram.specs.Links.{all_links, links_among}
@@ -92,7 +91,8 @@ alike_latest : (span : Span) (found : ℕ) (xs ys : List RankAccount) → AreAli
 alike_latest span found [] ys h = sym (silent_latest span found ys h)
 alike_latest span found (x ∷ xs) [] h = silent_latest span found (x ∷ xs) h
 alike_latest span found (x ∷ xs) (y ∷ ys) h =
-    ap (λ l. latest_of_all span (latest span found l) xs) h.0 ∙ alike_latest span (latest span found y.history.events) xs
+    ap (λ l. latest_of_all span (latest span found l) xs) h.0 ∙ alike_latest span (latest span found y.history.events)
+    xs
     ys h.2
 
 -- the send of a message is found in either
@@ -107,7 +107,8 @@ alike_sent : (span : Span) (rank n i : ℕ) (xs ys : List RankAccount) → AreAl
     sent_by span rank n (slice_get xs i) ≡ sent_by span rank n (slice_get ys i)
 alike_sent span rank n i [] ys h = sym (silent_sent span rank n i ys h)
 alike_sent span rank n i (x ∷ xs) [] h = silent_sent span rank n i (x ∷ xs) h
-alike_sent span rank n zero (x ∷ xs) (y ∷ ys) h = ap (λ l. first_stamp span (anchor.Send rank n) (take 20000 (since span.first l))) h.0
+alike_sent span rank n zero (x ∷ xs) (y ∷ ys) h =
+    ap (λ l. first_stamp span (anchor.Send rank n) (take 20000 (since span.first l))) h.0
 alike_sent span rank n (suc i) (x ∷ xs) (y ∷ ys) h = alike_sent span rank n i xs ys h.2
 
 alike_arrow : (span : Span) (rank stamp : ℕ) (w : Happened) (xs ys : List RankAccount) → AreAlike xs ys →
@@ -122,7 +123,8 @@ same_map f g same [] = refl
 same_map f g same (e ∷ events) = ap (λ l. l ++ flat_map f events) (same e)
     ∙ ap (λ l. g e ++ l) (same_map f g same events)
 
-alike_arrows : (span : Span) (rank : ℕ) (xs ys : List RankAccount) → AreAlike xs ys → (first : ℕ) (zs : List RankAccount) →
+alike_arrows : (span : Span) (rank : ℕ) (xs ys : List RankAccount) → AreAlike xs ys →
+    (first : ℕ) (zs : List RankAccount) →
     from_lane (arrows_of span xs) first zs ≡ from_lane (arrows_of span ys) first zs
 alike_arrows span rank xs ys h first [] = refl
 alike_arrows span rank xs ys h first (z ∷ zs) =
@@ -226,7 +228,8 @@ alike-frame part xs ys frame room h is =
       chosen = is.chosen;
       first = is.first;
       few = subst (λ n. n ≤ 20000) (counts (up_to part.span end)) is.few;
-      most = subst (λ n. (end ≡ part.span.end) ⊎ ((end < part.span.end) × (20000 < n))) (counts (up_to part.span (end + 1)))
+      most = subst (λ n. (end ≡ part.span.end) ⊎ ((end < part.span.end) × (20000 < n)))
+          (counts (up_to part.span (end + 1)))
           is.most;
       bottom = is.bottom ∙ alike_latest (up_to part.span end) part.span.first xs ys h;
       left_out = is.left_out ∙ ap (λ n. min n (2 ^ 64 - 1))
@@ -257,7 +260,8 @@ never_both : (b : Bool) → (b && false || false) ≡ false
 never_both true = refl
 never_both false = refl
 
-alike_used : (span : Span) (s : Sign) (xs ys : List RankAccount) → AreAlike xs ys → is_used span xs s ≡ is_used span ys s
+alike_used : (span : Span) (s : Sign) (xs ys : List RankAccount) → AreAlike xs ys →
+    is_used span xs s ≡ is_used span ys s
 alike_used span s xs ys h =
     ap (λ b. is_of_left s && b || list_any (has_sign span s) xs) (alike_any (has_left span) no_left same_left xs ys h)
     ∙ ap (λ b. is_of_left s && list_any (has_left span) ys || b) (alike_any (has_sign span s) none same xs ys h) where
@@ -312,7 +316,8 @@ arrows-alike span xs ys h =
     alike_arrows span 0 xs ys h 0 xs
     ∙ alike_have (λ rank events. flat_map (arrows_at span ys rank) events) (λ rank. refl) 0 xs ys h
 
-pub returns-alike : (span : Span) (xs ys : List RankAccount) → AreAlike xs ys → all_returns span xs ≡ all_returns span ys
+pub returns-alike : (span : Span) (xs ys : List RankAccount) → AreAlike xs ys →
+    all_returns span xs ≡ all_returns span ys
 returns-alike span xs ys h =
     alike_returns span xs ys h 0 xs
     ∙ alike_have (λ rank events. flat_map (returns_at span ys rank) events) (λ rank. refl) 0 xs ys h

@@ -1,5 +1,5 @@
 -- The events at the ends of arrows.
-use Rattle.std.proofs.Common.{◌≡◌, ℕ, ◌+◌, ◌<◌, zero, suc, List, [], ◌∷◌, Bool, true, false, cond, ◌&&◌, refl}
+use Rattle.std.proofs.Common.{◌≡◌, ℕ, ◌+◌, zero, suc, List, [], ◌∷◌, Bool, true, false, cond, ◌&&◌, refl}
 use Rattle.std.proofs.Common.{sym, ap, ◌∙◌, subst, arith, take, flat_map, nat_le, Option, Some, None}
 use Rattle.std.specs.List.{AllByRecursion, Contains, slice_get}
 use Rattle.std.proofs.lemmas.Bool.{and_parts}
@@ -31,7 +31,8 @@ later span e events anchor stamp a =
     record { event = a.event; among = there e a.event events a.among; is_it = a.is_it; at = a.at; shown = a.shown }
 
 -- what is found is there
-next_found : (span : Span) (e : Event) (events : List Event) (anchor : Anchor) (stamp : ℕ) (rest : Option ℕ) (b : Bool) →
+next_found : (span : Span) (e : Event) (events : List Event) (anchor : Anchor) (stamp : ℕ) (rest : Option ℕ)
+    (b : Bool) →
     (is_shown span e && is_anchor anchor e.what) ≡ b → cond b (Some e.stamp) rest ≡ Some stamp →
     (rest ≡ Some stamp → IsAt span events anchor stamp) → IsAt span (e ∷ events) anchor stamp
 next_found span e events anchor stamp rest true is found more =
@@ -164,7 +165,8 @@ all_arrows-are span ranks =
     of_ranks span 0 ranks ranks (λ i x h. subst (λ k. slice_get ranks k ≡ Some x) (at i) h)
 
 -- what is no arrival has no arrow
-no_arrow : (span : Span) (rank stamp : ℕ) (ranks : List RankAccount) (w : Happened) → ((a : Arrival) → ¬ (w ≡ Arrive a)) →
+no_arrow : (span : Span) (rank stamp : ℕ) (ranks : List RankAccount) (w : Happened) →
+    ((a : Arrival) → ¬ (w ≡ Arrive a)) →
     arrow_of span ranks rank stamp w ≡ []
 no_arrow span rank stamp ranks (Arrive a) other = absurd (other a refl)
 no_arrow span rank stamp ranks _ other = refl

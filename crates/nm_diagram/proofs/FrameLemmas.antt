@@ -163,6 +163,7 @@ pub frame-same : (part : Part) (ranks : List RankAccount) (f g : Frame) → IsFr
 frame-same part ranks f g is other =
     let lanes = same_by f.lanes g.lanes (no_fewer part ranks f g is other) (no_fewer part ranks g f other is) in
     let ends = same_by f.span.end g.span.end (no_less part ranks f g is other) (no_less part ranks g f other is) in
-    let bottoms = is.bottom ∙ ap (λ e. latest_of_all (up_to part.span e) part.span.first ranks) ends ∙ sym other.bottom in
+    let bottoms = is.bottom ∙ ap (λ e. latest_of_all (up_to part.span e) part.span.first ranks) ends
+    ∙ sym other.bottom in
     let left = is.left_out ∙ ap (λ e. min (sum_by (later_count e) ranks) (2 ^ 64 - 1)) ends ∙ sym other.left_out in
     same_frame f g lanes (is.chosen ∙ sym other.chosen) (is.first ∙ sym other.first) ends bottoms left

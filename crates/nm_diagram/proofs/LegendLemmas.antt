@@ -1,5 +1,5 @@
 -- Every sign that stands in a picture is one of the legend's.
-use Rattle.std.proofs.Common.{◌≡◌, ℕ, ◌+◌, ◌<◌, zero, suc, Bool, true, false, cond, ◌&&◌, List, [], ◌∷◌, refl, sym}
+use Rattle.std.proofs.Common.{◌≡◌, ℕ, ◌+◌, zero, suc, Bool, true, false, cond, ◌&&◌, List, [], ◌∷◌, refl, sym}
 use Rattle.std.proofs.Common.{ap, ◌∙◌, subst, arith, flat_map, take, Option, Some, None}
 use Rattle.std.specs.List.{AllByRecursion, Contains, filter, list_any, slice_get}
 use Rattle.std.specs.Option.{is_some}
@@ -157,7 +157,8 @@ of_ranks P has rank ranks (account ∷ accounts) each into =
     (of_ranks P has (rank + 1) ranks accounts each (λ x c. into x (there account x accounts c)))
 
 -- marks
-one_mark : (span : Span) (rank : ℕ) (ranks : List RankAccount) (account : RankAccount) (e : Event) → Contains ranks account →
+one_mark : (span : Span) (rank : ℕ) (ranks : List RankAccount) (account : RankAccount) (e : Event) →
+    Contains ranks account →
     Contains account.history.events e → (b : Bool) → is_shown span e ≡ b →
     AllByRecursion (λ mark. Contains (legend_of span ranks) mark.sign) (cond b (mark_of rank e ∷ []) [])
 one_mark span rank ranks account e among within true shown =
@@ -193,7 +194,8 @@ arrow_by_what span rank ranks account e (Arrive a) is among within shown =
     (subst (λ w. tells (way_of a.env.how) w ≡ true) (sym is) (way_told a a.env.how refl)))
 arrow_by_what span rank ranks account e _ is among within shown = tt
 
-one_arrow : (span : Span) (rank : ℕ) (ranks : List RankAccount) (account : RankAccount) (e : Event) → Contains ranks account →
+one_arrow : (span : Span) (rank : ℕ) (ranks : List RankAccount) (account : RankAccount) (e : Event) →
+    Contains ranks account →
     Contains account.history.events e → (b : Bool) → is_shown span e ≡ b →
     AllByRecursion (HasWay span ranks) (cond b (arrow_of span ranks rank e.stamp e.what) [])
 one_arrow span rank ranks account e among within true shown =
@@ -216,7 +218,8 @@ back_of_way : (span : Span) (from rank stamp n : ℕ) (ranks : List RankAccount)
 back_of_way span from rank stamp n ranks None way = tt
 back_of_way span from rank stamp n ranks (Some s) way = (way, tt)
 
-return_by_what : (span : Span) (rank : ℕ) (ranks : List RankAccount) (account : RankAccount) (e : Event) (w : Happened) →
+return_by_what : (span : Span) (rank : ℕ) (ranks : List RankAccount) (account : RankAccount) (e : Event)
+    (w : Happened) →
     e.what ≡ w → Contains ranks account → Contains account.history.events e → is_shown span e ≡ true →
     AllByRecursion (HasBack span ranks) (return_of span ranks rank e.stamp w)
 return_by_what span rank ranks account e (Withdraw from n done) is among within shown =
@@ -227,7 +230,8 @@ return_by_what span rank ranks account e (Undone to n done) is among within show
     (told-explained span ranks sign.BackWay account e among within shown (ap (λ w. tells sign.BackWay w) is))
 return_by_what span rank ranks account e _ is among within shown = tt
 
-one_return : (span : Span) (rank : ℕ) (ranks : List RankAccount) (account : RankAccount) (e : Event) → Contains ranks account →
+one_return : (span : Span) (rank : ℕ) (ranks : List RankAccount) (account : RankAccount) (e : Event) →
+    Contains ranks account →
     Contains account.history.events e → (b : Bool) → is_shown span e ≡ b →
     AllByRecursion (HasBack span ranks) (cond b (return_of span ranks rank e.stamp e.what) [])
 one_return span rank ranks account e among within true shown =
@@ -251,12 +255,14 @@ left_explained span ranks account among left =
     (or_left (list_any (has_left span) ranks) (list_any (has_sign span sign.Left) ranks)
     (any_passes (has_left span) ranks account among left))
 
-rings_by : (span : Span) (rank stamp : ℕ) (ranks : List RankAccount) (w : Happened) → Contains (legend_of span ranks) sign.Left →
+rings_by : (span : Span) (rank stamp : ℕ) (ranks : List RankAccount) (w : Happened) →
+    Contains (legend_of span ranks) sign.Left →
     AllByRecursion (HasRing span ranks) (ring_of rank stamp w)
 rings_by span rank stamp ranks (Arrive a) left = (left, tt)
 rings_by span rank stamp ranks _ left = tt
 
-one_ring : (span : Span) (rank : ℕ) (ranks : List RankAccount) (account : RankAccount) (e : Event) → Contains ranks account →
+one_ring : (span : Span) (rank : ℕ) (ranks : List RankAccount) (account : RankAccount) (e : Event) →
+    Contains ranks account →
     are_few account.history.events ≡ true → Contains account.history.events e → (b : Bool) →
     is_left_at span account.history.events (matched_pairs account.history.events) e ≡ b →
     AllByRecursion (HasRing span ranks) (cond b (ring_of rank e.stamp e.what) [])
@@ -267,7 +273,8 @@ one_ring span rank ranks account e among few within true left =
     rings_by span rank e.stamp ranks e.what (left_explained span ranks account among
     (ap (λ b. cond b (some_left span events) false) few ∙ any_passes test events e within left))
 
-few_rings : (span : Span) (rank : ℕ) (ranks : List RankAccount) (account : RankAccount) → Contains ranks account → (b : Bool) →
+few_rings : (span : Span) (rank : ℕ) (ranks : List RankAccount) (account : RankAccount) → Contains ranks account →
+    (b : Bool) →
     are_few account.history.events ≡ b →
     AllByRecursion (HasRing span ranks) (cond b (rings_among span rank account.history.events) [])
 few_rings span rank ranks account among false few = tt

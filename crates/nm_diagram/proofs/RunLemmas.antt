@@ -70,7 +70,8 @@ Finds span j before events s n =
     first_stamp span (anchor.Send j (length (sends before j) + n)) events ≡ Some s.stamp
 
 -- behind an event that is no send to this rank
-other_event : (span : Span) (j : ℕ) (before : List Event) (e : Event) (events : List Event) (s : Sent) (n : ℕ) (b : Bool) →
+other_event : (span : Span) (j : ℕ) (before : List Event) (e : Event) (events : List Event) (s : Sent) (n : ℕ)
+    (b : Bool) →
     filter (λ s. s.to == j) (cons_option (sent_of e.stamp e.what) []) ≡ [] →
     Finds span j (before ++ e ∷ []) events s n →
     cond (b && false) (Some e.stamp) (first_stamp span (anchor.Send j (length (sends before j) + n)) events)
@@ -81,7 +82,8 @@ other_event span j before e events s n b none finds =
     ∙ finds
 
 -- at a send
-at_send : (span : Span) (j to m : ℕ) (before events : List Event) (e : Event) (s0 s : Sent) (n : ℕ) (mine shown hit : Bool) →
+at_send : (span : Span) (j to m : ℕ) (before events : List Event) (e : Event) (s0 s : Sent) (n : ℕ)
+    (mine shown hit : Bool) →
     (to == j) ≡ mine → is_shown span e ≡ shown → (m == length (sends before j) + n) ≡ hit →
     s0.stamp ≡ e.stamp →
     filter (λ s. s.to == j) (cons_option (sent_of e.stamp e.what) []) ≡ cond mine (s0 ∷ []) [] →
@@ -108,7 +110,8 @@ at_send span j to m before events e s0 s (suc k) true shown true is_mine is_show
     let count = ap (λ k. length (sends before k)) (eqb-true to j is_mine) in
     let same = eqb-true m (length (sends before j) + suc k) is_hit in
     absurd (omega (arith, number, count, same))
-at_send span j to m before events e s0 s (suc k) true shown false is_mine is_shown is_hit at sent number got below rest =
+at_send span j to m before events e s0 s (suc k) true shown false is_mine is_shown is_hit at sent number got below
+    rest =
     let count : length (sends before j) + suc k ≡ length (sends (before ++ e ∷ []) j) + k =
     (let more = count_more before e j s0 sent in omega (arith, more)) in
     passed shown (Some e.stamp) (first_stamp span (anchor.Send j (length (sends before j) + suc k)) events)
@@ -116,7 +119,8 @@ at_send span j to m before events e s0 s (suc k) true shown false is_mine is_sho
     ∙ rest k got
 
 -- at each event
-at_event : (span : Span) (j ranks stamp : ℕ) (before : List Event) (w : Happened) (events : List Event) (s : Sent) (n : ℕ) →
+at_event : (span : Span) (j ranks stamp : ℕ) (before : List Event) (w : Happened) (events : List Event) (s : Sent)
+    (n : ℕ) →
     NumberAt ranks before w → slice_get (sends (event_of stamp w ∷ events) j) n ≡ Some s → IsIn span s.stamp →
     ((k : ℕ) → slice_get (sends events j) k ≡ Some s → Finds span j (before ++ event_of stamp w ∷ []) events s k) →
     Finds span j before (event_of stamp w ∷ events) s n
@@ -126,27 +130,38 @@ at_event span j ranks stamp before (Send to m tag ctx len how line) events s n n
     at_send span j to m before events e s0 s n (to == j) (is_shown span e) (m == length (sends before j) + n)
     refl refl refl refl refl number got below rest
 at_event span j ranks stamp before (Post p line) events s n number got below rest =
-    other_event span j before (event_of stamp (Post p line)) events s n (is_shown span (event_of stamp (Post p line))) refl (rest n got)
+    other_event span j before (event_of stamp (Post p line)) events s n (is_shown span (event_of stamp (Post p line)))
+    refl (rest n got)
 at_event span j ranks stamp before (Arrive a) events s n number got below rest =
-    other_event span j before (event_of stamp (Arrive a)) events s n (is_shown span (event_of stamp (Arrive a))) refl (rest n got)
+    other_event span j before (event_of stamp (Arrive a)) events s n (is_shown span (event_of stamp (Arrive a))) refl
+    (rest n got)
 at_event span j ranks stamp before (Whole from m) events s n number got below rest =
-    other_event span j before (event_of stamp (Whole from m)) events s n (is_shown span (event_of stamp (Whole from m))) refl (rest n got)
+    other_event span j before (event_of stamp (Whole from m)) events s n
+    (is_shown span (event_of stamp (Whole from m))) refl (rest n got)
 at_event span j ranks stamp before (Out to m) events s n number got below rest =
-    other_event span j before (event_of stamp (Out to m)) events s n (is_shown span (event_of stamp (Out to m))) refl (rest n got)
+    other_event span j before (event_of stamp (Out to m)) events s n (is_shown span (event_of stamp (Out to m))) refl
+    (rest n got)
 at_event span j ranks stamp before (Cancel m done) events s n number got below rest =
-    other_event span j before (event_of stamp (Cancel m done)) events s n (is_shown span (event_of stamp (Cancel m done))) refl (rest n got)
+    other_event span j before (event_of stamp (Cancel m done)) events s n
+    (is_shown span (event_of stamp (Cancel m done))) refl (rest n got)
 at_event span j ranks stamp before (Recall to m) events s n number got below rest =
-    other_event span j before (event_of stamp (Recall to m)) events s n (is_shown span (event_of stamp (Recall to m))) refl (rest n got)
+    other_event span j before (event_of stamp (Recall to m)) events s n (is_shown span (event_of stamp (Recall to m)))
+    refl (rest n got)
 at_event span j ranks stamp before (Withdraw from m done) events s n number got below rest =
-    other_event span j before (event_of stamp (Withdraw from m done)) events s n (is_shown span (event_of stamp (Withdraw from m done))) refl (rest n got)
+    other_event span j before (event_of stamp (Withdraw from m done)) events s n
+    (is_shown span (event_of stamp (Withdraw from m done))) refl (rest n got)
 at_event span j ranks stamp before (Undone to m done) events s n number got below rest =
-    other_event span j before (event_of stamp (Undone to m done)) events s n (is_shown span (event_of stamp (Undone to m done))) refl (rest n got)
+    other_event span j before (event_of stamp (Undone to m done)) events s n
+    (is_shown span (event_of stamp (Undone to m done))) refl (rest n got)
 at_event span j ranks stamp before (Claim from m line) events s n number got below rest =
-    other_event span j before (event_of stamp (Claim from m line)) events s n (is_shown span (event_of stamp (Claim from m line))) refl (rest n got)
+    other_event span j before (event_of stamp (Claim from m line)) events s n
+    (is_shown span (event_of stamp (Claim from m line))) refl (rest n got)
 at_event span j ranks stamp before (Match m from k cap line) events s n number got below rest =
-    other_event span j before (event_of stamp (Match m from k cap line)) events s n (is_shown span (event_of stamp (Match m from k cap line))) refl (rest n got)
+    other_event span j before (event_of stamp (Match m from k cap line)) events s n
+    (is_shown span (event_of stamp (Match m from k cap line))) refl (rest n got)
 at_event span j ranks stamp before (Ran line answer) events s n number got below rest =
-    other_event span j before (event_of stamp (Ran line answer)) events s n (is_shown span (event_of stamp (Ran line answer))) refl (rest n got)
+    other_event span j before (event_of stamp (Ran line answer)) events s n
+    (is_shown span (event_of stamp (Ran line answer))) refl (rest n got)
 
 finds : (span : Span) (j ranks : ℕ) (before events : List Event) (s : Sent) (n : ℕ) →
     AtEachAfter (λ b e. NumberAt ranks b e.what) before events → slice_get (sends events j) n ≡ Some s →
@@ -156,7 +171,8 @@ finds span j ranks before (e ∷ events) s n numbers got below =
     at_event span j ranks e.stamp before e.what events s n numbers.0 got below
     (λ k h. finds span j ranks (before ++ e ∷ []) events s k numbers.1 h below)
 
-found_in_run : (span : Span) (j ranks : ℕ) (h : List Event) (s : Sent) (n : ℕ) → AtEach (λ b e. NumberAt ranks b e.what) h →
+found_in_run : (span : Span) (j ranks : ℕ) (h : List Event) (s : Sent) (n : ℕ) →
+    AtEach (λ b e. NumberAt ranks b e.what) h →
     slice_get (sends h j) n ≡ Some s → IsIn span s.stamp → first_stamp span (anchor.Send j n) h ≡ Some s.stamp
 unfolding AtEach
 found_in_run span j ranks h s n numbers got below =

@@ -63,7 +63,8 @@ lanes-count : (span : Span) (rank : ℕ) (ranks : List RankAccount) →
 lanes-count span rank [] = refl
 lanes-count span rank (account ∷ accounts) =
     length-append (marks_of span rank account) (from_lane (marks_of span) (rank + 1) accounts)
-    ∙ ap (λ n. n + length (from_lane (marks_of span) (rank + 1) accounts)) (marks-count span rank account.history.events)
+    ∙ ap (λ n. n + length (from_lane (marks_of span) (rank + 1) accounts))
+    (marks-count span rank account.history.events)
     ∙ ap (λ n. shown_of span account + n) (lanes-count span (rank + 1) accounts)
     ∙ sym (sum_by-cons (shown_of span) account accounts)
 

@@ -1,5 +1,5 @@
 -- The legend: the signs that stand in a picture, each with what it stands for.
-use Rattle.std.specs.Prelude.{ℕ, Bool, ◌&&◌, ◌||◌, List, filter}
+use Rattle.std.specs.Prelude.{Bool, ◌&&◌, ◌||◌, List, filter}
 use Rattle.std.specs.Option.{is_some}
 use Rattle.std.specs.List.{list_any}
 use Rattle.nm_history.specs.declared.events.Event.{Event}

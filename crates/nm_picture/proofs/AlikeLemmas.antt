@@ -39,7 +39,8 @@ unfolding marks_text
 marks_same xs ys frame m n h =
     let span = frame.span in
     let lanes = all_lanes frame.chosen (take frame.lanes ys) in
-    ap (λ l. all l (all_links span xs) (all_marks span xs) (all_rings span xs)) (alike_lanes frame.chosen frame.lanes 0 xs ys m n h)
+    ap (λ l. all l (all_links span xs) (all_marks span xs) (all_rings span xs))
+    (alike_lanes frame.chosen frame.lanes 0 xs ys m n h)
     ∙ ap (λ l. all lanes l (all_marks span xs) (all_rings span xs)) (links-alike span xs ys h)
     ∙ ap (λ l. all lanes (all_links span ys) l (all_rings span xs)) (marks-alike span xs ys h)
     ∙ ap (λ l. all lanes (all_links span ys) (all_marks span ys) l) (rings-alike span xs ys h)

@@ -7,5 +7,6 @@ use Rattle.nm_picture.proofs.labels.push_all_labels.Given as goal
 -- what is written and what is still to write are all
 abbrev pub invariant-loop-rank : goal.invariant-loop-rank
 invariant-loop-rank l =
-    string_bytes l.out ++ flat_map (label_text l.frame) (from_lane (labels_of l.frame.span) l.rank (drop l.rank l.ranks))
+    string_bytes l.out ++ flat_map (label_text l.frame)
+    (from_lane (labels_of l.frame.span) l.rank (drop l.rank l.ranks))
     ≡ string_bytes l.fn.out ++ flat_map (label_text l.frame) (from_lane (labels_of l.frame.span) 0 l.ranks)

@@ -6,5 +6,6 @@ use Rattle.nm_picture.proofs.outlines.push_lanes.Given as goal
 -- what is written and what is still to write are all
 abbrev pub invariant-loop-rank : goal.invariant-loop-rank
 invariant-loop-rank l =
-    string_bytes l.out ++ flat_map (lane_text l.frame) (from_lane (lanes_at l.frame.chosen) l.rank (drop l.rank l.ranks))
+    string_bytes l.out ++ flat_map (lane_text l.frame)
+    (from_lane (lanes_at l.frame.chosen) l.rank (drop l.rank l.ranks))
     ≡ string_bytes l.fn.out ++ flat_map (lane_text l.frame) (from_lane (lanes_at l.frame.chosen) 0 l.ranks)
