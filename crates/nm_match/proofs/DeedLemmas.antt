@@ -27,8 +27,8 @@ use Rattle.nm_match.specs.Deeds.{is_known_message, is_known_receive, is_message}
 use Rattle.nm_match.specs.Queues.{AreQueues, AreQueuesOf, without_first}
 use Rattle.nm_match.proofs.ListLemmas.{find-filter, without_first-none}
 use Rattle.nm_match.proofs.QueueLemmas.{open_means, posted_open, unexpected_free}
-use Rattle.nm_match.proofs.StepLemmas.{arrived_alone, arrived_taking, cancelled_one, claimed_one}
-use Rattle.nm_match.proofs.StepLemmas.{posted_alone, posted_taking, received_one, withdrawn_one}
+use Rattle.nm_match.proofs.EventLemmas.{arrived_alone, arrived_taking, posted_alone, posted_taking}
+use Rattle.nm_match.proofs.StepLemmas.{cancelled_one, claimed_one, received_one, withdrawn_one}
 use Rattle.nm_types.proofs.ListLemmas.{find_passes, find_some}
 use Rattle.nm_types.proofs.TruthLemmas.{and_left, and_right}
 
@@ -240,7 +240,7 @@ module _ (deeds : List Deed) {posted : List post.Post} {unexpected claimed : Lis
   post-none p new none =
       rw (without_first-none (λ (a : Arrival). matches p.from p.tag p.ctx a.env) unexpected none)
       (deed-push deeds (deed.Post p) None (ap (λ (o : Option Arrival). option_map (λ a. pair_of p a) o)
-      (sym (first_message-queue queues p.from p.tag p.ctx) ∙ none)) (posted_alone queues p new))
+      (sym (first_message-queue queues p.from p.tag p.ctx) ∙ none)) (posted_alone queues 0 0 p new))
 
   pub post-some : (p : post.Post) (a : Arrival) → is_known_receive (history_of deeds) p.number ≡ false →
       find (λ a. matches p.from p.tag p.ctx a.env) unexpected ≡ Some a →
@@ -250,7 +250,7 @@ module _ (deeds : List Deed) {posted : List post.Post} {unexpected claimed : Lis
       deed-push deeds (deed.Post p) (Some (pair_of p a))
       (ap (λ (o : Option Arrival). option_map (λ a. pair_of p a) o)
       (sym (first_message-queue queues p.from p.tag p.ctx) ∙ is_first))
-      (posted_taking queues p a new is_first)
+      (posted_taking queues 0 0 p a new is_first)
 
   pub arrive-none : (a : Arrival) → is_known_message (history_of deeds) a.env.from a.n ≡ false →
       find (λ p. matches p.from p.tag p.ctx a.env) posted ≡ None →
@@ -259,7 +259,7 @@ module _ (deeds : List Deed) {posted : List post.Post} {unexpected claimed : Lis
   arrive-none a new none =
       rw (without_first-none (λ (p : post.Post). matches p.from p.tag p.ctx a.env) posted none)
       (deed-push deeds (deed.Arrive a) None (ap (λ (o : Option post.Post). option_map (λ p. pair_of p a) o)
-      (sym (first_receive-queue queues a.env) ∙ none)) (arrived_alone queues a new))
+      (sym (first_receive-queue queues a.env) ∙ none)) (arrived_alone queues 0 a new))
 
   pub arrive-some : (a : Arrival) (p : post.Post) →
       is_known_message (history_of deeds) a.env.from a.n ≡ false →
@@ -269,7 +269,7 @@ module _ (deeds : List Deed) {posted : List post.Post} {unexpected claimed : Lis
   arrive-some a p new is_first =
       deed-push deeds (deed.Arrive a) (Some (pair_of p a))
       (ap (λ (o : Option post.Post). option_map (λ p. pair_of p a) o)
-      (sym (first_receive-queue queues a.env) ∙ is_first)) (arrived_taking queues a p new is_first)
+      (sym (first_receive-queue queues a.env) ∙ is_first)) (arrived_taking queues 0 a p new is_first)
 
   pub cancel-some : (number : ℕ) (p : post.Post) → find (λ p. p.number == number) posted ≡ Some p →
       AreQueuesOf (deeds ++ deed.Cancel number ∷ [])

@@ -97,11 +97,11 @@ may_arrive stamp h found a more new pairs = record {
 }
 
 -- a test of one number, which passes, is of that number
-of_number : (P : ℕ → Type 0) (m number : ℕ) → (m == number || false) ≡ true → P m → P number
+pub of_number : (P : ℕ → Type 0) (m number : ℕ) → (m == number || false) ≡ true → P m → P number
 of_number P m number made holds = subst P (eqb-true m number (sym (or-false (m == number)) ∙ made)) holds
 
 -- a test of one message, which passes, is of that message
-of_message : (P : ℕ → ℕ → Type 0) (i m from n : ℕ) → ((i == from && m == n) || false) ≡ true → P i m →
+pub of_message : (P : ℕ → ℕ → Type 0) (i m from n : ℕ) → ((i == from && m == n) || false) ≡ true → P i m →
     P from n
 of_message P i m from n made holds =
     let same = sym (or-false (i == from && m == n)) ∙ made in

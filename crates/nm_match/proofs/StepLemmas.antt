@@ -1,7 +1,7 @@
--- The queues after each deed.
+-- The queues after a deed that is no post and no arrival.
 use Rattle.std.proofs.Common.{◌≡◌, ◌≢◌, ℕ, ◌==◌, Bool, true, false, not, ◌&&◌, ◌||◌, Some}
 use Rattle.std.proofs.Common.{List, [], ◌∷◌, ◌++◌, refl, sym, ◌∙◌, ap, subst, arith, append-nil}
-use Rattle.std.proofs.Math.Bool.{and-false, and-true, or-false}
+use Rattle.std.proofs.Math.Bool.{and-true, or-false}
 use Rattle.std.specs.List.{filter, find, list_any}
 use Rattle.std.proofs.lemmas.Bool.{false≢true, false_from_ne_true, eqb-true, ne_eqb, or_left, or_right}
 use Rattle.std.proofs.lemmas.Bool.{or_from}
@@ -12,103 +12,27 @@ use Rattle.nm_types.specs.declared.messages.Arrival.{Arrival}
 use Rattle.nm_types.specs.declared.messages.Post as post
 use Rattle.nm_history.specs.declared.events.Event.{Event}
 use Rattle.nm_history.specs.declared.plain.Pair.{Pair}
-use Rattle.nm_history.specs.Sends.{messages, posts, message_of}
-use Rattle.nm_history.specs.Selection.{matches}
+use Rattle.nm_history.specs.Sends.{messages, message_of}
 use Rattle.nm_history.specs.Happens.{happened, is_cancel, is_claim}
 use Rattle.nm_history.specs.Matching.{is_claimed, is_free, is_of_message, is_of_receive, is_open}
-use Rattle.nm_history.specs.Matching.{pair_of, pair_of_claimed}
-use Rattle.nm_history.proofs.OnceLemmas.{eqb_self, find_among, posts-push}
+use Rattle.nm_history.specs.Matching.{pair_of_claimed}
+use Rattle.nm_history.proofs.OnceLemmas.{find_among}
 use Rattle.nm_match.specs.declared.deeds.Deed.TheVariants as deed
 use Rattle.nm_match.specs.Deeds.{event_of, is_known_message, is_known_receive, is_message}
 use Rattle.nm_match.specs.Queues.{AreQueues, without_first}
 use Rattle.nm_match.proofs.ListLemmas.{list_any-and, list_any-filter, list_any_agree}
-use Rattle.nm_match.proofs.PushLemmas.{closes, takes, is_free-push, is_known_message-push}
-use Rattle.nm_match.proofs.PushLemmas.{is_known_receive-push, is_open-push, messages_known, posts_known}
+use Rattle.nm_match.proofs.PushLemmas.{closes, takes}
+use Rattle.nm_match.proofs.PushLemmas.{is_known_receive-push, messages_known, posts_known}
 use Rattle.nm_match.proofs.QueueLemmas.{cancels_stay, claims_stay, each_posted, each_unexpected}
-use Rattle.nm_match.proofs.QueueLemmas.{free_means, new_free, new_open, open_means, posted_open}
+use Rattle.nm_match.proofs.QueueLemmas.{free_means, open_means, posted_open}
 use Rattle.nm_match.proofs.QueueLemmas.{posted_stay, queues-push, unexpected_free, unexpected_stay}
 use Rattle.nm_match.proofs.QueueLemmas.{without_message, without_receive}
-use Rattle.nm_match.proofs.TurnLemmas.{MayCome, came_later, false_when, known_later, others_message}
+use Rattle.nm_match.proofs.TurnLemmas.{came_later, false_when}
 use Rattle.nm_match.proofs.TurnLemmas.{others_number}
+use Rattle.nm_match.proofs.EventLemmas.{of_message, of_number}
 use Rattle.nm_types.proofs.ListLemmas.{find_passes}
 use Rattle.nm_types.proofs.TruthLemmas.{and_left, and_right}
 use Rattle.nm_history.proofs.AppendLemmas.{happened-push}
-
--- the pairs that an event makes are of a known receive that is not cancelled, and of a message that came
-record MayPair (h : List Event) (e : Event) (more : List Pair) : Type 0 where
-  pairs_known : (number : ℕ) → list_any (is_of_receive number) more ≡ true →
-      is_known_receive (h ++ e ∷ []) number ≡ true
-  pairs_open : (number : ℕ) → list_any (is_of_receive number) more ≡ true →
-      happened (is_cancel number) (h ++ e ∷ []) ≡ false
-  pairs_came : (from n : ℕ) → list_any (is_of_message from n) more ≡ true →
-      is_known_message (h ++ e ∷ []) from n ≡ true
-
-no_pair : (h : List Event) (e : Event) → MayPair h e []
-no_pair h e = record {
-  pairs_known = λ number made. absurd (false≢true made);
-  pairs_open = λ number made. absurd (false≢true made);
-  pairs_came = λ from n made. absurd (false≢true made);
-}
-
--- a receive whose number is not known may be posted
-may_post : (h : List Event) (found : List Pair) (p : post.Post) (more : List Pair) →
-    is_known_receive h p.number ≡ false → MayPair h (event_of (deed.Post p)) more →
-    MayCome h found (event_of (deed.Post p)) more
-may_post h found p more new pairs = record {
-  pairs_known = pairs.pairs_known;
-  pairs_open = pairs.pairs_open;
-  cancels_known = λ number made. absurd (false≢true made);
-  cancels_open = λ number made. absurd (false≢true made);
-  pairs_came = pairs.pairs_came;
-  claims_came = λ from n made. absurd (false≢true made);
-  withdrawals_came = λ from n made. absurd (false≢true made);
-  posts_new = λ q made. let same : p ≡ q = cc in subst
-      (λ (q : post.Post). is_known_receive h q.number ≡ false) same new;
-  messages_new = λ a made. absurd (grind arith);
-  receives_kept = λ number made.
-      or_left _ _ (ap (λ (ps : List post.Post). list_any (λ q. q.number == number) ps)
-      (posts-push h (event_of (deed.Post p)))
-      ∙ list_any-append (λ (q : post.Post). q.number == number) (posts h) (p ∷ []) ∙ or_right _ _ made);
-}
-
--- a message that did not come before may arrive
-may_arrive : (h : List Event) (found : List Pair) (a : Arrival) (more : List Pair) →
-    is_known_message h a.env.from a.n ≡ false → MayPair h (event_of (deed.Arrive a)) more →
-    MayCome h found (event_of (deed.Arrive a)) more
-may_arrive h found a more new pairs = record {
-  pairs_known = pairs.pairs_known;
-  pairs_open = pairs.pairs_open;
-  cancels_known = λ number made. absurd (false≢true made);
-  cancels_open = λ number made. absurd (false≢true made);
-  pairs_came = pairs.pairs_came;
-  claims_came = λ from n made. absurd (false≢true made);
-  withdrawals_came = λ from n made. absurd (false≢true made);
-  posts_new = λ q made. absurd (grind arith);
-  messages_new = λ b made. let same : a ≡ b = cc in
-      subst (λ (b : Arrival). is_known_message h b.env.from b.n ≡ false) same new;
-  receives_kept = λ number made. absurd (false≢true made);
-}
-
--- a test of one number, which passes, is of that number
-of_number : (P : ℕ → Type 0) (m number : ℕ) → (m == number || false) ≡ true → P m → P number
-of_number P m number made holds = subst P (eqb-true m number (sym (or-false (m == number)) ∙ made)) holds
-
--- a test of one message, which passes, is of that message
-of_message : (P : ℕ → ℕ → Type 0) (i m from n : ℕ) → ((i == from && m == n) || false) ≡ true → P i m →
-    P from n
-of_message P i m from n made holds =
-    let same = sym (or-false (i == from && m == n)) ∙ made in
-    subst (λ k. P from k) (eqb-true m n (and_right (i == from) (m == n) same))
-    (subst (λ k. P k m) (eqb-true i from (and_left (i == from) (m == n) same)) holds)
-
--- a message is not another one
-other_message : (a b : Arrival) → (b.env.from ≡ a.env.from → b.n ≢ a.n) →
-    (a.env.from == b.env.from && a.n == b.n) ≡ false
-other_message a b other =
-    false_from_ne_true (a.env.from == b.env.from && a.n == b.n)
-    (λ same. other (sym (eqb-true a.env.from b.env.from
-    (and_left (a.env.from == b.env.from) (a.n == b.n) same)))
-    (sym (eqb-true a.n b.n (and_right (a.env.from == b.env.from) (a.n == b.n) same))))
 
 claim_made : (claimed taken new : Bool) → (new ≡ true → taken ≡ false) →
     ((claimed && not taken) || (new || false)) ≡ ((claimed || new) && not (taken || false))
@@ -136,122 +60,6 @@ other_named from n i m k l = grind (arith, nat_tests)
 module _ {h : List Event} {found : List Pair} {posted : List post.Post}
     {unexpected claimed : List Arrival} {cancelled : List ℕ}
     (queues : AreQueues h found posted unexpected claimed cancelled) where
-  -- a receive that selects no free message is posted
-  pub posted_alone : (p : post.Post) → is_known_receive h p.number ≡ false →
-      AreQueues (h ++ event_of (deed.Post p) ∷ []) (found ++ [])
-      (posted ++ p ∷ []) unexpected claimed cancelled
-  posted_alone p new =
-      let e : Event = event_of (deed.Post p) in
-      let kept : posted ≡ filter (λ q. not (closes e.what [] q.number)) posted ++ [] =
-      posted_stay queues (λ q. closes e.what [] q.number) (λ k d inside. refl) in
-      let open_now : is_open (h ++ e ∷ []) (found ++ []) p ≡ true = is_open-push h e found [] p
-      ∙ (rw (new_open h found p queues.in_turn new) refl) in
-      queues-push queues e [] (posted ++ p ∷ []) unexpected claimed cancelled
-      (may_post h found p [] new (no_pair h e))
-      (rw open_now (ap (λ (ps : List post.Post). ps ++ p ∷ []) (kept ∙ append-nil _)))
-      (unexpected_stay queues (λ a. takes e.what [] a.env.from a.n) (λ k d inside. refl))
-      (λ from n. claims_stay queues from n false (λ made. absurd (false≢true made)))
-      (cancels_stay queues)
-
-  -- a receive is posted, and takes the oldest free message that it selects
-  pub posted_taking : (p : post.Post) (a : Arrival) → is_known_receive h p.number ≡ false →
-      find (λ a. matches p.from p.tag p.ctx a.env) unexpected ≡ Some a →
-      AreQueues (h ++ event_of (deed.Post p) ∷ []) (found ++ pair_of p a ∷ []) posted
-      (without_first (λ a. matches p.from p.tag p.ctx a.env) unexpected) claimed cancelled
-  posted_taking p a new is_first =
-      let e : Event = event_of (deed.Post p) in
-      let more : List Pair = pair_of p a ∷ [] in
-      let test : Arrival → Bool = λ a. matches p.from p.tag p.ctx a.env in
-      let free = find_among (λ a. is_free h found a ≡ true) test unexpected a
-      (unexpected_free queues) is_first in
-      let came = find_among (λ a. is_known_message h a.env.from a.n ≡ true) test unexpected a
-      (each_unexpected queues (λ a. is_known_message h a.env.from a.n ≡ true)
-      (messages_known h)) is_first in
-      let kept : posted ≡ filter (λ q. not (closes e.what more q.number)) posted ++ [] =
-      posted_stay queues (λ q. closes e.what more q.number)
-      (All-weaker (λ (q : post.Post). q.number ≢ p.number)
-      (λ (q : post.Post). closes e.what more q.number ≡ false)
-      (λ (q : post.Post) (other : q.number ≢ p.number).
-      rw (ne_eqb p.number q.number (λ same. other (sym same))) refl) posted
-      (each_posted queues (λ q. q.number ≢ p.number) (others_number h p.number new))) in
-      let closed : is_open (h ++ e ∷ []) (found ++ more) p ≡ false = is_open-push h e found more p
-      ∙ (rw (eqb_self p.number) (and-false (is_open h found p))) in
-      queues-push queues e more posted (without_first test unexpected) claimed cancelled
-      (may_post h found p more new
-      (record {
-        pairs_known = λ number made. is_known_receive-push h e number ∙ or_right _ _ made;
-        pairs_open = λ number made.
-            of_number (λ m. happened (is_cancel m) (h ++ e ∷ []) ≡ false) p.number number made
-            (happened-push (is_cancel p.number) h e
-            ∙ or_from _ _ (false_when _ _ (queues.in_turn.cancelled_known p.number) new) refl);
-        pairs_came = λ from n made. of_message (λ i m. is_known_message (h ++ e ∷ []) i m
-            ≡ true) a.env.from a.n from n made (came_later h e a.env.from a.n came);
-      }))
-      (rw closed kept)
-      (without_message queues test (λ b. takes e.what more b.env.from b.n) a is_first
-      (λ b. or-false _ ∙ or-false _ ∙ or-false _))
-      (λ from n. claims_stay queues from n (list_any (is_of_message from n) more)
-      (λ made. of_message (λ i m. happened (is_claim i m) h ≡ false) a.env.from a.n from n made
-      (free_means h found a.env.from a.n free).1))
-      (cancels_stay queues)
-
-  -- a message that no open receive selects arrives
-  pub arrived_alone : (a : Arrival) → is_known_message h a.env.from a.n ≡ false →
-      AreQueues (h ++ event_of (deed.Arrive a) ∷ []) (found ++ []) posted
-      (unexpected ++ a ∷ []) claimed cancelled
-  arrived_alone a new =
-      let e : Event = event_of (deed.Arrive a) in
-      let kept : unexpected ≡ filter (λ b. not (takes e.what [] b.env.from b.n)) unexpected ++ [] =
-      unexpected_stay queues (λ b. takes e.what [] b.env.from b.n) (λ k d inside. refl) in
-      let free_now : is_free (h ++ e ∷ []) (found ++ []) a ≡ true = is_free-push h e found [] a
-      ∙ (rw (new_free h found a.env.from a.n queues.in_turn new) refl) in
-      queues-push queues e [] posted (unexpected ++ a ∷ []) claimed cancelled
-      (may_arrive h found a [] new (no_pair h e))
-      (posted_stay queues (λ q. closes e.what [] q.number) (λ k d inside. refl))
-      (rw free_now (ap (λ (as' : List Arrival). as' ++ a ∷ []) (kept ∙ append-nil _)))
-      (λ from n. claims_stay queues from n false (λ made. absurd (false≢true made)))
-      (cancels_stay queues)
-
-  -- a message arrives, and goes to the oldest open receive that selects it
-  pub arrived_taking : (a : Arrival) (p : post.Post) → is_known_message h a.env.from a.n ≡ false →
-      find (λ p. matches p.from p.tag p.ctx a.env) posted ≡ Some p →
-      AreQueues (h ++ event_of (deed.Arrive a) ∷ []) (found ++ pair_of p a ∷ [])
-      (without_first (λ p. matches p.from p.tag p.ctx a.env) posted) unexpected claimed cancelled
-  arrived_taking a p new is_first =
-      let e : Event = event_of (deed.Arrive a) in
-      let more : List Pair = pair_of p a ∷ [] in
-      let test : post.Post → Bool = λ p. matches p.from p.tag p.ctx a.env in
-      let open' = find_among (λ p. is_open h found p ≡ true) test posted p (posted_open queues) is_first in
-      let known = find_among (λ p. is_known_receive h p.number ≡ true) test posted p
-      (each_posted queues (λ p. is_known_receive h p.number ≡ true) (posts_known h)) is_first in
-      let kept : unexpected ≡ filter (λ b. not (takes e.what more b.env.from b.n)) unexpected ++ [] =
-      unexpected_stay queues (λ b. takes e.what more b.env.from b.n)
-      (All-weaker (λ (b : Arrival). b.env.from ≡ a.env.from → b.n ≢ a.n)
-      (λ (b : Arrival). takes e.what more b.env.from b.n ≡ false)
-      (λ (b : Arrival) (other : b.env.from ≡ a.env.from → b.n ≢ a.n).
-      rw (other_message a b other) refl) unexpected
-      (each_unexpected queues (λ b. b.env.from ≡ a.env.from → b.n ≢ a.n)
-      (others_message h a.env.from a.n new))) in
-      let taken : is_free (h ++ e ∷ []) (found ++ more) a ≡ false = is_free-push h e found more a
-      ∙ (rw (eqb_self a.env.from, eqb_self a.n) (and-false (is_free h found a))) in
-      queues-push queues e more (without_first test posted) unexpected claimed cancelled
-      (may_arrive h found a more new
-      (record {
-        pairs_known = λ number made. of_number (λ m. is_known_receive (h ++ e ∷ []) m
-            ≡ true) p.number number made (known_later h e p.number known);
-        pairs_open = λ number made.
-            of_number (λ m. happened (is_cancel m) (h ++ e ∷ []) ≡ false) p.number number made
-            (happened-push (is_cancel p.number) h e ∙ or_from _ _ (open_means h found p open').1 refl);
-        pairs_came = λ from n made. is_known_message-push h e from n ∙ or_right _ _ made;
-      }))
-      (without_receive queues test (λ q. closes e.what more q.number) p is_first
-      (λ q. or-false _ ∙ or-false _))
-      (rw taken kept)
-      (λ from n. claims_stay queues from n (list_any (is_of_message from n) more)
-      (λ made. of_message (λ i m. happened (is_claim i m) h ≡ false) a.env.from a.n from n made
-      (false_when _ _ (queues.in_turn.claimed_came a.env.from a.n) new)))
-      (cancels_stay queues)
-
   -- an open receive is cancelled
   pub cancelled_one : (number : ℕ) (p : post.Post) → find (λ p. p.number == number) posted ≡ Some p →
       AreQueues (h ++ event_of (deed.Cancel number) ∷ []) (found ++ [])
