@@ -120,10 +120,6 @@ undone_settled shape i j ci cj ati atj li lj ends =
     ends.back.packets ends.back.in_time (fresh_at shape cj atj (history_of lj) ends.receiver.run)
     ends.receiver.run.ends)
 
-pub undone_no_stray : (shape : Sizes) (i j : ℕ) (ci cj : List Numbered) (ati atj : ℕ) (li lj : List LogEntry) →
-    AreEnds shape i j ci cj ati atj li lj → AllByRecursion UndoneContinued (taken_from j li)
-undone_no_stray shape i j ci cj ati atj li lj ends = undone_settled shape i j ci cj ati atj li lj ends
-
 pub recalls_settled : (shape : Sizes) (i j : ℕ) (ci cj : List Numbered) (ati atj : ℕ) (li lj : List LogEntry) →
     AreEnds shape i j ci cj ati atj li lj → AllByRecursion (λ e. RecallAnswered j (history_of li) e.what)
     (history_of li)

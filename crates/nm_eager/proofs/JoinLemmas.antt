@@ -22,7 +22,7 @@ use Rattle.nm_eager.proofs.MessageLemmas.{Lacks-below, map-lacks}
 use Rattle.nm_types.proofs.NumberLemmas.{eq_true}
 
 -- the packets that a message may need
-abbrev kept : List Packet → List Packet
+abbrev pub kept : List Packet → List Packet
 kept packets = filter (λ p. is_kept p.what) packets
 
 -- a send's packet that goes on with its message

@@ -1,6 +1,6 @@
 -- Packet by packet the messages of a stream come together.
 use Rattle.std.proofs.Common.{◌≡◌, ℕ, ◌+◌, ◌-◌, ◌==◌, Bool, true, false, cond, ◌&&◌}
-use Rattle.std.proofs.Common.{List, [], ◌∷◌, ◌++◌, length, map, filter}
+use Rattle.std.proofs.Common.{List, [], ◌∷◌, ◌++◌, length, map}
 use Rattle.std.proofs.Common.{ap, ◌∙◌, refl, arith, suc, append_assoc}
 use Rattle.std.specs.List.{prefix_len}
 use Rattle.std.proofs.lemmas.Bool.Decides.{nat_tests}
@@ -8,17 +8,14 @@ use Rattle.std.proofs.lemmas.List.{map-append, append-nil}
 use Rattle.nm_types.specs.declared.packets.Packet.{Packet}
 use Rattle.nm_types.specs.declared.packets.What.{What}
 use Rattle.nm_types.specs.declared.packets.What.TheVariants as what
-use Rattle.nm_eager.specs.Streams.{Incoming, Stream, is_kept, goes_on, bytes_ahead, groups}
+use Rattle.nm_eager.specs.Streams.{Incoming, Stream, goes_on, bytes_ahead, groups}
 use Rattle.nm_eager.specs.Streams.{messages, with_more}
 use Rattle.nm_eager.specs.Streams.{after_all, AllContinue, eager_from, stream_of, AreNumbered}
 use Rattle.nm_eager.specs.Streams.{nothing_came}
 use Rattle.nm_eager.proofs.MessageLemmas.{AreNumbered-push, AreNumbered-wider, Lacks-below}
 use Rattle.nm_eager.proofs.MessageLemmas.{map-lacks}
+use Rattle.nm_eager.proofs.JoinLemmas.{kept}
 use Rattle.nm_types.proofs.NumberLemmas.{eq_true}
-
--- the packets that a message may need
-abbrev kept : List Packet → List Packet
-kept packets = filter (λ p. is_kept p.what) packets
 
 with_nothing : (n : ℕ) (ms : List Incoming) → map (with_more n []) ms ≡ ms
 with_nothing n [] = refl

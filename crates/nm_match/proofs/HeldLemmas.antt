@@ -78,18 +78,12 @@ module _ (deeds : List Deed) {posted : List post.Post} {unexpected claimed : Lis
       (eqb-true b.n n (and_right (b.env.from == from) (b.n == n) same))))
       (messages (history_of deeds)) (others_message (history_of deeds) from n new))))
 
-some_at : {X : Type 0} (o : Option X) → is_some o ≡ true → (x : X) × (o ≡ Some x)
-some_at None never = absurd (false≢true never)
-some_at (Some x) some = (x, refl)
-
 -- where something is found, it is what is found
 pub some_found : {X : Type 0} (o : Option X) → is_some o ≡ true → (x : X) × (o ≡ Some x)
-some_found o some = some_at o some
-
-none_at : {X : Type 0} (o : Option X) → is_some o ≡ false → o ≡ None
-none_at None none = refl
-none_at (Some x) never = absurd (false≢true (sym never))
+some_found None never = absurd (false≢true never)
+some_found (Some x) some = (x, refl)
 
 -- where nothing is found
 pub none_found : {X : Type 0} (o : Option X) → is_some o ≡ false → o ≡ None
-none_found o none = none_at o none
+none_found None none = refl
+none_found (Some x) never = absurd (false≢true (sym never))

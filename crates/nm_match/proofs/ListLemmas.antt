@@ -38,7 +38,7 @@ filter_all p [] each = refl
 filter_all p (x ∷ xs) each = rw (All-head (λ x. p x ≡ true) x xs each)
     (ap (λ ys. x ∷ ys) (filter_all p xs (All-tail (λ x. p x ≡ true) x xs each)))
 
-none_at : {X : Type 0} (x : X) (o : Option X) (b : Bool) → cond b (Some x) o ≡ None → (b ≡ false) × (o ≡ None)
+pub none_at : {X : Type 0} (x : X) (o : Option X) (b : Bool) → cond b (Some x) o ≡ None → (b ≡ false) × (o ≡ None)
 none_at x o true h = absurd (grind arith)
 none_at x o false h = (refl, h)
 

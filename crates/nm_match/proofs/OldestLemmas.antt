@@ -1,5 +1,5 @@
 -- The oldest of all that waits, by the fronts of the buckets.
-use Rattle.std.proofs.Common.{◌≡◌, ℕ, ◌==◌, Bool, true, false, not, ◌&&◌, ◌||◌, Option, Some, List}
+use Rattle.std.proofs.Common.{◌≡◌, ℕ, ◌==◌, Bool, true, false, ◌&&◌, ◌||◌, Option, Some, List}
 use Rattle.std.proofs.Common.{refl, sym, ◌∙◌, ap, arith, slice_get}
 use Rattle.std.specs.List.{find}
 use Rattle.std.specs.Option.{option_map}
@@ -22,6 +22,7 @@ use Rattle.nm_match.specs.Picks.{same_tag}
 use Rattle.nm_match.specs.Deeds.{is_message}
 use Rattle.nm_match.specs.Queues.{TwoMessages, TwoReceives}
 use Rattle.nm_match.proofs.BucketLemmas.{find-map, find_either, find_same, front_is_found}
+use Rattle.nm_match.proofs.QueueLemmas.{both_fail}
 use Rattle.nm_types.proofs.TruthLemmas.{and_left, and_right}
 
 flip : (a b : ℕ) → (a == b) ≡ (b == a)
@@ -182,16 +183,11 @@ named_found {queue} are f t ctx named_from named_tag =
     (λ (x : ℕ × Arrival). fits_picks wanted (picks_of_arrival x.1)) queue
     (λ x. named_fits f t ctx named_from named_tag x.1)
 
-both_named_at : (x y : Bool) → (not x && not y) ≡ true → (x ≡ false) × (y ≡ false)
-both_named_at true y h = absurd (false≢true h)
-both_named_at false true h = absurd (false≢true h)
-both_named_at false false h = (refl, refl)
-
 -- where a source and a tag are named, the bucket of these has the oldest that fits
 pub own_found : {S : Type 0} {queue : List (ℕ × Arrival)} {next : ℕ}
     {m : IndexMap Picks (BTreeMap ℕ Arrival) S}
     (are : AreBuckets picks_of_arrival queue next m) → (w : Picks) → names_both w ≡ true →
     slice_get (bucket_of m w) 0 ≡ find (λ (x : ℕ × Arrival). fits_picks w (picks_of_arrival x.1)) queue
 own_found are w named =
-    let both = both_named_at (same_peer w.from peer.Any) (same_tag w.tag tag.Any) named in
+    let both = both_fail (same_peer w.from peer.Any) (same_tag w.tag tag.Any) named in
     named_found are w.from w.tag w.ctx both.0 both.1

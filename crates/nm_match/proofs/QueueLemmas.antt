@@ -62,7 +62,7 @@ pub free_means : (h : List Event) (found : List Pair) (from n : ℕ) → is_free
 unfolding is_free_message
 free_means h found from n free = all_fail _ _ _ free
 
-both_fail : (x y : Bool) → (not x && not y) ≡ true → (x ≡ false) × (y ≡ false)
+pub both_fail : (x y : Bool) → (not x && not y) ≡ true → (x ≡ false) × (y ≡ false)
 both_fail true y h = absurd (false≢true h)
 both_fail false true h = absurd (false≢true h)
 both_fail false false h = (refl, refl)

@@ -1,20 +1,17 @@
 -- What a search takes out of a list, seen through another test.
-use Rattle.std.proofs.Common.{◌≡◌, Bool, true, false, cond, Some, None, Option, List, []}
+use Rattle.std.proofs.Common.{◌≡◌, Bool, true, false, cond, Some, None, List, []}
 use Rattle.std.proofs.Common.{◌∷◌, refl, sym, ◌∙◌, ap, arith}
 use Rattle.std.specs.List.{All, filter, find}
 use Rattle.std.proofs.lemmas.List.Elements.{All-cons, All-head, All-tail}
 use Rattle.nm_match.specs.Queues.{without_first}
-
-nothing_at : {X : Type 0} (x : X) (o : Option X) (b : Bool) → cond b (Some x) o ≡ None → (b ≡ false) × (o ≡ None)
-nothing_at x o true h = absurd (grind arith)
-nothing_at x o false h = (refl, h)
+use Rattle.nm_match.proofs.ListLemmas.{none_at}
 
 -- where a search finds nothing, a filter of the same test keeps nothing
 pub nothing_kept : {X : Type 0} (test q : X → Bool) → ((x : X) → test x ≡ q x) → (xs : List X) →
     find test xs ≡ None → filter q xs ≡ []
 nothing_kept test q agree [] none = refl
 nothing_kept test q agree (y ∷ ys) none =
-    let both = nothing_at y (find test ys) (test y) none in
+    let both = none_at y (find test ys) (test y) none in
     rw (sym (agree y) ∙ both.0) (nothing_kept test q agree ys both.1)
 
 first_at : {X : Type 0} (test q : X → Bool) (y : X) (ys : List X) (x : X) (b : Bool) → q y ≡ b →

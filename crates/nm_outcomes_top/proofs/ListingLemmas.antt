@@ -6,7 +6,7 @@ use Rattle.std.proofs.lemmas.List.{length-map, map-append, take_more}
 use Rattle.nm_outcomes_top.specs.Answers.{listed_status}
 use Rattle.nm_outcomes_top.specs.Texts.{outcome_text, outcomes_from, stuck_count}
 
-low_by : (b : Bool) → let n : ℕ = if b then 1 else 0 in (n ≡ 0) ⊎ (n ≡ 1)
+pub low_by : (b : Bool) → let n : ℕ = if b then 1 else 0 in (n ≡ 0) ⊎ (n ≡ 1)
 low_by true = inr refl
 low_by false = inl refl
 

@@ -1,6 +1,6 @@
 -- What is told of the reports of a script, question by question.
-use Rattle.std.proofs.Common.{◌≡◌, ℕ, ◌≤◌, ◌⊎◌, Bool, true, false, inl, inr, List, Option, refl, sym, ◌∙◌}
-use Rattle.std.proofs.Common.{subst, arith, if◌then◌else◌}
+use Rattle.std.proofs.Common.{◌≡◌, ℕ, ◌≤◌, ◌⊎◌, inl, inr, List, Option, refl, sym, ◌∙◌}
+use Rattle.std.proofs.Common.{subst, arith}
 use Rattle.nm_outside.specs.Told.{Appends}
 use Rattle.nm_types.specs.declared.scripts.Line.{Line}
 use Rattle.nm_types.specs.Sizes.{Sizes}
@@ -15,7 +15,7 @@ use Rattle.nm_outcomes_top.specs.Endings.{Speaks}
 use Rattle.nm_outcomes_top.specs.Texts.{fewer_text, is_stuck}
 use Rattle.nm_outcomes_top.specs.declared.tellings.Telling.{Telling}
 use Rattle.nm_outcomes_top.specs.declared.tellings.Telling.TheVariants.{Fewer, Listed, Placed, Traced}
-use Rattle.nm_outcomes_top.proofs.ListingLemmas.{low}
+use Rattle.nm_outcomes_top.proofs.ListingLemmas.{low, low_by}
 
 -- what is known where it was said what was asked
 pub record IsTold (asked : Asked) (status : ℕ) (before after : Option (List ℕ)) (bytes : List ℕ) : Type 0 where
@@ -24,10 +24,6 @@ pub record IsTold (asked : Asked) (status : ℕ) (before after : Option (List �
   pub right : IsTelling asked.question (sizes_for asked given.ranks) given.lines given.report telling
   pub ended : status ≡ telling_status telling
   pub said : Appends before after (telling_text telling)
-
-low_by : (b : Bool) → let n : ℕ = if b then 1 else 0 in (n ≡ 0) ⊎ (n ≡ 1)
-low_by true = inr refl
-low_by false = inl refl
 
 -- a trace has status 0 or 1
 traced_low : (trace : List ℕ) → (traced_status trace ≡ 0) ⊎ (traced_status trace ≡ 1)

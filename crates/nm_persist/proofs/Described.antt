@@ -62,7 +62,7 @@ pub record IsDescribed (rank : ℕ) (lines : List PlanLine) (c : Command) : Type
   pub start : starts_one c ≡ true → IsPartStart rank lines c
 
 -- a request that is made stays
-kind_stays : (ranks : ℕ) (owner : Owner) (before : List PlanLine) (line : PlanLine) (k : Kind) →
+pub kind_stays : (ranks : ℕ) (owner : Owner) (before : List PlanLine) (line : PlanLine) (k : Kind) →
     IsFine ranks before line →
     kind_of owner before ≡ Some k → kind_of owner (before ++ line ∷ []) ≡ Some k
 kind_stays ranks owner before line k fine made = by_making (making ranks owner before line fine)

@@ -19,10 +19,11 @@ use Rattle.nm_plans.specs.Expansion.{name_of}
 use Rattle.nm_plans.specs.PlanRequests.{is_sending, part_count, request_at}
 use Rattle.nm_persist.specs.Table.{are_sound, fault_in}
 use Rattle.nm_persist.specs.Starts.{starts_it, starts_of}
-use Rattle.nm_persist.proofs.EndsMade.{Kind, Leaves, Makes, Making, kind_by, kind_of, making}
+use Rattle.nm_persist.proofs.EndsMade.{Kind, kind_by, kind_of}
 use Rattle.nm_persist.proofs.Partnering.{cs}
 use Rattle.nm_persist.proofs.Tracked.{AreFine, IsFine, each_line, starts_of-more}
 use Rattle.nm_persist.proofs.Tracking.{Follows, cmd, is_pending}
+use Rattle.nm_persist.proofs.Described.{kind_stays}
 use Rattle.nm_types.proofs.ListLemmas.{all_append, all_along}
 use Rattle.nm_types.proofs.TruthLemmas.{and_left, and_right}
 
@@ -94,15 +95,6 @@ fine_line ranks lines before line after split fine =
 abbrev StartsAre : Owner → List PlanLine → Type 0
 StartsAre owner lines = AllByRecursion (λ (r : Request). kind_of owner lines ≡ Some (kind_by owner.rank r))
     (starts_of lines owner)
-
-kind_stays : (ranks : ℕ) (owner : Owner) (before : List PlanLine) (line : PlanLine) (k : Kind) →
-    IsFine ranks before line →
-    kind_of owner before ≡ Some k → kind_of owner (before ++ line ∷ []) ≡ Some k
-kind_stays ranks owner before line k fine made = by_making (making ranks owner before line fine)
-  where
-    by_making : Making owner before line → kind_of owner (before ++ line ∷ []) ≡ Some k
-    by_making (Makes about e ended none new) = absurd (grind (arith, none, made))
-    by_making (Leaves kept own) = kept ∙ made
 
 starts_more : (ranks : ℕ) (owner : Owner) (before : List PlanLine) (line : PlanLine) → IsFine ranks before line →
     StartsAre owner before →

@@ -25,15 +25,12 @@ use Rattle.nm_receiving.specs.Kept.{ReceivingInvariant}
 use Rattle.nm_receiving.specs.Receipts.{AddsBytes, ReceivingView, SameBytes, came_of, granted_to, of_asked}
 use Rattle.nm_receiving.specs.Receipts.{of_eager, stream_of}
 use Rattle.nm_receiving.specs.Steps.{grants_after, grants_with}
-use Rattle.nm_receiving.proofs.Grants.{grant_set, granted_new, self}
+use Rattle.nm_receiving.proofs.Grants.{Row, grant_set, granted_new, self}
 use Rattle.nm_receiving.proofs.Lists.{find-first_more, find-none_more, row-other}
 use Rattle.nm_receiving.proofs.Lists.{row-same}
 use Rattle.nm_receiving.proofs.TablesCarry.{carried}
 use Rattle.nm_types.proofs.NumberLemmas.{unequal, eq_true, nat_unequal as differs}
 use Rattle.nm_types.proofs.ListLemmas.{find_passes}
-
-abbrev Row : Type 0
-Row = List (ℕ × Granted)
 
 -- the bytes of an eager message, and those of one that was granted
 abbrev pub joined_bytes : Option Incoming → List ℕ

@@ -25,7 +25,7 @@ use Rattle.nm_receiving.specs.Steps.{grants_after, grants_with}
 use Rattle.nm_receiving.proofs.Lists.{row-other, row-same, some_from}
 use Rattle.nm_types.proofs.OptionLemmas.{some_and}
 
-abbrev Row : Type 0
+abbrev pub Row : Type 0
 Row = List (ℕ × Granted)
 
 pub self : (n : ℕ) → nat_eq n n ≡ true

@@ -85,7 +85,7 @@ lone_taken word a h =
     rw (← is) (ap (λ w. w ∷ []) word_is ∙ sym f.1.0, f.1.1)
 
 -- four words and four equal ones
-same_four : (a b c d e f g h : List ℕ) → a ≡ e → b ≡ f → c ≡ g → d ≡ h
+pub same_four : (a b c d e f g h : List ℕ) → a ≡ e → b ≡ f → c ≡ g → d ≡ h
     → a ∷ b ∷ c ∷ d ∷ [] ≡ e ∷ f ∷ g ∷ h ∷ []
 same_four a b c d e f g h p q r s = cc (p, q, r, s)
 

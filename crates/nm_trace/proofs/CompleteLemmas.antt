@@ -39,7 +39,7 @@ use Rattle.nm_trace.proofs.ToldLemmas.{print_both, ran_lines, text_of, waits_lin
 use Rattle.nm_trace.proofs.WithinLemmas.{Within}
 
 -- a line that is taken, and a line that another state takes alike
-fed_step : (ranks : ℕ) (s t : Stage) (line : List ℕ) (lines : List (List ℕ)) → feed ranks s line ≡ Some t
+pub fed_step : (ranks : ℕ) (s t : Stage) (line : List ℕ) (lines : List (List ℕ)) → feed ranks s line ≡ Some t
     → fed ranks s (line ∷ lines) ≡ fed ranks t lines
 fed_step ranks s t line lines h = rw h refl
 

@@ -14,6 +14,7 @@ use Rattle.nm_trace.specs.Traces.{PairIn, CellsIn}
 use Rattle.nm_script.proofs.StepLemmas.{guard_some}
 use Rattle.nm_trace.proofs.FieldLemmas.{bind_some, same_bytes, small_again, large_again}
 use Rattle.nm_trace.proofs.FieldLemmas.{huge_again, small_taken, large_taken, huge_taken}
+use Rattle.nm_trace.proofs.AnswerLemmas.{same_four}
 
 pub pair_again : (p : PairCount) → PairIn p → pair_of (pair_words p) ≡ Some p
 unfolding pair_of
@@ -32,11 +33,6 @@ pub end_again : (d : Bool) → end_of (end_word d) ≡ Some d
 unfolding end_of
 end_again true = refl
 end_again false = refl
-
--- four words and four equal ones
-same_four : (a b c d e f g h : List ℕ) → a ≡ e → b ≡ f → c ≡ g → d ≡ h
-    → a ∷ b ∷ c ∷ d ∷ [] ≡ e ∷ f ∷ g ∷ h ∷ []
-same_four a b c d e f g h p q r s = cc (p, q, r, s)
 
 same_three : (a b c e f g : List ℕ) → a ≡ e → b ≡ f → c ≡ g → a ∷ b ∷ c ∷ [] ≡ e ∷ f ∷ g ∷ []
 same_three a b c e f g p q r = cc (p, q, r)

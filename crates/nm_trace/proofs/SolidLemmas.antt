@@ -195,13 +195,10 @@ note_solid note h = (
   ),
 )
 
-all_bytes : (bytes : List ℕ) → AllByRecursion (λ b. b < 2 ^ 8) bytes → IsBytes bytes
-all_bytes [] h i = omega arith
-all_bytes (b ∷ bytes) h zero = h.0
-all_bytes (b ∷ bytes) h (suc i) = all_bytes bytes h.1 i
-
 pub got_bytes : (bytes : List ℕ) → AllByRecursion (λ b. b < 2 ^ 8) bytes → IsBytes bytes
-got_bytes = all_bytes
+got_bytes [] h i = omega arith
+got_bytes (b ∷ bytes) h zero = h.0
+got_bytes (b ∷ bytes) h (suc i) = got_bytes bytes h.1 i
 
 word_prints : (word : List ℕ) → IsWord word → is_printable word ≡ true
 word_prints word h = joined_printable word [] (h, tt)
@@ -215,7 +212,7 @@ body_prints answer.Nothing h = refl
 body_prints answer.Sent h = refl
 body_prints (answer.Got from tag body) h =
     word_prints (encode_lower body)
-    (lower_solid (encode_lower body) (all_lower body (all_bytes body h.3)))
+    (lower_solid (encode_lower body) (all_lower body (got_bytes body h.3)))
 body_prints (answer.Cut from tag n) h = refl
 body_prints answer.Cancelled h = refl
 body_prints (answer.Seen seen) h = refl

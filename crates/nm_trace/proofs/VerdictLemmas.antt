@@ -21,7 +21,7 @@ use Rattle.nm_trace.specs.Outcome.{Stops, at_end, outcome, told}
 use Rattle.nm_trace.specs.Texts.{trace_of}
 use Rattle.nm_trace.specs.Traces.{Begins, IsFirstBad, IsTraceOf, Names}
 use Rattle.nm_trace.proofs.BeginLemmas.{state_begins}
-use Rattle.nm_trace.proofs.CompleteLemmas.{trace_lines, trace_prints, trace_told}
+use Rattle.nm_trace.proofs.CompleteLemmas.{fed_step, trace_lines, trace_prints, trace_told}
 use Rattle.nm_trace.proofs.FeedLemmas.{fed_text}
 use Rattle.nm_trace.proofs.FieldLemmas.{bind_some}
 use Rattle.nm_trace.proofs.OutcomeLemmas.{some_or_none}
@@ -126,10 +126,6 @@ fed_none : (ranks : ℕ) (s : Stage) (line : List ℕ) (lines : List (List ℕ))
     → fed ranks s (line ∷ lines) ≡ None
 fed_none ranks s line lines none = rw none refl
 
-fed_some : (ranks : ℕ) (s t : Stage) (line : List ℕ) (lines : List (List ℕ)) → feed ranks s line ≡ Some t
-    → fed ranks s (line ∷ lines) ≡ fed ranks t lines
-fed_some ranks s t line lines some = rw some refl
-
 -- lines that tell a whole trace
 outcome_whole : (ranks : ℕ) (s : Stage) (lines : List (List ℕ)) (number : ℕ) (t : Trace)
     → fed ranks s lines ≡ Some (Over t) → outcome ranks s lines [] number ≡ Ok t
@@ -162,7 +158,7 @@ outcome_ok ranks s (line ∷ lines) behind number t h =
       | inr x ↦
           let e = sym (stop_some ranks s line lines behind number x.0 x.1) ∙ h in
           let more = outcome_ok ranks x.0 lines behind (number + 1) t e in
-          (fed_some ranks s x.0 line lines x.1 ∙ more.0, more.1)
+          (fed_step ranks s x.0 line lines x.1 ∙ more.0, more.1)
     ]
 
 -- before the line that stops a text, each line is taken
@@ -189,7 +185,7 @@ outcome_before ranks s (l ∷ lines) behind number line (suc count) h few =
       | inr x ↦
           let e = sym (stop_some ranks s l lines behind number x.0 x.1) ∙ h in
           let more = outcome_before ranks x.0 lines behind (number + 1) line count e (omega (arith, few)) in
-          (omega (arith, more.0), more.1, fed_some ranks s x.0 l (take count lines) x.1 ∙ more.2)
+          (omega (arith, more.0), more.1, fed_step ranks s x.0 l (take count lines) x.1 ∙ more.2)
     ]
 
 outcome_least : (ranks : ℕ) (s : Stage) (lines : List (List ℕ)) (behind : List ℕ) (number line : ℕ)
@@ -230,7 +226,7 @@ outcome_bad ranks s (l ∷ lines) behind number line (suc count) u h here some t
           cc (gone)
       | inr x ↦
           let e = sym (stop_some ranks s l lines behind number x.0 x.1) ∙ h in
-          let more = sym (fed_some ranks s x.0 l (take count lines) x.1) ∙ taken in
+          let more = sym (fed_step ranks s x.0 l (take count lines) x.1) ∙ taken in
           outcome_bad ranks x.0 lines behind (number + 1) line count u e (omega (arith, here))
           (omega (arith, some)) more
     ]
@@ -242,7 +238,7 @@ fed_front ranks s [] rest t h = (s, refl)
 fed_front ranks s (line ∷ front) rest t h =
     let b = bind_some (feed ranks s line) _ t h in
     let more = fed_front ranks b.0 front rest t b.2 in
-    (more.0, fed_some ranks s b.0 line front b.1 ∙ more.1)
+    (more.0, fed_step ranks s b.0 line front b.1 ∙ more.1)
 
 -- a record's trace
 module _ (shape : Sizes) (few : shape.ranks ≤ 2 ^ 8) where

@@ -29,9 +29,6 @@ and_both false q e = absurd (clash e) where
   clash : false ≡ true → ⊥
   clash e = cc
 
-pub both_true : (p q : Bool) → (p && q) ≡ true → (p ≡ true) × (q ≡ true)
-both_true p q e = and_both p q e
-
 -- one more of a row agrees
 pub row_more : (actors : List Actor) (i n : ℕ) (x y : Actor) (all one : Bool) → slice_get actors i ≡ Some x →
     slice_get actors n ≡ Some y → (one ≡ true → PairAgrees i n x y) →
