@@ -28,6 +28,7 @@ use Rattle.nm_history.specs.Bytes.{bytes_in, taken_bytes, eager_bytes}
 use Rattle.nm_history.proofs.Basic.{at_true, lt_true, or_false}
 use Rattle.nm_channels.proofs.Streams.{SenderAt, StreamIsRight, completed, completes}
 use Rattle.nm_channels.proofs.Streaming.{Carries, InTime}
+use Rattle.nm_channels.specs.SoFar.{IsOver}
 use Rattle.nm_history.specs.Continues.{WORN_STAMP, continues_stream, is_of_stream}
 use Rattle.std.proofs.lemmas.Bool.Decides.{nat_tests}
 use Rattle.std.proofs.lemmas.List.Folds.{list_any-append}
@@ -297,11 +298,6 @@ eager_body_at bodies k (suc i) n (x ∷ ss) s is numbered at eager =
     rw (eq_less x.n n (omega (arith, numbered.0, is)))
     (eager_body_at bodies (k + 1) i n ss s (omega (arith, is)) numbered.1 at eager)
 
--- message n is complete by what is known
-pub record Complete (n : ℕ) (known : Known) : Type 0 where
-  pub announced : n < known.count
-  pub finished : n + 1 ≡ known.count → known.missing ≡ 0
-
 -- a packet of the sender's own messages that continued continues by what is known
 fits : (eager : ℕ) (known : Known) (t : Taken) → t.continued ≡ true → is_of_stream t.packet.what ≡ true →
     t.packet.stamp < WORN_STAMP →
@@ -330,16 +326,16 @@ abbrev pub Goes : ℕ → Known → What → ℕ → Type 0
 Goes eager known w size = is_of_stream w ≡ true → continues_stream eager known w size ≡ true
 
 complete_now : (eager n : ℕ) (known : Known) (w : What) (size : ℕ) → Goes eager known w size →
-    completes known w size ≡ Some n → Complete n (learned known w size)
+    completes known w size ≡ Some n → IsOver n (learned known w size)
 complete_now eager n known (what.Head tag ctx len) size goes is = by_test (len == size) refl is where
   by_test : (b : Bool) → (len == size) ≡ b → cond b (Some known.count) None ≡ Some n →
-      Complete n (learned known (what.Head tag ctx len) size)
+      IsOver n (learned known (what.Head tag ctx len) size)
   by_test true test is = let same : known.count ≡ n = cc in let all : len ≡ size = same_number len size test in
       record { announced = omega (arith, same); finished = λ e. omega (arith, all) }
   by_test false test is = cc
 complete_now eager n known (what.More m) size goes is = by_test (known.missing == size) refl is where
   by_test : (b : Bool) → (known.missing == size) ≡ b → cond b (Some m) None ≡ Some n →
-      Complete n (learned known (what.More m) size)
+      IsOver n (learned known (what.More m) size)
   by_test true test is = let same : m ≡ n = cc in let all : known.missing ≡ size = same_number known.missing size test
       in let found = more_found eager known m size (goes refl) in
       record { announced = omega (arith, same, found.1); finished = λ e. omega (arith, all) }
@@ -347,7 +343,7 @@ complete_now eager n known (what.More m) size goes is = by_test (known.missing =
 complete_now eager n known w size goes is = cc
 
 pub complete_stays : (eager n : ℕ) (known : Known) (w : What) (size : ℕ) → Goes eager known w size →
-    Complete n known → Complete n (learned known w size)
+    IsOver n known → IsOver n (learned known w size)
 complete_stays eager n known (what.Head tag ctx len) size goes was =
     record { announced = omega (arith, was.announced); finished = λ e. absurd (omega (arith, e, was.announced)) }
 complete_stays eager n known (what.Ask tag ctx len) size goes was =
@@ -361,7 +357,7 @@ complete_stays eager n known (what.More m) size goes was =
 complete_stays eager n known w size goes was = record { announced = was.announced; finished = was.finished }
 
 no_more_bytes : (eager n : ℕ) (known : Known) (w : What) (payload : List ℕ) → Goes eager known w (length payload) →
-    Complete n known → bytes_in n known w payload ≡ []
+    IsOver n known → bytes_in n known w payload ≡ []
 no_more_bytes eager n known (what.Head tag ctx len) payload goes was = rw (eq_false known.count n was.announced) refl
 no_more_bytes eager n known (what.More m) payload goes was = by_test (m == n) refl where
   by_test : (b : Bool) → (m == n) ≡ b → cond b payload [] ≡ []
@@ -383,23 +379,23 @@ goes_here eager known t in_time right goes stream = fits eager known t goes stre
 complete_after : (eager n : ℕ) (known : Known) (t : Taken) → t.packet.stamp < WORN_STAMP →
     OnTrue (is_of_stream t.packet.what && nat_lt t.packet.stamp WORN_STAMP)
     (t.continued ≡ continues_stream eager known t.packet.what (length t.packet.payload)) →
-    Complete n known → Complete n (known_after known t)
+    IsOver n known → IsOver n (known_after known t)
 complete_after eager n known t in_time right was = by_goes t.continued refl where
   by_goes : (b : Bool) → t.continued ≡ b →
-      Complete n (cond b (learned known t.packet.what (length t.packet.payload)) known)
+      IsOver n (cond b (learned known t.packet.what (length t.packet.payload)) known)
   by_goes true goes = complete_stays eager n known t.packet.what (length t.packet.payload)
       (goes_here eager known t in_time right goes) was
   by_goes false goes = was
 
 complete_to_end : (eager n : ℕ) (known : Known) (ts : List Taken) → InTime ts → StreamIsRight eager known ts →
-    Complete n known → Complete n (fold known_after known ts)
+    IsOver n known → IsOver n (fold known_after known ts)
 complete_to_end eager n known [] in_time right was = was
 complete_to_end eager n known (t ∷ ts) in_time right was = complete_to_end eager n (known_after known t) ts in_time.1
     right.1 (complete_after eager n known t in_time.0 right.0 was)
 
 -- a message that packets complete is complete after them
 completed_is_complete : (eager n : ℕ) (known : Known) (ts : List Taken) → InTime ts → StreamIsRight eager known ts →
-    list_any (λ m. m == n) (completed known ts) ≡ true → Complete n (fold known_after known ts)
+    list_any (λ m. m == n) (completed known ts) ≡ true → IsOver n (fold known_after known ts)
 completed_is_complete eager n known [] in_time right found = cc
 completed_is_complete eager n known (t ∷ ts) in_time right found =
     by_goes t.continued refl (completed_is_complete eager n (known_after known t) ts in_time.1 right.1) found
@@ -409,9 +405,9 @@ completed_is_complete eager n known (t ∷ ts) in_time right found =
 
     by_goes : (b : Bool) → t.continued ≡ b →
         (list_any (λ m. m == n) (completed (known_after known t) ts) ≡ true →
-        Complete n (fold known_after (known_after known t) ts)) →
+        IsOver n (fold known_after (known_after known t) ts)) →
         list_any (λ m. m == n) (cons_option (cond b (completes known t.packet.what size) None)
-        (completed (known_after known t) ts)) ≡ true → Complete n (fold known_after (known_after known t) ts)
+        (completed (known_after known t) ts)) ≡ true → IsOver n (fold known_after (known_after known t) ts)
     by_goes false goes later found = later found
     by_goes true goes later found = by_option (completes known t.packet.what size) refl found where
       after : known_after known t ≡ learned known t.packet.what size
@@ -419,22 +415,22 @@ completed_is_complete eager n known (t ∷ ts) in_time right found =
 
       by_option : (o : Option ℕ) → completes known t.packet.what size ≡ o →
           list_any (λ m. m == n) (cons_option o (completed (known_after known t) ts)) ≡ true →
-          Complete n (fold known_after (known_after known t) ts)
+          IsOver n (fold known_after (known_after known t) ts)
       by_option None is found = later found
       by_option (Some m) is found = by_test (m == n) refl found where
         by_test : (b : Bool) → (m == n) ≡ b → (b || list_any (λ m. m == n) (completed (known_after known t) ts))
-            ≡ true → Complete n (fold known_after (known_after known t) ts)
+            ≡ true → IsOver n (fold known_after (known_after known t) ts)
         by_test false test found = later found
         by_test true test found =
             let same : m ≡ n = same_number m n test in
-            let now : Complete n (learned known t.packet.what size) = complete_now eager n known t.packet.what size
+            let now : IsOver n (learned known t.packet.what size) = complete_now eager n known t.packet.what size
             (goes_here eager known t in_time.0 right.0 goes) (is ∙ ap (λ (k : ℕ). Some k) same) in
             complete_to_end eager n (known_after known t) ts in_time.1 right.1
-            (subst (λ (k : Known). Complete n k) (sym after) now)
+            (subst (λ (k : Known). IsOver n k) (sym after) now)
 
 -- no packet carries more of a complete message
 pub none_after_complete : (eager n : ℕ) (known : Known) (ts : List Taken) → InTime ts → StreamIsRight eager known ts →
-    Complete n known → eager_bytes n known ts ≡ []
+    IsOver n known → eager_bytes n known ts ≡ []
 none_after_complete eager n known [] in_time right was = refl
 none_after_complete eager n known (t ∷ ts) in_time right was =
     let none : taken_bytes n known t ≡ [] = by_goes t.continued refl in

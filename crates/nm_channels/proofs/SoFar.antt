@@ -18,9 +18,10 @@ use Rattle.nm_history.specs.Continues.{WORN_STAMP, continues_stream, is_of_strea
 use Rattle.nm_history.specs.Known.{Known, Taken, known_after, known_by, learned, nothing_known}
 use Rattle.nm_history.proofs.Sent.{NumberedFrom}
 use Rattle.nm_channels.proofs.Delivering.{all_go}
-use Rattle.nm_channels.proofs.EagerBytes.{Complete, eager_all, eager_body_at, eager_bytes-append, none_after_complete}
+use Rattle.nm_channels.proofs.EagerBytes.{eager_all, eager_body_at, eager_bytes-append, none_after_complete}
 use Rattle.nm_channels.proofs.Streaming.{Carries, InTime}
 use Rattle.nm_channels.proofs.Streams.{SenderAt, StreamContinued, StreamIsRight}
+use Rattle.nm_channels.specs.SoFar.{IsOver}
 use Rattle.nm_types.proofs.ListLemmas.{all_append}
 
 -- these packets as they would be taken
@@ -113,7 +114,7 @@ pub so_far : (eager i j n : ℕ) (bodies : Sent → List ℕ) (h : List Event) (
     (s : Sent) → AtEach (λ before e. SenderAt eager bodies before e.stamp e.what) h →
     AreCalled i 0 (outgoing bodies h j) (map (λ t. t.packet) ts ++ more) → InTime ts →
     AllByRecursion (λ p. p.stamp < WORN_STAMP) more → StreamIsRight eager nothing_known ts →
-    Complete n (known_by ts) → NumberedFrom (λ (s : Sent). s.n) 0 (sends h j) →
+    IsOver n (known_by ts) → NumberedFrom (λ (s : Sent). s.n) 0 (sends h j) →
     slice_get (sends h j) n ≡ Some s → is_ask s.how ≡ false → eager_bytes n nothing_known ts ≡ bodies s
 unfolding AtEach in_turn
 so_far eager i j n bodies h ts more s each called in_time more_in_time right complete numbered at is =
