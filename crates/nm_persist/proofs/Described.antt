@@ -31,7 +31,8 @@ use Rattle.nm_persist.proofs.EndsMade.{Kind, Leaves, Makes, Making, alone, end_p
 use Rattle.nm_persist.proofs.Items.{part_in, same_name}
 use Rattle.nm_persist.proofs.LinesRead.{starts_one}
 use Rattle.nm_persist.proofs.Owned.{own_commands}
-use Rattle.nm_persist.proofs.Tracked.{AreFine, IsFine, each_line, few_parts, own-more, part_low}
+use Rattle.nm_persist.proofs.Tracked.{AreFine, each_line, few_parts, own-more, part_low}
+use Rattle.nm_persist.proofs.ReadyLemmas.{IsReady}
 use Rattle.nm_types.proofs.ListLemmas.{all_append, all_along}
 use Rattle.nm_types.proofs.NumberLemmas.{same_number}
 use Rattle.nm_types.proofs.TruthLemmas.{same_test, and_left, and_right}
@@ -63,7 +64,7 @@ pub record IsDescribed (rank : ℕ) (lines : List PlanLine) (c : Command) : Type
 
 -- a request that is made stays
 pub kind_stays : (ranks : ℕ) (owner : Owner) (before : List PlanLine) (line : PlanLine) (k : Kind) →
-    IsFine ranks before line →
+    IsReady ranks before line →
     kind_of owner before ≡ Some k → kind_of owner (before ++ line ∷ []) ≡ Some k
 kind_stays ranks owner before line k fine made = by_making (making ranks owner before line fine)
   where
@@ -71,7 +72,8 @@ kind_stays ranks owner before line k fine made = by_making (making ranks owner b
     by_making (Makes about e ended none new) = absurd (grind (arith, none, made))
     by_making (Leaves kept own) = kept ∙ made
 
-described_later : (ranks rank : ℕ) (before : List PlanLine) (line : PlanLine) (c : Command) → IsFine ranks before line →
+described_later : (ranks rank : ℕ) (before : List PlanLine) (line : PlanLine) (c : Command) →
+    IsReady ranks before line →
     IsDescribed rank before c → IsDescribed rank (before ++ line ∷ []) c
 described_later ranks rank before line c fine is = record {
   named = is.named;
@@ -168,7 +170,7 @@ block_described rank lines (Fill p body) r few low made = tt
 abbrev pub AreDescribed : ℕ → List PlanLine → Type 0
 AreDescribed rank lines = AllByRecursion (λ c. IsDescribed rank lines c) (own_commands rank (expand lines))
 
-described_more : (ranks rank : ℕ) (before : List PlanLine) (line : PlanLine) → IsFine ranks before line →
+described_more : (ranks rank : ℕ) (before : List PlanLine) (line : PlanLine) → IsReady ranks before line →
     AreDescribed rank before →
     AreDescribed rank (before ++ line ∷ [])
 described_more ranks rank before line fine all =

@@ -18,8 +18,9 @@ use Rattle.nm_plans.specs.Ends.{end, end_in, other_end, parts_at, parts_in, same
 use Rattle.nm_plans.specs.PlanRequests.{is_about, is_sending, owner_of, part_count, request_after, request_at}
 use Rattle.nm_plans.proofs.RequestLemmas.{parts_at-more, request_at-more}
 use Rattle.nm_persist.specs.Starts.{end_of}
-use Rattle.nm_persist.proofs.Tracked.{AreFine, IsFine, each_line, faultless, in_order, owner_is}
+use Rattle.nm_persist.proofs.Tracked.{AreFine, each_line, faultless, in_order, owner_is}
 use Rattle.nm_persist.proofs.Tracking.{InOrder}
+use Rattle.nm_persist.proofs.ReadyLemmas.{IsReady}
 use Rattle.nm_types.proofs.NumberLemmas.{same_number}
 use Rattle.nm_types.proofs.TruthLemmas.{and_left, and_right}
 
@@ -132,7 +133,7 @@ step_of rank (Ready p k) (Some r) order = Old refl refl
 step_of rank (Arrived p k) (Some r) order = Old refl refl
 step_of rank (Wait p) (Some r) order = Old refl refl
 
-pub making : (ranks : ℕ) (owner : Owner) (before : List PlanLine) (line : PlanLine) → IsFine ranks before line →
+pub making : (ranks : ℕ) (owner : Owner) (before : List PlanLine) (line : PlanLine) → IsReady ranks before line →
     Making owner before line
 making ranks owner before line fine = by_about (is_about owner line) refl
   where
@@ -166,7 +167,7 @@ making ranks owner before line fine = by_about (is_about owner line) refl
         (λ is. absurd (false≢true (sym about ∙ is)))
 
 -- a line that makes an end finds none like it
-pub fresh : (ranks : ℕ) (before : List PlanLine) (line : PlanLine) (e : End) → IsFine ranks before line →
+pub fresh : (ranks : ℕ) (before : List PlanLine) (line : PlanLine) (e : End) → IsReady ranks before line →
     end_in line.rank line.command ≡ Some e →
     parts_at before e ≡ None
 fresh ranks before line e fine ended =
@@ -197,7 +198,7 @@ no_two x o some none = grind (arith, some, none)
 abbrev pub HasParts : List PlanLine → Type 0
 HasParts lines = (owner : Owner) (k : Kind) → kind_of owner lines ≡ Some k → parts_at lines k.at ≡ Some k.parts
 
-has_more : (ranks : ℕ) (before : List PlanLine) (line : PlanLine) → IsFine ranks before line → HasParts before →
+has_more : (ranks : ℕ) (before : List PlanLine) (line : PlanLine) → IsReady ranks before line → HasParts before →
     HasParts (before ++ line ∷ [])
 has_more ranks before line fine has owner k is = by_making (making ranks owner before line fine)
   where
@@ -240,7 +241,7 @@ AreAlone lines =
     (owner owner' : Owner) (k k' : Kind) → kind_of owner lines ≡ Some k → kind_of owner' lines ≡ Some k' →
     k.at ≡ k'.at → owner ≡ owner'
 
-alone_more : (ranks : ℕ) (before : List PlanLine) (line : PlanLine) → IsFine ranks before line → HasParts before →
+alone_more : (ranks : ℕ) (before : List PlanLine) (line : PlanLine) → IsReady ranks before line → HasParts before →
     AreAlone before → AreAlone (before ++ line ∷ [])
 alone_more ranks before line fine has alone owner owner' k k' is is' same =
     by_making (making ranks owner before line fine) (making ranks owner' before line fine)
@@ -266,7 +267,7 @@ alone_more ranks before line fine has alone owner owner' k k' is is' same =
 abbrev pub ArePartners : List PlanLine → Type 0
 ArePartners lines = (e : End) (n m : ℕ) → parts_at lines e ≡ Some n → parts_at lines (other_end e) ≡ Some m → n ≡ m
 
-partners_more : (ranks : ℕ) (before : List PlanLine) (line : PlanLine) → IsFine ranks before line →
+partners_more : (ranks : ℕ) (before : List PlanLine) (line : PlanLine) → IsReady ranks before line →
     ArePartners before → ArePartners (before ++ line ∷ [])
 partners_more ranks before line fine partners e n m first second = by_end (end_in line.rank line.command) refl
   where

@@ -21,9 +21,10 @@ use Rattle.nm_persist.specs.Table.{are_sound, fault_in}
 use Rattle.nm_persist.specs.Starts.{starts_it, starts_of}
 use Rattle.nm_persist.proofs.EndsMade.{Kind, kind_by, kind_of}
 use Rattle.nm_persist.proofs.Partnering.{cs}
-use Rattle.nm_persist.proofs.Tracked.{AreFine, IsFine, each_line, starts_of-more}
+use Rattle.nm_persist.proofs.Tracked.{AreFine, each_line, starts_of-more}
 use Rattle.nm_persist.proofs.Tracking.{Follows, cmd, is_pending}
 use Rattle.nm_persist.proofs.Described.{kind_stays}
+use Rattle.nm_persist.proofs.ReadyLemmas.{IsReady}
 use Rattle.nm_types.proofs.ListLemmas.{all_append, all_along}
 use Rattle.nm_types.proofs.TruthLemmas.{and_left, and_right}
 
@@ -75,7 +76,7 @@ lt_true a b is = grind (arith, nat_tests)
 
 pub fine_line : (ranks : ℕ) (lines before : List PlanLine) (line : PlanLine) (after : List PlanLine) →
     lines ≡ before ++ line ∷ after →
-    AreFine ranks lines → IsFine ranks before line
+    AreFine ranks lines → IsReady ranks before line
 fine_line ranks lines before line after split fine =
     let test : PlanLine → Bool = λ (line : PlanLine). nat_lt line.rank ranks && is_in_range ranks line.command in
     let all : list_all test (before ++ line ∷ after) ≡ true = subst (λ (ls : List PlanLine). list_all test ls ≡ true)
@@ -96,7 +97,7 @@ abbrev StartsAre : Owner → List PlanLine → Type 0
 StartsAre owner lines = AllByRecursion (λ (r : Request). kind_of owner lines ≡ Some (kind_by owner.rank r))
     (starts_of lines owner)
 
-starts_more : (ranks : ℕ) (owner : Owner) (before : List PlanLine) (line : PlanLine) → IsFine ranks before line →
+starts_more : (ranks : ℕ) (owner : Owner) (before : List PlanLine) (line : PlanLine) → IsReady ranks before line →
     StartsAre owner before →
     StartsAre owner (before ++ line ∷ [])
 starts_more ranks owner before line fine all =

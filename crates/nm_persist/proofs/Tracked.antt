@@ -24,7 +24,7 @@ use Rattle.nm_plans.specs.PlanRequests.{IsSmall, is_about, owner_of, part_count,
 use Rattle.nm_plans.specs.States.{allows}
 use Rattle.nm_plans.proofs.RequestLemmas.{expand-more, request_at-more}
 use Rattle.nm_persist.specs.Table.{are_sound, fault_in, has_other_parts, is_out_of_order, is_past, is_taken}
-use Rattle.nm_persist.proofs.ReadyLemmas.{requests_small}
+use Rattle.nm_persist.proofs.ReadyLemmas.{IsReady, requests_small}
 use Rattle.nm_persist.specs.Names.{are_apart}
 use Rattle.nm_persist.specs.Starts.{is_start, starts_behind, starts_it, starts_of}
 use Rattle.nm_persist.proofs.Items.{is_of, items_are, part_in}
@@ -68,13 +68,6 @@ own-more rank lines line =
     ∙ ap (λ (cs : List Command). own_commands rank (expand lines) ++ cs)
     (own_block rank line.rank (commands_of line.command (request_at lines (owner_of line))))
 
--- a line of a plan in order and in range, behind lines in range
-pub record IsFine (ranks : ℕ) (before : List PlanLine) (line : PlanLine) : Type 0 where
-  pub before_in_range : list_all (λ line. nat_lt line.rank ranks && is_in_range ranks line.command) before ≡ true
-  pub own : line.rank < ranks
-  pub range : is_in_range ranks line.command ≡ true
-  pub sound : fault_in ranks before line ≡ None
-
 -- what holds of no lines, and of a fine line more, holds of sound lines
 lt_true : (a b : ℕ) → nat_lt a b ≡ true → a < b
 lt_true a b is = grind (arith, nat_tests)
@@ -87,7 +80,7 @@ all-push test (y ∷ xs) x all one =
     ∙ all-push test xs x (and_right (test y) (list_all test xs) all) one
 
 pub each_line : (ranks : ℕ) (P : List PlanLine → Type 0) →
-    ((before : List PlanLine) (line : PlanLine) → IsFine ranks before line → P before → P (before ++ line ∷ [])) →
+    ((before : List PlanLine) (line : PlanLine) → IsReady ranks before line → P before → P (before ++ line ∷ [])) →
     (before lines : List PlanLine) → list_all (λ line. nat_lt line.rank ranks && is_in_range ranks line.command)
     before ≡ true →
     list_all (λ line. nat_lt line.rank ranks && is_in_range ranks line.command) lines ≡ true →
@@ -96,7 +89,7 @@ pub each_line : (ranks : ℕ) (P : List PlanLine → Type 0) →
 each_line ranks P step before [] front range sound holds = subst P (sym (append-nil before)) holds
 each_line ranks P step before (line ∷ lines) front range sound holds =
     let here = and_left (nat_lt line.rank ranks && is_in_range ranks line.command) _ range in
-    let fine : IsFine ranks before line = record {
+    let fine : IsReady ranks before line = record {
       before_in_range = front;
       own = lt_true line.rank ranks (and_left (nat_lt line.rank ranks) (is_in_range ranks line.command) here);
       range = and_right (nat_lt line.rank ranks) (is_in_range ranks line.command) here;
@@ -121,7 +114,7 @@ not_taken false true c d none = absurd (grind (arith, none))
 not_taken false false true d none = absurd (grind (arith, none))
 not_taken false false false d none = (refl, refl, refl)
 
-pub faultless : (ranks : ℕ) (before : List PlanLine) (line : PlanLine) → IsFine ranks before line →
+pub faultless : (ranks : ℕ) (before : List PlanLine) (line : PlanLine) → IsReady ranks before line →
     (is_taken before line ≡ false) × (has_other_parts before line ≡ false) × (is_out_of_order before line ≡ false)
 faultless ranks before line fine =
     not_taken (is_taken before line) (has_other_parts before line) (is_out_of_order before line)
@@ -153,14 +146,14 @@ in_order_by rank (Ready p k) (Some r) ended taken order = (refl, unnot (allows (
 in_order_by rank (Arrived p k) (Some r) ended taken order = (refl, unnot (allows (Arrived p k) r) order)
 in_order_by rank (Wait p) (Some r) ended taken order = (refl, unnot (allows (Wait p) r) order)
 
-pub in_order : (ranks : ℕ) (before : List PlanLine) (line : PlanLine) → IsFine ranks before line →
+pub in_order : (ranks : ℕ) (before : List PlanLine) (line : PlanLine) → IsReady ranks before line →
     InOrder line.command (request_at before (owner_of line))
 in_order ranks before line fine =
     let none = faultless ranks before line fine in
     in_order_by line.rank line.command (request_at before (owner_of line)) (λ e. is_some (parts_at before e)) none.0
     none.2
 
-pub few_parts : (ranks : ℕ) (before : List PlanLine) (line : PlanLine) (owner : Owner) → IsFine ranks before line →
+pub few_parts : (ranks : ℕ) (before : List PlanLine) (line : PlanLine) (owner : Owner) → IsReady ranks before line →
     IfSome (request_at before owner) (λ r. part_count r ≤ 16)
 few_parts ranks before line owner fine = by_request (request_at before owner)
     (requests_small ranks before owner fine.before_in_range)
@@ -192,7 +185,7 @@ abbrev pub named : Owner → ℕ → List PlanLine → List Command
 named owner k lines = filter (is_of (name_of owner.p k)) (own_commands owner.rank (expand lines))
 
 pub named-more : (ranks : ℕ) (owner : Owner) (k : ℕ) (before : List PlanLine) (line : PlanLine) → k < 16 →
-    IsFine ranks before line →
+    IsReady ranks before line →
     named owner k (before ++ line ∷ [])
     ≡ named owner k before ++ cond (is_about owner line) (item_of owner.p k line.command (request_at before owner)) []
 named-more ranks owner k before line low fine =
@@ -237,7 +230,7 @@ unfolding request_at expand
 tracks_none owner k = record { apart = refl; follows = (refl, refl, refl) }
 
 tracks_more : (ranks : ℕ) (owner : Owner) (k : ℕ) → k < 16 → (before : List PlanLine) (line : PlanLine) →
-    IsFine ranks before line →
+    IsReady ranks before line →
     Tracks owner k before → Tracks owner k (before ++ line ∷ [])
 tracks_more ranks owner k low before line fine tracks = by_about (is_about owner line) refl
   where

@@ -50,9 +50,10 @@ use Rattle.nm_persist.proofs.Quiet.{NamedRun}
 use Rattle.nm_persist.proofs.Received.{body_joined, shows_joined}
 use Rattle.nm_persist.proofs.States.{State, owns, starts_for}
 use Rattle.nm_persist.proofs.Taking.{Shows, Takes}
-use Rattle.nm_persist.proofs.Tracked.{AreFine, IsFine, each_line, in_order, named, starts_of-more, tracked}
+use Rattle.nm_persist.proofs.Tracked.{AreFine, each_line, in_order, named, starts_of-more, tracked}
 use Rattle.nm_persist.proofs.Tracking.{Follows, FollowsFrom, InOrder, is_pending}
 use Rattle.nm_persist.proofs.Walk.{receive_is, shut_from}
+use Rattle.nm_persist.proofs.ReadyLemmas.{IsReady}
 use Rattle.nm_types.proofs.ListLemmas.{get_before}
 use Rattle.nm_types.proofs.OptionLemmas.{same_some}
 use Rattle.nm_types.proofs.TruthLemmas.{and_left, and_right}
@@ -87,7 +88,7 @@ some_parts_in ranks rank (Wait p) e range ended = absurd (grind (arith, ended))
 abbrev HaveParts : List PlanLine → Type 0
 HaveParts lines = (owner : Owner) (k : Kind) → kind_of owner lines ≡ Some k → 0 < k.parts
 
-have_more : (ranks : ℕ) (before : List PlanLine) (line : PlanLine) → IsFine ranks before line → HaveParts before →
+have_more : (ranks : ℕ) (before : List PlanLine) (line : PlanLine) → IsReady ranks before line → HaveParts before →
     HaveParts (before ++ line ∷ [])
 have_more ranks before line fine have owner k is = by_making (making ranks owner before line fine)
   where
