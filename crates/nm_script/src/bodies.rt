@@ -7,7 +7,7 @@ ghost use Rattle.nm_script.specs.Bodies.{body_of, generated_of, hex_of};
 use crate::faults::{Kind, LineFault};
 use crate::words::{are_lower_digits, number};
 use hex::FromHexError;
-use nm_types::{Body, Bytes, MAX_BODY};
+use nm_types::{Body, BoxedBytes, Bytes, MAX_BODY};
 use std::alloc::Global;
 
 /// The body that hex digits spell, of the length that a body may have.
@@ -19,7 +19,10 @@ fn hex_from(alloc: Global, digits: &[u8]) -> Result<Body, LineFault<Kind>>
         return Err(LineFault::Bad(Kind::Body));
     }
     match hex::decode(alloc, digits) {
-        Ok(bytes) => Ok(Body::Hex(Bytes::from_vec(bytes))),
+        Ok(bytes) => match BoxedBytes::of(alloc, Bytes::from_vec(bytes)) {
+            Ok(bytes) => Ok(Body::Hex(bytes)),
+            Err(_) => Err(LineFault::Memory),
+        },
         Err(FromHexError::OutOfMemory) => Err(LineFault::Memory),
         Err(_) => Err(LineFault::Bad(Kind::Body)),
     }

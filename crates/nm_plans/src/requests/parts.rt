@@ -7,7 +7,7 @@ ghost use Rattle.nm_plans.specs.Expansion.{part_start as part_start_lem};
 ghost use Rattle.nm_plans.specs.Expansion.{part_body as part_body_lem};
 
 use nm_types::laws::bodies_have_their_length;
-use nm_types::{Body, Bytes, Memory};
+use nm_types::{Body, BoxedBytes, Bytes, Memory};
 use std::alloc::Global;
 
 /// Where part k of so many begins, in a body of this length.
@@ -44,6 +44,9 @@ pub fn part_body(alloc: Global, parts: Option<u8>, k: u8, body: &Body) -> Result
 {
     match parts {
         None => body.copy(),
-        Some(parts) => Ok(Body::Hex(part_of(alloc, parts, k, body)?)),
+        Some(parts) => {
+            let part = part_of(alloc, parts, k, body)?;
+            Ok(Body::Hex(BoxedBytes::of(alloc, part)?))
+        }
     }
 }

@@ -6,7 +6,7 @@ ghost use Rattle.nm_types.specs.Bodies.{body_len};
 
 use nm_multi::{Call, CallLog, Desk, Entry, Reply};
 use nm_rank::{Cancelled, Req, State};
-use nm_types::{Answer, Body, Bytes, Memory, Shape};
+use nm_types::{Answer, Body, BoxedBytes, Bytes, Memory, Shape};
 use std::alloc::Global;
 use std::test::Fail;
 
@@ -16,7 +16,7 @@ fn body_of(alloc: Global, byte: u8) -> Result<Body, Memory>
 {
     let mut bytes = Bytes::new(alloc);
     bytes.push(byte)?;
-    Ok(Body::Hex(bytes))
+    Ok(Body::Hex(BoxedBytes::of(alloc, bytes)?))
 }
 
 // The request that the call at this place of the log started, if it started one.
