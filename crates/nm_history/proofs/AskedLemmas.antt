@@ -28,7 +28,7 @@ asked_sends (e ∷ h) to n = by_what e.what (asked_sends h to n) where
           how = how;
           line =
               line;
-        } ∷ sends h to) (sends h to)) ≡ ((b && (n' == n && is_ask how)) || happened (is_asked_send to n) h)
+        } ∷ sends h to) (sends h to)) ≡ ((b && n' == n && is_ask how) || happened (is_asked_send to n) h)
     by_to true same = ap (λ (b : Bool). (n' == n && is_ask how) || b) same
     by_to false same = same
   by_what w same = same
