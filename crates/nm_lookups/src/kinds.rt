@@ -8,7 +8,7 @@ use nm_types::How;
 pub struct Sends;
 
 impl Kind for Sends {
-    ghost use Rattle.nm_history.specs.Happens.{is_asked_send, is_send};
+    ghost use Rattle.nm_history.specs.Happens.{is_send};
 
     ghost is_of = { is_send };
 
@@ -258,6 +258,8 @@ impl Numbering for LineClaims {
 pub struct AskedSends;
 
 impl Kind for AskedSends {
+    ghost use Rattle.nm_history.specs.Happens.{is_asked_send};
+
     ghost is_of = { is_asked_send };
 
     fn message(what: &Happened) -> Option<Message> {
