@@ -1,4 +1,7 @@
 -- The grants of one sender, of which the first unfinished stands at a known place.
+use Rattle.std.proofs.Common.{◌<◌, ◌≤◌, [], Bool, cond, get_or}
+use Rattle.std.proofs.lemmas.List.{get_or_default}
+use Rattle.std.proofs.lemmas.List.Sums.{get_or-le-sum_by, sum_by-le}
 use Rattle.std.proofs.Common.{◌≡◌, ℕ, true, false, List, slice_get, Option, Some, None, refl, sym}
 use Rattle.std.proofs.Common.{ap, ◌∙◌, subst, nat_eq, nat_lt, arith, length, IsNone, ◌↔◌}
 use Rattle.std.proofs.lemmas.Bool.Decides.{nat_tests}
@@ -6,11 +9,12 @@ use Rattle.std.proofs.lemmas.Map.Entries.{lookup_from_place}
 use Rattle.std.specs.Cmp.{nat_eq_equiv}
 use Rattle.std.specs.List.{position_or_len, IsDistinct}
 use Rattle.std.specs.Map.{keys_of, lookup}
-use Rattle.std.specs.Option.{option_map, option_map_or}
+use Rattle.std.proofs.lemmas.Option.{slice_get_within}
+use Rattle.std.specs.Option.{is_some, option_map, option_map_or}
 use Rattle.nm_rndv.specs.Grants.{Granted, came, is_open, is_whole, is_unfinished, expected_in}
-use Rattle.nm_rndv.specs.Grants.{due_in}
+use Rattle.nm_rndv.specs.Grants.{count_unfinished, due_in, has_unfinished}
 use Rattle.nm_rndv.specs.Grants.{due_of, first_unfinished, AllWhole}
-use Rattle.nm_rndv.proofs.Places.{passes_there, find-first, none_found, found_none}
+use Rattle.nm_rndv.proofs.Places.{passes_there, find-first, none_found, found_none, none_within}
 
 -- a whole message is not open
 pub closed_whole : (g : Granted) → is_whole g ≡ true → is_open g ≡ false
@@ -39,7 +43,57 @@ none_expected es = (there, back)
     back : AllWhole es → IsNone (expected_in es)
     back whole = mapped (first_unfinished es) (found_none is_unfinished es whole)
 
+-- none is unfinished exactly where every grant is whole
+pub none_unfinished : (es : List (ℕ × Granted)) → (has_unfinished es ≡ false) ↔ AllWhole es
+none_unfinished es = (there, back)
+  where
+    nothing : (o : Option (ℕ × Granted)) → is_some o ≡ false → IsNone o
+    nothing None h = refl
+    nothing (Some e) h = absurd cc
+
+    no_some : (o : Option (ℕ × Granted)) → IsNone o → is_some o ≡ false
+    no_some None h = refl
+    no_some (Some e) h = absurd cc
+
+    there : has_unfinished es ≡ false → AllWhole es
+    there none = none_found is_unfinished es (nothing (first_unfinished es) none)
+
+    back : AllWhole es → has_unfinished es ≡ false
+    back whole = no_some (first_unfinished es) (found_none is_unfinished es whole)
+
+-- the count is 0 exactly where no sender has an unfinished grant
+pub none_counted : (rows : List (List (ℕ × Granted))) → (count_unfinished rows ≡ 0)
+    ↔ ((from : ℕ) → from < length rows → AllWhole (get_or rows from []))
+none_counted rows = (there, back)
+  where
+    one : List (ℕ × Granted) → ℕ
+    one row = cond (has_unfinished row) 1 0
+
+    closed : (b : Bool) → cond b 1 0 ≤ 0 → b ≡ false
+    closed true h = absurd (omega arith)
+    closed false h = refl
+
+    there : count_unfinished rows ≡ 0 → (from : ℕ) → from < length rows → AllWhole (get_or rows from [])
+    there none from within = (none_unfinished (get_or rows from [])).0 (closed (has_unfinished (get_or rows from []))
+        (omega (arith, none, get_or-le-sum_by one rows from [] within)))
+
+    back : ((from : ℕ) → from < length rows → AllWhole (get_or rows from [])) → count_unfinished rows ≡ 0
+    back whole = omega (
+      arith,
+      sum_by-le one 0 rows (λ k d within. subst (λ row. one row ≤ 0)
+          (get_or_default rows k [] d within)
+          (rw ((none_unfinished (get_or rows k [])).1 (whole k within)) (omega arith))),
+    )
+
 module _ (es : List (ℕ × Granted)) (i : ℕ) (first : i ≡ position_or_len is_unfinished es) where
+  -- one is unfinished exactly where one stands there
+  pub unfinished_there : nat_lt i (length es) ≡ has_unfinished es
+  unfinished_there = by (slice_get es i) refl ∙ ap is_some (sym (find-first is_unfinished es i first))
+    where
+      by : (o : Option (ℕ × Granted)) → slice_get es i ≡ o → nat_lt i (length es) ≡ is_some o
+      by None at = let past = none_within es i at in grind (arith, nat_tests)
+      by (Some e) at = let within = slice_get_within es i e at in grind (arith, nat_tests)
+
   -- none is expected where none stands there
   pub expected_in-none : slice_get es i ≡ None → expected_in es ≡ None
   expected_in-none at =

@@ -21,7 +21,8 @@ is_none : {X : Type 0} (o : Option X) → IsNone o → o ≡ None
 is_none None h = refl
 is_none (Some x) h = absurd (true≢false h)
 
-none_within : {X : Type 0} (xs : List X) (i : ℕ) → slice_get xs i ≡ None → i < length xs → ⊥
+-- where nothing stands there is no place
+pub none_within : {X : Type 0} (xs : List X) (i : ℕ) → slice_get xs i ≡ None → i < length xs → ⊥
 none_within [] i h lt = omega arith
 none_within (x ∷ xs) i h lt = let e = sym h ∙ slice_get-get_or (x ∷ xs) i x lt in cc
 

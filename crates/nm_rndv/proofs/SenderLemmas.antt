@@ -1,15 +1,16 @@
 -- One sender among all, before and after it changed.
 use Rattle.std.proofs.Common.{◌≡◌, ℕ, ◌<◌, List, [], length, get_or, set, map, All, sym, ap, ◌∙◌}
-use Rattle.std.proofs.Common.{subst}
+use Rattle.std.proofs.Common.{cond, subst, sum_by}
 use Rattle.std.proofs.Common.{arith, ◌+◌, ◌≤◌, ◌≢◌, ◌⊎◌, inl, inr, Option, Some, None}
 use Rattle.std.proofs.lemmas.Bool.{cases_lt}
 use Rattle.std.proofs.lemmas.List.{map-set, get_or-map, length-map, get_or-set_other}
 use Rattle.std.proofs.lemmas.List.{get_or-set_same, get_or_past}
+use Rattle.std.proofs.lemmas.List.Sums.{count_by-le-length, get_or-le-sum_by, sum_by-set}
 use Rattle.std.proofs.Math.Seq.{map-set_same}
 use Rattle.nm_types.specs.declared.packets.Piece.{Piece}
 use Rattle.nm_rndv.specs.Grants.{Granted, FromSender, Granting, seen, grants_from, IsReady}
 use Rattle.nm_rndv.specs.Grants.{Continues}
-use Rattle.nm_rndv.specs.Grants.{expected_in}
+use Rattle.nm_rndv.specs.Grants.{count_unfinished, expected_in, has_unfinished}
 
 module _ (ss : List FromSender) (v : Granting) (i : ℕ) (view : seen ss ≡ v) (within : i < length v.grants) where
   -- the place is one of the senders
@@ -36,6 +37,18 @@ module _ (ss : List FromSender) (v : Granting) (i : ℕ) (view : seen ss ≡ v) 
         ∙ length-map ss (λ (x : FromSender). x.spare) in
         subst (λ n. 0 < n) there (ready i 0 (let lt : i < length v.spare = omega (arith, sender_within) in lt))
 
+    -- it is counted where it has an unfinished grant
+    pub counted_there : cond (has_unfinished s.grants) 1 0 ≤ count_unfinished (map (λ x. x.grants) ss)
+    counted_there =
+        let one : List (ℕ × Granted) → ℕ = λ row. cond (has_unfinished row) 1 0 in
+        let rows = map (λ (x : FromSender). x.grants) ss in
+        let here = get_or-map (λ (x : FromSender). x.grants) ss i s [] sender_within
+        ∙ ap (λ (x : FromSender). x.grants) (sym at) in
+        let within : i < length rows = omega
+        (arith, sender_within, length-map ss (λ (x : FromSender). x.grants)) in
+        subst (λ (row : List (ℕ × Granted)). one row ≤ sum_by one rows) here
+        (get_or-le-sum_by one rows i [] within)
+
     module _ (y : FromSender) where
       -- after a change with other grants, these are seen in their place
       pub grants-set : (gs : List (ℕ × Granted)) → y.grants ≡ gs → map (λ x. x.grants) (set ss i y) ≡ set v.grants i gs
@@ -49,12 +62,41 @@ module _ (ss : List FromSender) (v : Granting) (i : ℕ) (view : seen ss ≡ v) 
           map-set_same (λ (x : FromSender). x.grants) ss i y s (same ∙ ap (λ (x : FromSender). x.grants) at)
           ∙ ap (λ (w : Granting). w.grants) view
 
+      -- the count of those with an unfinished grant, after this one changed
+      pub count-set : count_unfinished (map (λ x. x.grants) (set ss i y)) + cond (has_unfinished s.grants) 1 0
+          ≡ count_unfinished (map (λ x. x.grants) ss) + cond (has_unfinished y.grants) 1 0
+      count-set =
+          let one : List (ℕ × Granted) → ℕ = λ row. cond (has_unfinished row) 1 0 in
+          let rows = map (λ (x : FromSender). x.grants) ss in
+          let here = get_or-map (λ (x : FromSender). x.grants) ss i s [] sender_within
+          ∙ ap (λ (x : FromSender). x.grants) (sym at) in
+          let within : i < length rows = omega
+          (arith, sender_within, length-map ss (λ (x : FromSender). x.grants)) in
+          ap (λ (all : List (List (ℕ × Granted))). sum_by one all + one s.grants)
+          (map-set (λ (x : FromSender). x.grants) ss i y)
+          ∙ ap (λ (row : List (ℕ × Granted)). sum_by one (set rows i y.grants) + one row) (sym here)
+          ∙ sum_by-set one rows i y.grants [] within
+
+      -- after a change with the same grants, that count is the same
+      pub count-set_same : y.grants ≡ s.grants → count_unfinished (map (λ x. x.grants) (set ss i y))
+          ≡ count_unfinished (map (λ x. x.grants) ss)
+      count-set_same same = ap count_unfinished (map-set_same (λ (x : FromSender). x.grants) ss i y s
+          (same ∙ ap (λ (x : FromSender). x.grants) at))
+
       -- after a change with the same room, all have room as before
       pub ready-set : y.spare ≡ s.spare → IsReady v → All (λ n. 0 < n) (map (λ x. x.spare) (set ss i y))
       ready-set same ready =
           let as_before = map-set_same (λ (x : FromSender). x.spare) ss i y s
           (same ∙ ap (λ (x : FromSender). x.spare) at) ∙ ap (λ (w : Granting). w.spare) view in
           subst (λ ns. All (λ n. 0 < n) ns) (sym as_before) ready
+
+-- so many senders are counted at most
+pub counted_within : (ss : List FromSender) → count_unfinished (map (λ x. x.grants) ss) ≤ length ss
+counted_within ss = omega (
+  arith,
+  count_by-le-length has_unfinished (map (λ (x : FromSender). x.grants) ss),
+  length-map ss (λ (x : FromSender). x.grants),
+)
 
 -- the senders up to a place have room, and so has the one that is written there
 pub room_more : (ss : List FromSender) (i : ℕ) (y : FromSender) → i < length ss → 0 < y.spare →

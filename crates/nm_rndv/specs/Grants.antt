@@ -1,9 +1,9 @@
 -- Messages that their receiver has cleared to be sent, and what came of them.
 -- MPI 3.1, 3.4 (synchronous mode) and 3.7.3 (completion of a receive).
 use Rattle.std.specs.Prelude.{◌≡◌, ℕ, ◌-◌, ◌<◌, ◌==◌, Bool, false, nat_eq, nat_lt, length}
-use Rattle.std.specs.Prelude.{if◌then◌else◌, List, [], ◌++◌, find, slice_index_or}
+use Rattle.std.specs.Prelude.{if◌then◌else◌, List, [], ◌++◌, count_by, find, slice_index_or}
 use Rattle.std.specs.Prelude.{Option, Some, None, All, map}
-use Rattle.std.specs.Option.{option_map, option_map_or}
+use Rattle.std.specs.Option.{is_some, option_map, option_map_or}
 use Rattle.std.specs.Map.{lookup, set_value}
 use Rattle.nm_types.specs.declared.packets.Piece.{Piece}
 use Rattle.nm_types.specs.declared.packets.Joined.{Joined}
@@ -66,6 +66,14 @@ is_unfinished e = is_open e.1
 -- the first unfinished grant, with its message's number
 abbrev pub first_unfinished : List (ℕ × Granted) → Option (ℕ × Granted)
 first_unfinished grants = find is_unfinished grants
+
+-- a grant of the sender is unfinished
+abbrev pub has_unfinished : List (ℕ × Granted) → Bool
+has_unfinished grants = is_some (first_unfinished grants)
+
+-- how many senders have an unfinished grant
+abbrev pub count_unfinished : List (List (ℕ × Granted)) → ℕ
+count_unfinished rows = count_by has_unfinished rows
 
 -- the grant of message n
 abbrev pub grant_in : List (ℕ × Granted) → ℕ → Option Granted

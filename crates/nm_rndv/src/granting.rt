@@ -1,6 +1,7 @@
 //! The receiver's side: what was granted to all senders.
 
-ghost use Rattle.std.specs.Prelude.{◌≡◌, ◌<◌, ◌++◌, [], ◌∷◌, ◌↔◌, true, Some, None, All};
+ghost use Rattle.std.specs.Prelude.{◌≡◌, ◌+◌, ◌^◌, ◌<◌, ◌≤◌, ◌++◌, [], ◌∷◌, ◌↔◌, ℕ, true, false, Some, None};
+ghost use Rattle.std.specs.Prelude.{if◌then◌else◌, All};
 ghost use Rattle.std.specs.Prelude.{length, slice_set, replicate, IsOk, IsNone, IsTrue, IfOk, OnOk};
 ghost use Rattle.std.specs.Prelude.{OnErr};
 ghost use Rattle.std.specs.Option.{option_and_then};
@@ -17,20 +18,38 @@ use std::marker::Model;
 /// The messages that a receiver has cleared to be sent, for all senders.
 pub struct Grants {
     senders: Vec<Sender>,
+    // How many senders have an unfinished grant, so that none is asked where there is none.
+    unfinished: usize,
 }
 
 impl Drop for Grants {
     fn drop(self) {
-        let Grants { senders: _ } = self;
+        let Grants {
+            senders: _,
+            unfinished: _,
+        } = self;
     }
 }
 
 impl Model for Grants {
-    ghost use Rattle.nm_rndv.specs.Grants.{Granting, seen};
+    ghost use Rattle.std.specs.Prelude.{◌≡◌};
+    ghost use Rattle.nm_rndv.specs.Grants.{Granting, count_unfinished, seen};
 
     ghost Value = { Granting };
 
     ghost view = { λ a. seen a.senders.items };
+
+    ghost invariant = { λ a. a.unfinished ≡ count_unfinished (seen a.senders.items).grants };
+}
+
+/// How many senders have an unfinished grant after one of them changed: whether it had one, and
+/// whether it has one.
+fn recounted(count: usize, had: bool, has: bool) -> usize
+    requires low { (if had then 1 else 0) ≤ count }
+    requires high { count < 2 ^ 63 }
+    ensures { result + (if had then 1 else 0) ≡ count + (if has then 1 else 0) }
+{
+    count + usize::from(has) - usize::from(had)
 }
 
 impl Grants {
@@ -42,7 +61,10 @@ impl Grants {
         for _rank in 0..ranks {
             senders.push(Sender::new(alloc))?;
         }
-        Ok(Grants { senders })
+        Ok(Grants {
+            senders,
+            unfinished: 0,
+        })
     }
 
     /// Makes room for one grant more, of whichever sender. No grant changes.
@@ -67,7 +89,20 @@ impl Grants {
         ensures err { OnErr result (self.new.grants ≡ self.old.grants) }
         ensures succeeds { IsReady self.old → IsOk result }
     {
-        self.senders[from as usize].grant(n, len)
+        let sender = &mut self.senders[from as usize];
+        let had = sender.has_unfinished();
+        let whole = sender.grant(n, len);
+        let has = sender.has_unfinished();
+        self.unfinished = recounted(self.unfinished, had, has);
+        whole
+    }
+
+    /// Whether a grant of any sender is not whole, so that a piece is due.
+    pub fn is_any_due(&self) -> bool
+        ensures { (result ≡ false) ↔ ((from : ℕ) → from < length self.now.grants →
+            AllWhole (grants_from self.now from)) }
+    {
+        self.unfinished > 0
     }
 
     /// Whether the message was granted and bytes of it are still to come.
@@ -131,7 +166,10 @@ impl Grants {
     {
         let sender = &mut self.senders[p.from as usize];
         let due = sender.due();
+        let had = sender.has_unfinished();
         sender.add(p)?;
+        let has = sender.has_unfinished();
+        self.unfinished = recounted(self.unfinished, had, has);
         if p.bytes.as_slice().len() == due as usize {
             Ok(Joined::Whole)
         } else if p.at == 0 {

@@ -7,6 +7,7 @@ ghost use Rattle.std.specs.Option.{option_map, option_map_or, option_and_then};
 ghost use Rattle.indexmap.specs.IndexMap.{spare};
 ghost use Rattle.nm_rndv.specs.Grants.{fresh, is_unfinished, grant_in, is_open_in, is_whole_in};
 ghost use Rattle.nm_rndv.specs.Grants.{expected_in, due_in, taken_in, with_piece};
+ghost use Rattle.nm_rndv.specs.Grants.{has_unfinished as has_unfinished_lem};
 
 use crate::granted::Grant;
 use indexmap::IndexMap;
@@ -102,6 +103,13 @@ impl Sender {
         Ok(len == 0)
     }
 
+    /// Whether a grant is not whole.
+    pub fn has_unfinished(&self) -> bool
+        ensures { result ≡ has_unfinished_lem self.now.grants }
+    {
+        self.first_open < self.grants.len()
+    }
+
     /// Whether the message was granted and is not whole.
     pub fn is_open(&self, n: u64) -> bool
         ensures { result ≡ is_open_in self.now.grants n }
@@ -152,6 +160,8 @@ impl Sender {
         requires { is_whole_in self.old.grants n ≡ true }
         ensures bytes { option_and_then (λ g. g.bytes) (grant_in self.old.grants n) ≡ Some result }
         ensures gone { self.new.grants ≡ taken_in self.old.grants n }
+        ensures unfinished { has_unfinished_lem self.new.grants
+            ≡ has_unfinished_lem self.old.grants }
         ensures room { self.new.spare ≡ self.old.spare }
     {
         self.grants.get_mut(&n).unwrap().take()

@@ -1,6 +1,6 @@
-use Rattle.std.proofs.Common.{◌<◌, ◌∙◌, ap, arith, length, length-set}
+use Rattle.std.proofs.Common.{◌<◌, ◌∙◌, sym, ap, arith, length, length-set}
 use Rattle.std.proofs.Math.Seq.{map-set_same}
-use Rattle.nm_rndv.specs.Grants.{FromSender}
+use Rattle.nm_rndv.specs.Grants.{FromSender, count_unfinished}
 use Rattle.nm_rndv.proofs.SenderLemmas.{room_more, room_all}
 use Rattle.nm_rndv.proofs.granting.Grants.reserve.Goals as goal
 
@@ -11,15 +11,23 @@ returns-in_err-reserve-clause-same c =
     (c.reserve.ensures.same ∙ ap (λ (s : FromSender). s.grants) c.index_mut.ensures.value)
     ∙ c.loop-from.invariant.1
 
+pub invariant_of-self-in_err-reserve : goal.invariant_of-self-in_err-reserve
+invariant_of-self-in_err-reserve c =
+    let ss = c.loop-from.self-inside.senders.items in
+    c.loop-from.invariant.3 ∙ sym (ap count_unfinished
+    (map-set_same (λ (s : FromSender). s.grants) ss c.loop-from.from c.reserve.new.self c.index_mut.result.now
+    (c.reserve.ensures.same ∙ ap (λ (s : FromSender). s.grants) c.index_mut.ensures.value)))
+
 pub loop-from-preserved : goal.loop-from-preserved
 loop-from-preserved c =
     let ss = c.loop-from.self-inside.senders.items in
-    let within : c.loop-from.from < length ss = omega arith in (
+    let within : c.loop-from.from < length ss = omega arith in
+    let same = map-set_same (λ (s : FromSender). s.grants) ss c.loop-from.from c.reserve.new.self c.index_mut.result.now
+    (c.reserve.ensures.same ∙ ap (λ (s : FromSender). s.grants) c.index_mut.ensures.value) in (
       length-set ss c.loop-from.from c.reserve.new.self ∙ c.loop-from.invariant.0,
-      map-set_same (λ (s : FromSender). s.grants) ss c.loop-from.from c.reserve.new.self c.index_mut.result.now
-          (c.reserve.ensures.same ∙ ap (λ (s : FromSender). s.grants) c.index_mut.ensures.value)
-          ∙ c.loop-from.invariant.1,
+      same ∙ c.loop-from.invariant.1,
       room_more ss c.loop-from.from c.reserve.new.self within c.in_ok-reserve.ensures.room c.loop-from.invariant.2,
+      c.loop-from.invariant.3 ∙ sym (ap count_unfinished same),
     )
 
 pub returns-clause-ready : goal.returns-clause-ready
