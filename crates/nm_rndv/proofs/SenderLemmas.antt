@@ -1,6 +1,6 @@
 -- One sender among all, before and after it changed.
 use Rattle.std.proofs.Common.{◌≡◌, ℕ, ◌<◌, List, [], length, get_or, set, map, All, sym, ap, ◌∙◌}
-use Rattle.std.proofs.Common.{cond, subst, sum_by}
+use Rattle.std.proofs.Common.{cond, length-set, subst, sum_by}
 use Rattle.std.proofs.Common.{arith, ◌+◌, ◌≤◌, ◌≢◌, ◌⊎◌, inl, inr, Option, Some, None}
 use Rattle.std.proofs.lemmas.Bool.{cases_lt}
 use Rattle.std.proofs.lemmas.List.{map-set, get_or-map, length-map, get_or-set_other}
@@ -8,7 +8,7 @@ use Rattle.std.proofs.lemmas.List.{get_or-set_same, get_or_past}
 use Rattle.std.proofs.lemmas.List.Sums.{count_by-le-length, get_or-le-sum_by, sum_by-set}
 use Rattle.std.proofs.Math.Seq.{map-set_same}
 use Rattle.nm_types.specs.declared.packets.Piece.{Piece}
-use Rattle.nm_rndv.specs.Grants.{Granted, FromSender, Granting, seen, grants_from, IsReady}
+use Rattle.nm_rndv.specs.Grants.{Granted, FromSender, Granting, seen, grants_from, IsReady, IsReadyFor}
 use Rattle.nm_rndv.specs.Grants.{Continues}
 use Rattle.nm_rndv.specs.Grants.{count_unfinished, expected_in, has_unfinished}
 
@@ -27,15 +27,24 @@ module _ (ss : List FromSender) (v : Granting) (i : ℕ) (view : seen ss ≡ v) 
         ap (λ (x : FromSender). x.grants) at ∙ sym (get_or-map
         (λ (x : FromSender). x.grants) ss i s [] sender_within) ∙ ap (λ w. grants_from w i) view
 
+    -- it has the room that is seen of it
+    pub spare_there : get_or v.spare i 0 ≡ s.spare
+    spare_there =
+        ap (λ (w : Granting). get_or w.spare i 0) (sym view)
+        ∙ get_or-map (λ (x : FromSender). x.spare) ss i s 0 sender_within
+        ∙ ap (λ (x : FromSender). x.spare) (sym at)
+
     -- it has room where all have
     pub ready_there : IsReady v → 0 < s.spare
     ready_there ready =
-        let there : get_or v.spare i 0 ≡ s.spare = ap (λ (w : Granting). get_or w.spare i 0) (sym view)
-        ∙ get_or-map (λ (x : FromSender). x.spare) ss i s 0 sender_within
-        ∙ ap (λ (x : FromSender). x.spare) (sym at) in
         let many : length v.spare ≡ length ss = ap (λ (w : Granting). length w.spare) (sym view)
         ∙ length-map ss (λ (x : FromSender). x.spare) in
-        subst (λ n. 0 < n) there (ready i 0 (let lt : i < length v.spare = omega (arith, sender_within) in lt))
+        subst (λ n. 0 < n) spare_there
+        (ready i 0 (let lt : i < length v.spare = omega (arith, sender_within) in lt))
+
+    -- it has room where that is seen of it
+    pub ready_for_there : IsReadyFor v i → 0 < s.spare
+    ready_for_there ready = subst (λ n. 0 < n) spare_there ready
 
     -- it is counted where it has an unfinished grant
     pub counted_there : cond (has_unfinished s.grants) 1 0 ≤ count_unfinished (map (λ x. x.grants) ss)
@@ -83,6 +92,15 @@ module _ (ss : List FromSender) (v : Granting) (i : ℕ) (view : seen ss ≡ v) 
       count-set_same same = ap count_unfinished (map-set_same (λ (x : FromSender). x.grants) ss i y s
           (same ∙ ap (λ (x : FromSender). x.grants) at))
 
+      -- after a change with room, that is seen of it
+      pub ready_for-set : 0 < y.spare → 0 < get_or (map (λ x. x.spare) (set ss i y)) i 0
+      ready_for-set room =
+          let within' : i < length (set ss i y) = omega (arith, sender_within, length-set ss i y) in
+          let there : get_or (map (λ (x : FromSender). x.spare) (set ss i y)) i 0 ≡ y.spare =
+          get_or-map (λ (x : FromSender). x.spare) (set ss i y) i y 0 within'
+          ∙ ap (λ (x : FromSender). x.spare) (get_or-set_same ss i y y sender_within) in
+          subst (λ n. 0 < n) (sym there) room
+
       -- after a change with the same room, all have room as before
       pub ready-set : y.spare ≡ s.spare → IsReady v → All (λ n. 0 < n) (map (λ x. x.spare) (set ss i y))
       ready-set same ready =
@@ -120,6 +138,12 @@ room_all ss each k d lt =
     let within : k < length ss = omega (arith, length-map ss (λ (s : FromSender). s.spare)) in
     let nobody : FromSender = record { grants = []; spare = d } in
     subst (λ n. 0 < n) (sym (get_or-map (λ (s : FromSender). s.spare) ss k nobody d within)) (each k nobody within)
+
+-- each sender has room
+pub room_each : (ss : List FromSender) → ((k : ℕ) (d : FromSender) → k < length ss → 0 < (get_or ss k d).spare) →
+    (k : ℕ) → k < length ss → 0 < get_or (map (λ s. s.spare) ss) k 0
+room_each ss each k lt =
+    room_all ss each k 0 (omega (arith, lt, length-map ss (λ (s : FromSender). s.spare)))
 
 -- a piece that continues is of one of the senders
 pub continues_within : (v : Granting) (p : Piece) → Continues v p → p.from < length v.grants

@@ -126,6 +126,10 @@ is_whole_in grants n = option_map_or is_whole (grant_in grants n) false
 abbrev pub IsReady : Granting → Type 0
 IsReady v = All (λ spare. 0 < spare) v.spare
 
+-- there is room for a grant more of this sender
+abbrev pub IsReadyFor : Granting → ℕ → Type 0
+IsReadyFor v from = 0 < slice_index_or v.spare from 0
+
 -- the piece is the one that its sender has to send next
 pub record Continues (v : Granting) (p : Piece) : Type 0 where
   pub expected : expected_in (grants_from v p.from) ≡ Some (p.n, p.at)

@@ -8,7 +8,7 @@ ghost use Rattle.std.specs.Option.{option_and_then};
 ghost use Rattle.nm_rndv.specs.Grants.{fresh, is_unfinished, grant_in, grants_from, expected_in};
 ghost use Rattle.nm_rndv.specs.Grants.{due_in, is_open_in, is_whole_in, taken_in, with_piece};
 ghost use Rattle.nm_rndv.specs.Pieces.{piece_size};
-ghost use Rattle.nm_rndv.specs.Grants.{joined_by, AllWhole, Continues, IsReady};
+ghost use Rattle.nm_rndv.specs.Grants.{joined_by, AllWhole, Continues, IsReady, IsReadyFor};
 
 use crate::senders::Sender;
 use nm_types::{Bytes, Joined, MAX_PIECE, Memory, Piece};
@@ -70,12 +70,23 @@ impl Grants {
     /// Makes room for one grant more, of whichever sender. No grant changes.
     pub fn reserve(&mut self) -> Result<(), Memory>
         ensures ready { OnOk result (IsReady self.new) }
+        ensures each { OnOk result ((from : ℕ) → from < length self.new.grants
+            → IsReadyFor self.new from) }
         ensures same { self.new.grants ≡ self.old.grants }
     {
         for from in 0..self.senders.len() {
             self.senders[from].reserve()?;
         }
         Ok(())
+    }
+
+    /// Makes room for one grant more of this sender. No grant changes.
+    pub fn reserve_for(&mut self, from: u8) -> Result<(), Memory>
+        requires { from < length self.old.grants }
+        ensures ready { OnOk result (IsReadyFor self.new from) }
+        ensures same { self.new.grants ≡ self.old.grants }
+    {
+        self.senders[from as usize].reserve()
     }
 
     /// Clears message `n` of a sender, of this many bytes, to be sent. The answer is whether it is
@@ -88,6 +99,7 @@ impl Grants {
         ensures empty { IfOk result (λ whole. IsTrue whole ↔ (len ≡ 0)) }
         ensures err { OnErr result (self.new.grants ≡ self.old.grants) }
         ensures succeeds { IsReady self.old → IsOk result }
+        ensures succeeds_for { IsReadyFor self.old from → IsOk result }
     {
         let sender = &mut self.senders[from as usize];
         let had = sender.has_unfinished();

@@ -2,7 +2,7 @@ use Rattle.std.proofs.Common.{ℕ, ◌≡◌, ◌++◌, [], ◌∷◌, cond, ap,
 use Rattle.std.proofs.lemmas.Result.{on_ok_weaker, on_err_weaker}
 use Rattle.nm_rndv.specs.Grants.{fresh, grants_from}
 use Rattle.nm_rndv.proofs.SenderLemmas.{count-set, counted_there, counted_within, grants_there, grants-set, grants-set_same}
-use Rattle.nm_rndv.proofs.SenderLemmas.{ready_there}
+use Rattle.nm_rndv.proofs.SenderLemmas.{ready_for_there, ready_there}
 use Rattle.nm_rndv.proofs.granting.Grants.grant.Goals as goal
 
 pub returns-clause-ok : goal.returns-clause-ok
@@ -26,6 +26,11 @@ returns-clause-err c =
 pub returns-clause-succeeds : goal.returns-clause-succeeds
 returns-clause-succeeds c =
     λ ready. c.grant-whole.ensures.succeeds (ready_there c.self.inside.senders.items c.args.self.now c.args.from
+    c.self.view_is c.requires.in_range c.index_mut-sender.result.now c.index_mut-sender.ensures.value ready)
+
+pub returns-clause-succeeds_for : goal.returns-clause-succeeds_for
+returns-clause-succeeds_for c =
+    λ ready. c.grant-whole.ensures.succeeds (ready_for_there c.self.inside.senders.items c.args.self.now c.args.from
     c.self.view_is c.requires.in_range c.index_mut-sender.result.now c.index_mut-sender.ensures.value ready)
 
 pub recounted-self-inside-requires-clause-low : goal.recounted-self-inside-requires-clause-low

@@ -1,7 +1,8 @@
+use Rattle.std.proofs.lemmas.List.{length-map}
 use Rattle.std.proofs.Common.{◌<◌, ◌∙◌, sym, ap, arith, length, length-set}
 use Rattle.std.proofs.Math.Seq.{map-set_same}
 use Rattle.nm_rndv.specs.Grants.{FromSender, count_unfinished}
-use Rattle.nm_rndv.proofs.SenderLemmas.{room_more, room_all}
+use Rattle.nm_rndv.proofs.SenderLemmas.{room_more, room_all, room_each}
 use Rattle.nm_rndv.proofs.granting.Grants.reserve.Goals as goal
 
 pub returns-in_err-reserve-clause-same : goal.returns-in_err-reserve-clause-same
@@ -34,3 +35,9 @@ pub returns-clause-ready : goal.returns-clause-ready
 returns-clause-ready c =
     let ss = c.loop-from.self-inside.senders.items in
     room_all ss (λ k d lt. c.loop-from.invariant.2 k d (omega arith))
+
+pub returns-clause-each : goal.returns-clause-each
+returns-clause-each c =
+    let ss = c.loop-from.self-inside.senders.items in
+    λ from within. room_each ss (λ k d lt. c.loop-from.invariant.2 k d (omega arith)) from
+    (omega (arith, within, length-map ss (λ (s : FromSender). s.grants)))
