@@ -6,13 +6,13 @@ use Rattle.std.specs.Prelude.{if◌then◌else◌}
 use Rattle.std.specs.List.{All, filter, find, list_any}
 use Rattle.std.specs.Map.{keys_of, lookup}
 use Rattle.std.specs.Option.{option_map_or}
-use Rattle.std.specs.BTreeMap.{BTreeMap}
 use Rattle.std.proofs.lemmas.Bool.{false≢true}
 use Rattle.std.proofs.lemmas.List.Elements.{All-cons, All-head, All-nil, All-tail}
 use Rattle.std.proofs.lemmas.Map.Made.{is_some-lookup}
 use Rattle.indexmap.specs.IndexMap.{IndexMap}
+use Rattle.nm_match.specs.declared.buckets.Bucket.{Bucket}
 use Rattle.nm_match.specs.declared.picks.Picks.{Picks}
-use Rattle.nm_match.specs.Buckets.{AreBuckets, bucket_of, earlier_of, fitting_at}
+use Rattle.nm_match.specs.Buckets.{AreBuckets, bucket_of, earlier_of, entries_of, fitting_at}
 use Rattle.nm_match.specs.Picks.{same_picks}
 use Rattle.nm_match.proofs.BucketLemmas.{find_either, find_never, find_same, front_is_found}
 use Rattle.nm_match.proofs.BucketLemmas.{same_picks-self, same_picks-true}
@@ -94,7 +94,7 @@ module _ {V : Type 0} (fits : Picks → Bool) (t : Picks) where
       at false unfit = none_fits unfit es ∙ sym unfit
 
 module _ {X S : Type 0} {key : X → Picks} {queue : List (ℕ × X)} {next : ℕ}
-    {m : IndexMap Picks (BTreeMap ℕ X) S} (are : AreBuckets key queue next m)
+    (m : IndexMap Picks (Bucket X) S) (are : AreBuckets key queue next (bucket_of m))
     (fits : Picks → Bool) where
   -- the oldest of the first buckets of the map whose key fits
   abbrev pub first_of : ℕ → Option (ℕ × X)
@@ -105,7 +105,7 @@ module _ {X S : Type 0} {key : X → Picks} {queue : List (ℕ × X)} {next : �
   first_none = find_never (λ x. list_any (λ e. fits e.0 && same_picks e.0 (key x.1)) (take 0 m.entries)) queue
       (λ x. refl)
 
-  fitting_is : (o : Option (Picks × BTreeMap ℕ X)) →
+  fitting_is : (o : Option (Picks × Bucket X)) →
       find (λ x. option_map_or (λ e. fits e.0 && same_picks e.0 (key x.1)) o false) queue
       ≡ option_map_or (λ e. if fits e.0 then slice_get (bucket_of m e.0) 0 else None) o None
   fitting_is None = find_never (λ x. false) queue (λ x. refl)
@@ -113,7 +113,7 @@ module _ {X S : Type 0} {key : X → Picks} {queue : List (ℕ × X)} {next : �
     where
       at : (b : Bool) → find (λ x. b && same_picks e.0 (key x.1)) queue
           ≡ cond b (slice_get (bucket_of m e.0) 0) None
-      at true = sym (ap (λ (l : List (ℕ × X)). slice_get l 0) (are.bucket e.0)
+      at true = sym (ap (λ (l : List (ℕ × X)). slice_get l 0) (are.holds e.0)
           ∙ front_is_found (λ (x : ℕ × X). same_picks e.0 (key x.1)) queue)
       at false = find_never (λ x. false) queue (λ x. refl)
 
@@ -136,10 +136,10 @@ module _ {X S : Type 0} {key : X → Picks} {queue : List (ℕ × X)} {next : �
   has_key x some = sym (is_some-lookup (same_picks (key x.1)) m.entries)
       ∙ at (lookup (same_picks (key x.1)) m.entries) refl
     where
-      at : (o : Option (BTreeMap ℕ X)) → lookup (same_picks (key x.1)) m.entries ≡ o → is_some o ≡ true
+      at : (o : Option (Bucket X)) → lookup (same_picks (key x.1)) m.entries ≡ o → is_some o ≡ true
       at (Some b) found = refl
-      at None none = absurd (some (sym (are.bucket (key x.1))
-          ∙ ap (λ (o : Option (BTreeMap ℕ X)). option_map_or (λ b. b.entries) o []) none))
+      at None none = absurd (some (sym (are.holds (key x.1))
+          ∙ ap (λ (o : Option (Bucket X)). option_map_or entries_of o []) none))
 
   -- all buckets
   pub first_last : (n : ℕ) → length m.entries ≤ n → first_of n ≡ find (λ x. fits (key x.1)) queue

@@ -6,22 +6,17 @@ use Rattle.std.proofs.lemmas.List.{length-map, get_or-map}
 use Rattle.std.specs.Prelude.{nat_le, AllPairs, IsSome}
 use Rattle.std.specs.List.{All, filter, find}
 use Rattle.std.specs.Option.{option_map, option_map_or}
-use Rattle.std.specs.BTreeMap.{BTreeMap, insert_entry}
-use Rattle.std.specs.Ordering.{match_ordering, nat_cmp}
-use Rattle.std.specs.declared.cmp.Ordering.{Ordering}
-use Rattle.std.specs.declared.cmp.Ordering.TheVariants.{Less, Equal, Greater}
 use Rattle.std.proofs.lemmas.Bool.{false≢true, false_from_ne_true}
 use Rattle.std.proofs.lemmas.Bool.Decides.{nat_tests}
 use Rattle.std.proofs.lemmas.List.Elements.{All-head, All-tail, All-cons, All-push, All-weaker}
 use Rattle.std.proofs.lemmas.List.Elements.{filter-append}
-use Rattle.indexmap.specs.IndexMap.{IndexMap, get}
 use Rattle.nm_history.proofs.OnceLemmas.{find_among}
 use Rattle.nm_types.specs.declared.messages.Peer.{Peer}
 use Rattle.nm_types.specs.declared.messages.Peer.TheVariants as peer
 use Rattle.nm_types.specs.declared.messages.TagPick.{TagPick}
 use Rattle.nm_types.specs.declared.messages.TagPick.TheVariants as tag
 use Rattle.nm_match.specs.declared.picks.Picks.{Picks}
-use Rattle.nm_match.specs.Buckets.{AreBuckets, AreFull, Rising, bucket_of, earlier_of}
+use Rattle.nm_match.specs.Buckets.{AreBuckets, IsPutLast, Rising, earlier_of}
 use Rattle.nm_match.specs.Picks.{same_peer, same_picks, same_tag}
 use Rattle.nm_match.specs.Queues.{without_first}
 use Rattle.nm_types.proofs.TruthLemmas.{three_parts as three}
@@ -67,55 +62,17 @@ same_picks-flip a b apart = false_from_ne_true (same_picks b a) (λ same.
     false≢true (sym apart ∙ subst (λ (c : Picks). same_picks c b ≡ true) (same_picks-true b a same)
     (same_picks-self b)))
 
-module _ {X S : Type 0} (m n : IndexMap Picks (BTreeMap ℕ X) S) (key : Picks) (full : AreFull m) where
-  -- no bucket is empty where the one of this key is not, and the others are as they were
-  pub full_beside : ((k : Picks) → same_picks key k ≡ true → bucket_of n k ≡ [] → get same_picks n k ≡ None) →
-      ((k : Picks) → same_picks key k ≡ false → get same_picks n k ≡ get same_picks m k) → AreFull n
-  full_beside here others k empty = at (same_picks key k) refl
-    where
-      entries : Option (BTreeMap ℕ X) → List (ℕ × X)
-      entries o = option_map_or (λ b. b.entries) o []
-
-      at : (b : Bool) → same_picks key k ≡ b → get same_picks n k ≡ None
-      at true same = here k same empty
-      at false apart = others k apart ∙ full k (ap entries (sym (others k apart)) ∙ empty)
-
-  -- nor where it was written, and has an entry
-  pub full_written : (b : BTreeMap ℕ X) → (b.entries ≡ [] → ⊥) →
-      ((k : Picks) → get same_picks n k ≡ cond (same_picks key k) (Some b) (get same_picks m k)) → AreFull n
-  full_written b some written = full_beside
-      (λ k same empty. absurd (some (ap entries (sym (written k ∙ ap (λ t. cond t (Some b) (get same_picks m k)) same))
-      ∙ empty)))
-      (λ k apart. written k ∙ ap (λ t. cond t (Some b) (get same_picks m k)) apart)
-    where
-      entries : Option (BTreeMap ℕ X) → List (ℕ × X)
-      entries o = option_map_or (λ b. b.entries) o []
-
--- a bucket that is there has an entry, and so has one with the same entries
-pub stays_filled : {X S : Type 0} (m : IndexMap Picks (BTreeMap ℕ X) S) (key : Picks) (b c : BTreeMap ℕ X) →
-    AreFull m → Some b ≡ get same_picks m key → c.entries ≡ b.entries → c.entries ≡ [] → ⊥
-stays_filled {X} m key b c full there same none =
-    let empty = full key (ap entries (sym there) ∙ sym same ∙ none) in
-    let gone : Some b ≡ None = there ∙ empty in absurd (grind arith)
-  where
-    entries : Option (BTreeMap ℕ X) → List (ℕ × X)
-    entries o = option_map_or (λ b. b.entries) o []
+-- what was put last in a bucket was put last in one with the same entries
+pub same_put : {X : Type 0} (order : ℕ) (item : X) {before was after now : List (ℕ × X)} → was ≡ before →
+    now ≡ after → IsPutLast order item before after → IsPutLast order item was now
+same_put {X} order item first second put = λ below.
+    second ∙ put (subst (λ (l : List (ℕ × X)). All (λ (x : ℕ × X). x.0 < order) l) first below)
+    ∙ ap (λ (l : List (ℕ × X)). l ++ (order, item) ∷ []) (sym first)
 
 -- what is there is some
 pub some_there : {X : Type 0} (x : X) (o : Option X) → Some x ≡ o → IsSome o
 some_there x None there = absurd (grind arith)
 some_there x (Some y) there = refl
-
--- an entry that was put in is there
-pub put_in : {X : Type 0} (es : List (ℕ × X)) (order : ℕ) (item : X) → insert_entry nat_cmp es order item ≡ [] → ⊥
-put_in [] order item none = absurd (grind arith)
-put_in {X} (e ∷ es) order item none = at (nat_cmp order e.0) none
-  where
-    at : (o : Ordering) → match_ordering o ((order, item) ∷ e ∷ es) ((e.0, item) ∷ es)
-        (e ∷ insert_entry nat_cmp es order item) ≡ [] → ⊥
-    at Less none = absurd (grind arith)
-    at Equal none = absurd (grind arith)
-    at Greater none = absurd (grind arith)
 
 module _ {X : Type 0} (p q : X → Bool) where
   gone_here_at : (y : X) (ys : List X) (x : X) (b c : Bool) → p y ≡ b → q y ≡ c → q x ≡ true →
@@ -211,79 +168,75 @@ pub map_push : {X Y : Type 0} (f : X → Y) (xs : List X) (x : X) → map f (xs 
 map_push f [] x = refl
 map_push {X} {Y} f (y ∷ ys) x = ap (λ (l : List Y). f y ∷ l) (map_push f ys x)
 
-module _ {X S : Type 0} {key : X → Picks} {queue : List (ℕ × X)} {next : ℕ}
-    {m : IndexMap Picks (BTreeMap ℕ X) S} (are : AreBuckets key queue next m)
-    (m' : IndexMap Picks (BTreeMap ℕ X) S) (full' : AreFull m → AreFull m') where
+module _ {X : Type 0} {key : X → Picks} {queue : List (ℕ × X)} {next : ℕ}
+    {m : Picks → List (ℕ × X)} (are : AreBuckets key queue next m) (m' : Picks → List (ℕ × X)) where
   taken_bucket : (test : ℕ × X → Bool) (x : ℕ × X) → find test queue ≡ Some x →
-      bucket_of m' (key x.1) ≡ without_first test (bucket_of m (key x.1)) →
-      ((k : Picks) → same_picks (key x.1) k ≡ false → bucket_of m' k ≡ bucket_of m k) →
+      m' (key x.1) ≡ without_first test (m (key x.1)) →
+      ((k : Picks) → same_picks (key x.1) k ≡ false → m' k ≡ m k) →
       (k : Picks) (b : Bool) → same_picks (key x.1) k ≡ b →
-      bucket_of m' k ≡ filter (λ (y : ℕ × X). same_picks k (key y.1)) (without_first test queue)
+      m' k ≡ filter (λ (y : ℕ × X). same_picks k (key y.1)) (without_first test queue)
   taken_bucket test x found own others k true same =
-      subst (λ (k : Picks). bucket_of m' k
+      subst (λ (k : Picks). m' k
       ≡ filter (λ (y : ℕ × X). same_picks k (key y.1)) (without_first test queue))
       (same_picks-true (key x.1) k same)
-      (own ∙ ap (λ (l : List (ℕ × X)). without_first test l) (are.bucket (key x.1))
+      (own ∙ ap (λ (l : List (ℕ × X)). without_first test l) (are.holds (key x.1))
       ∙ sym (gone_here test (λ (y : ℕ × X). same_picks (key x.1) (key y.1)) queue x found
       (same_picks-self (key x.1))))
   taken_bucket test x found own others k false apart =
-      others k apart ∙ are.bucket k
+      others k apart ∙ are.holds k
       ∙ sym (gone_there test (λ (y : ℕ × X). same_picks k (key y.1)) queue x found
       (same_picks-flip (key x.1) k apart))
 
   -- after the first that passes was taken from its bucket
   pub taken : (test : ℕ × X → Bool) (x : ℕ × X) → find test queue ≡ Some x →
-      bucket_of m' (key x.1) ≡ without_first test (bucket_of m (key x.1)) →
-      ((k : Picks) → same_picks (key x.1) k ≡ false → bucket_of m' k ≡ bucket_of m k) →
+      m' (key x.1) ≡ without_first test (m (key x.1)) →
+      ((k : Picks) → same_picks (key x.1) k ≡ false → m' k ≡ m k) →
       AreBuckets key (without_first test queue) next m'
   taken test x found own others = record {
-    bucket = λ k. taken_bucket test x found own others k (same_picks (key x.1) k) refl;
+    holds = λ k. taken_bucket test x found own others k (same_picks (key x.1) k) refl;
     below = All-without_first test (λ (y : ℕ × X). y.0 < next) queue are.below;
     rising = Rising-without_first test queue are.rising;
-    full = full' are.full;
   }
 
   put_bucket : (item : X) →
-      bucket_of m' (key item) ≡ bucket_of m (key item) ++ (next, item) ∷ [] →
-      ((k : Picks) → same_picks (key item) k ≡ false → bucket_of m' k ≡ bucket_of m k) →
+      m' (key item) ≡ m (key item) ++ (next, item) ∷ [] →
+      ((k : Picks) → same_picks (key item) k ≡ false → m' k ≡ m k) →
       (k : Picks) (b : Bool) → same_picks (key item) k ≡ b →
-      bucket_of m' k ≡ filter (λ (y : ℕ × X). same_picks k (key y.1)) (queue ++ (next, item) ∷ [])
+      m' k ≡ filter (λ (y : ℕ × X). same_picks k (key y.1)) (queue ++ (next, item) ∷ [])
   put_bucket item own others k true same =
-      subst (λ (k : Picks). bucket_of m' k
+      subst (λ (k : Picks). m' k
       ≡ filter (λ (y : ℕ × X). same_picks k (key y.1)) (queue ++ (next, item) ∷ []))
       (same_picks-true (key item) k same)
-      (own ∙ ap (λ (l : List (ℕ × X)). l ++ (next, item) ∷ []) (are.bucket (key item))
+      (own ∙ ap (λ (l : List (ℕ × X)). l ++ (next, item) ∷ []) (are.holds (key item))
       ∙ sym (filter-append (λ (y : ℕ × X). same_picks (key item) (key y.1)) queue ((next, item) ∷ [])
       ∙ rw (same_picks-self (key item)) refl))
   put_bucket item own others k false apart =
-      others k apart ∙ are.bucket k
+      others k apart ∙ are.holds k
       ∙ sym (filter-append (λ (y : ℕ × X). same_picks k (key y.1)) queue ((next, item) ∷ [])
       ∙ rw (same_picks-flip (key item) k apart)
       (append-nil (filter (λ (y : ℕ × X). same_picks k (key y.1)) queue)))
 
   -- after a thing was put last in its bucket
   pub put_last : (item : X) (later : ℕ) → next < later →
-      bucket_of m' (key item) ≡ bucket_of m (key item) ++ (next, item) ∷ [] →
-      ((k : Picks) → same_picks (key item) k ≡ false → bucket_of m' k ≡ bucket_of m k) →
+      m' (key item) ≡ m (key item) ++ (next, item) ∷ [] →
+      ((k : Picks) → same_picks (key item) k ≡ false → m' k ≡ m k) →
       AreBuckets key (queue ++ (next, item) ∷ []) later m'
   put_last item later before own others = record {
-    bucket = λ k. put_bucket item own others k (same_picks (key item) k) refl;
+    holds = λ k. put_bucket item own others k (same_picks (key item) k) refl;
     below = All-push (λ (y : ℕ × X). y.0 < later) queue (next, item)
         (All-weaker (λ (y : ℕ × X). y.0 < next) (λ (y : ℕ × X). y.0 < later)
         (λ y below. omega (arith, below, before)) queue are.below) before;
     rising = Rising-push queue next item are.rising are.below;
-    full = full' are.full;
   }
 
   -- where no bucket changed
-  pub kept : (later : ℕ) → next ≤ later → ((k : Picks) → bucket_of m' k ≡ bucket_of m k) →
+  pub kept : (later : ℕ) → next ≤ later → ((k : Picks) → m' k ≡ m k) →
       AreBuckets key queue later m'
   kept later after same = record {
-    bucket = λ k. same k ∙ are.bucket k;
+    holds = λ k. same k ∙ are.holds k;
     below = All-weaker (λ (y : ℕ × X). y.0 < next) (λ (y : ℕ × X). y.0 < later)
         (λ y below. omega (arith, below, after)) queue are.below;
     rising = are.rising;
-    full = full' are.full;
   }
 
 le_self : (n : ℕ) → nat_le n n ≡ true

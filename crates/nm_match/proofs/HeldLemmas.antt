@@ -3,18 +3,15 @@ use Rattle.std.proofs.Common.{◌≡◌, ◌≢◌, ℕ, ◌==◌, Bool, true, f
 use Rattle.std.proofs.Common.{List, refl, sym, subst}
 use Rattle.std.specs.List.{All, find}
 use Rattle.std.specs.Prelude.{AllPairs}
-use Rattle.std.specs.BTreeMap.{BTreeMap}
 use Rattle.std.proofs.lemmas.Bool.{eqb-true, false≢true, false_from_ne_true}
 use Rattle.std.proofs.lemmas.List.Elements.{All-filter, All-weaker}
 use Rattle.std.proofs.lemmas.List.Kept.{AllPairs-filter}
-use Rattle.indexmap.specs.IndexMap.{IndexMap}
 use Rattle.nm_types.specs.declared.messages.Arrival.{Arrival}
 use Rattle.nm_types.specs.declared.messages.Post as post
 use Rattle.nm_history.specs.Matching.{is_free, is_open, matched_pairs}
 use Rattle.nm_history.specs.Sends.{messages, posts}
 use Rattle.nm_match.specs.declared.deeds.Deed.{Deed}
 use Rattle.nm_match.specs.declared.picks.Picks.{Picks}
-use Rattle.nm_match.specs.Buckets.{bucket_of}
 use Rattle.nm_match.specs.Deeds.{history_of, is_known_message, is_known_receive, is_message}
 use Rattle.nm_match.specs.Picks.{same_picks}
 use Rattle.nm_match.specs.Queues.{AreQueuesOf, TwoMessages, TwoReceives}
@@ -24,14 +21,14 @@ use Rattle.nm_match.proofs.TurnLemmas.{others_message, others_number}
 use Rattle.nm_types.proofs.TruthLemmas.{and_left, and_right}
 
 -- where the bucket of a key and the others are the same, all are
-pub all_same : {X S : Type 0} (m m' : IndexMap Picks (BTreeMap ℕ X) S) (k : Picks) →
-    bucket_of m' k ≡ bucket_of m k →
-    ((l : Picks) → same_picks k l ≡ false → bucket_of m' l ≡ bucket_of m l) → (l : Picks) →
-    bucket_of m' l ≡ bucket_of m l
-all_same {X} {S} m m' k own others l = at (same_picks k l) refl
+pub all_same : {X : Type 0} (m m' : Picks → List (ℕ × X)) (k : Picks) →
+    m' k ≡ m k →
+    ((l : Picks) → same_picks k l ≡ false → m' l ≡ m l) → (l : Picks) →
+    m' l ≡ m l
+all_same {X} m m' k own others l = at (same_picks k l) refl
   where
-    at : (b : Bool) → same_picks k l ≡ b → bucket_of m' l ≡ bucket_of m l
-    at true same = subst (λ (l : Picks). bucket_of m' l ≡ bucket_of m l) (same_picks-true k l same) own
+    at : (b : Bool) → same_picks k l ≡ b → m' l ≡ m l
+    at true same = subst (λ (l : Picks). m' l ≡ m l) (same_picks-true k l same) own
     at false other = others l other
 
 module _ (deeds : List Deed) {posted : List post.Post} {unexpected claimed : List Arrival}

@@ -1,7 +1,7 @@
 -- A queue in buckets, whose names are known: what waits at a place, and what is left after each change.
 use Rattle.std.proofs.Common.{◌≡◌, ℕ, ◌+◌, ◌<◌, ◌≤◌, ◌==◌, Bool, true, false, cond, Option, Some, None}
 use Rattle.std.proofs.Common.{List, [], ◌∷◌, ◌++◌, refl, sym, ◌∙◌, ap, subst, arith, not, ◌&&◌, ◌||◌, is_some}
-use Rattle.std.specs.BTreeMap.{BTreeMap, insert_entry, is_at}
+use Rattle.std.specs.BTreeMap.{is_at}
 use Rattle.std.specs.List.{All, filter, find, list_any}
 use Rattle.std.specs.Map.{remove_entry}
 use Rattle.std.specs.Option.{option_map, option_map_or, option_or}
@@ -18,7 +18,7 @@ use Rattle.nm_match.specs.declared.names.Message.{Message}
 use Rattle.nm_match.specs.declared.names.Standing.{Standing}
 use Rattle.nm_match.specs.declared.names.Standing.TheVariants.{Waits, Aside}
 use Rattle.nm_match.specs.declared.picks.Picks.{Picks}
-use Rattle.nm_match.specs.Buckets.{AreBuckets, AreFull, bucket_of}
+use Rattle.nm_match.specs.Buckets.{AreBuckets, IsPutLast}
 use Rattle.nm_match.specs.Deeds.{is_message}
 use Rattle.nm_match.specs.Names.{IsNamedQueue, has_one, id_of_arrival, is_aside, same_message, standing_of}
 use Rattle.nm_match.specs.Picks.{same_picks}
@@ -27,7 +27,7 @@ use Rattle.nm_match.proofs.BucketLemmas.{kept, map_push, map-without_first, pair
 use Rattle.nm_match.proofs.BucketLemmas.{put_last, taken}
 use Rattle.nm_match.proofs.ListLemmas.{list_any-filter, list_any_agree}
 use Rattle.nm_match.proofs.OldestLemmas.{queue_find}
-use Rattle.nm_match.proofs.OrderLemmas.{entry_last, entry_left, find_gone, find_only, find_others, order_found}
+use Rattle.nm_match.proofs.OrderLemmas.{entry_left, find_gone, find_only, find_others, order_found}
 use Rattle.nm_match.proofs.OrderLemmas.{order_left}
 use Rattle.nm_types.proofs.OptionLemmas.{mapped_none}
 use Rattle.nm_types.proofs.ListLemmas.{find_passes}
@@ -41,9 +41,8 @@ pub or_none : {X : Type 0} (o : Option X) → option_or o None ≡ o
 or_none None = refl
 or_none (Some x) = refl
 
-module _ {X K S T : Type 0} {same : K → K → Bool} {known : X → K → Bool} {key : X → Picks} {items : List X}
-    {aside : K → Bool} {next : ℕ} {m : IndexMap Picks (BTreeMap ℕ X) S}
-    {standings : IndexMap K Standing T}
+module _ {X K T : Type 0} {same : K → K → Bool} {known : X → K → Bool} {key : X → Picks} {items : List X}
+    {aside : K → Bool} {next : ℕ} {m : Picks → List (ℕ × X)} {standings : IndexMap K Standing T}
     (is : IsNamedQueue same known key items aside next m standings) where
   abbrev standing : K → Option (ℕ × X) → Option Standing
   standing name o = option_map_or (λ (x : ℕ × X). Some (Waits (key x.1) x.0)) o (cond (aside name) (Some Aside) None)
@@ -121,22 +120,21 @@ module _ {X K S T : Type 0} {same : K → K → Bool} {known : X → K → Bool}
   named_aged later after = record {
     is = record {
       queue = is.is.queue;
-      are = kept is.is.are m (λ full. full) later after (λ k. refl);
+      are = kept is.is.are m later after (λ k. refl);
       same = is.is.same;
     };
     stands = is.stands;
   }
 
-  module _ (m' : IndexMap Picks (BTreeMap ℕ X) S) (standings' : IndexMap K Standing T)
-      (full' : AreFull m → AreFull m') where
+  module _ (m' : Picks → List (ℕ × X)) (standings' : IndexMap K Standing T) where
     -- where no bucket and no standing changed
-    pub named_kept : ((k : Picks) → bucket_of m' k ≡ bucket_of m k) →
+    pub named_kept : ((k : Picks) → m' k ≡ m k) →
         ((name : K) → get same standings' name ≡ get same standings name) →
         IsNamedQueue same known key items aside next m' standings'
     named_kept bucket stands = record {
       is = record {
         queue = is.is.queue;
-        are = kept is.is.are m' full' next (omega arith) bucket;
+        are = kept is.is.are m' next (omega arith) bucket;
         same = is.is.same;
       };
       stands = λ name. stands name ∙ is.stands name;
@@ -147,8 +145,8 @@ module _ {X K S T : Type 0} {same : K → K → Bool} {known : X → K → Bool}
         ((x y : X) (name : K) → R x y → known x name ≡ true → known y name ≡ true → ⊥) → (test : X → Bool)
         (x : ℕ × X) → find (λ (y : ℕ × X). test y.1) is.is.queue ≡ Some x → (id : K) →
         ((name : K) → known x.1 name ≡ same id name) →
-        bucket_of m' (key x.1) ≡ remove_entry (is_at (nat_cmp x.0)) (bucket_of m (key x.1)) →
-        ((k : Picks) → same_picks (key x.1) k ≡ false → bucket_of m' k ≡ bucket_of m k) →
+        m' (key x.1) ≡ remove_entry (is_at (nat_cmp x.0)) (m (key x.1)) →
+        ((k : Picks) → same_picks (key x.1) k ≡ false → m' k ≡ m k) →
         (aside' : K → Bool) → ((name : K) → same id name ≡ false → aside' name ≡ aside name) →
         ((name : K) → same id name ≡ true → get same standings' name ≡ cond (aside' name) (Some Aside) None) →
         ((name : K) → same id name ≡ false → get same standings' name ≡ get same standings name) →
@@ -158,8 +156,8 @@ module _ {X K S T : Type 0} {same : K → K → Bool} {known : X → K → Bool}
         queue = without_first t queue;
         are = subst (λ (l : List (ℕ × X)). AreBuckets key l next m')
             (order_left t queue x is.is.are.rising found)
-            (taken is.is.are m' full' (λ (y : ℕ × X). x.0 == y.0) x
-            (order_found t queue x is.is.are.rising found) (own ∙ entry_left x.0 (bucket_of m (key x.1))) others);
+            (taken is.is.are m' (λ (y : ℕ × X). x.0 == y.0) x
+            (order_found t queue x is.is.are.rising found) (own ∙ entry_left x.0 (m (key x.1))) others);
         same = map-without_first (λ (y : ℕ × X). y.1) test queue
             ∙ ap (λ (l : List X). without_first test l) is.is.same;
       };
@@ -191,8 +189,8 @@ module _ {X K S T : Type 0} {same : K → K → Bool} {known : X → K → Bool}
         ((x y : X) (name : K) → R x y → known x name ≡ true → known y name ≡ true → ⊥) → (id : K)
         (k : Picks) (order : ℕ) → get same standings id ≡ Some (Waits k order) →
         ((x : X) → known x id ≡ true → (name : K) → known x name ≡ same id name) →
-        bucket_of m' k ≡ remove_entry (is_at (nat_cmp order)) (bucket_of m k) →
-        ((l : Picks) → same_picks k l ≡ false → bucket_of m' l ≡ bucket_of m l) →
+        m' k ≡ remove_entry (is_at (nat_cmp order)) (m k) →
+        ((l : Picks) → same_picks k l ≡ false → m' l ≡ m l) →
         (aside' : K → Bool) → ((name : K) → same id name ≡ false → aside' name ≡ aside name) →
         ((name : K) → same id name ≡ true → get same standings' name ≡ cond (aside' name) (Some Aside) None) →
         ((name : K) → same id name ≡ false → get same standings' name ≡ get same standings name) →
@@ -204,14 +202,14 @@ module _ {X K S T : Type 0} {same : K → K → Bool} {known : X → K → Bool}
         let of_order : order ≡ x.0 = sym waits.3 in
         named_taken R two apart (λ x. known x id) x waits.1 id
         (is_id x.1 (find_passes (λ (y : ℕ × X). known y.1 id) is.is.queue x waits.1))
-        (subst (λ (n : ℕ). bucket_of m' (key x.1) ≡ remove_entry (is_at (nat_cmp n)) (bucket_of m (key x.1))) of_order
-        (subst (λ (l : Picks). bucket_of m' l ≡ remove_entry (is_at (nat_cmp order)) (bucket_of m l)) of_key own))
-        (subst (λ (k : Picks). (l : Picks) → same_picks k l ≡ false → bucket_of m' l ≡ bucket_of m l) of_key others)
+        (subst (λ (n : ℕ). m' (key x.1) ≡ remove_entry (is_at (nat_cmp n)) (m (key x.1))) of_order
+        (subst (λ (l : Picks). m' l ≡ remove_entry (is_at (nat_cmp order)) (m l)) of_key own))
+        (subst (λ (k : Picks). (l : Picks) → same_picks k l ≡ false → m' l ≡ m l) of_key others)
         aside' agree here elsewhere
 
     -- after one was put aside no more
     pub named_freed : ((a b : K) → same a b ≡ true → a ≡ b) → (id : K) → find (λ x. known x id) items ≡ None →
-        ((k : Picks) → bucket_of m' k ≡ bucket_of m k) →
+        ((k : Picks) → m' k ≡ m k) →
         (aside' : K → Bool) → ((name : K) → same id name ≡ false → aside' name ≡ aside name) →
         ((name : K) → same id name ≡ true → get same standings' name ≡ cond (aside' name) (Some Aside) None) →
         ((name : K) → same id name ≡ false → get same standings' name ≡ get same standings name) →
@@ -219,7 +217,7 @@ module _ {X K S T : Type 0} {same : K → K → Bool} {known : X → K → Bool}
     named_freed same_true id none bucket aside' agree there elsewhere = record {
       is = record {
         queue = is.is.queue;
-        are = kept is.is.are m' full' next (omega arith) bucket;
+        are = kept is.is.are m' next (omega arith) bucket;
         same = is.is.same;
       };
       stands = λ name. at name (same id name) refl;
@@ -240,16 +238,16 @@ module _ {X K S T : Type 0} {same : K → K → Bool} {known : X → K → Bool}
     -- after one of a new name was put last
     pub named_put : (item : X) (id : K) → ((name : K) → known item name ≡ same id name) →
         ((name : K) → same id name ≡ true → find (λ x. known x name) items ≡ None) →
-        bucket_of m' (key item) ≡ insert_entry nat_cmp (bucket_of m (key item)) next item →
-        ((k : Picks) → same_picks (key item) k ≡ false → bucket_of m' k ≡ bucket_of m k) →
+        IsPutLast next item (m (key item)) (m' (key item)) →
+        ((k : Picks) → same_picks (key item) k ≡ false → m' k ≡ m k) →
         ((name : K) → same id name ≡ true → get same standings' name ≡ Some (Waits (key item) next)) →
         ((name : K) → same id name ≡ false → get same standings' name ≡ get same standings name) →
         IsNamedQueue same known key (items ++ item ∷ []) aside (next + 1) m' standings'
     named_put item id is_id new own others there elsewhere = record {
       is = record {
         queue = queue ++ (next, item) ∷ [];
-        are = put_last is.is.are m' full' item (next + 1) (omega arith)
-            (own ∙ entry_last next item (bucket_of m (key item)) below) others;
+        are = put_last is.is.are m' item (next + 1) (omega arith)
+            (own below) others;
         same = map_push (λ (y : ℕ × X). y.1) queue (next, item) ∙ ap (λ (l : List X). l ++ item ∷ []) is.is.same;
       };
       stands = λ name. at name (same id name) refl;
@@ -258,8 +256,8 @@ module _ {X K S T : Type 0} {same : K → K → Bool} {known : X → K → Bool}
         queue : List (ℕ × X)
         queue = is.is.queue
 
-        below : All (λ (y : ℕ × X). y.0 < next) (bucket_of m (key item))
-        below = subst (λ (l : List (ℕ × X)). All (λ (y : ℕ × X). y.0 < next) l) (sym (is.is.are.bucket (key item)))
+        below : All (λ (y : ℕ × X). y.0 < next) (m (key item))
+        below = subst (λ (l : List (ℕ × X)). All (λ (y : ℕ × X). y.0 < next) l) (sym (is.is.are.holds (key item)))
             (All-filter (λ (y : ℕ × X). same_picks (key item) (key y.1)) (λ (y : ℕ × X). y.0 < next) queue
             is.is.are.below)
 
@@ -280,19 +278,18 @@ module _ {X K S T : Type 0} {same : K → K → Bool} {known : X → K → Bool}
             ∙ or_none (find (λ (y : ℕ × X). known y.1 name) queue)))
 
 -- nothing waits in empty buckets
-pub named_none : {X K S T : Type 0} {same : K → K → Bool} {known : X → K → Bool} {key : X → Picks}
-    {aside : K → Bool} {next : ℕ} {m : IndexMap Picks (BTreeMap ℕ X) S}
-    {standings : IndexMap K Standing T} → ((k : Picks) → bucket_of m k ≡ []) → AreFull m →
+pub named_none : {X K T : Type 0} {same : K → K → Bool} {known : X → K → Bool} {key : X → Picks}
+    {aside : K → Bool} {next : ℕ} {m : Picks → List (ℕ × X)}
+    {standings : IndexMap K Standing T} → ((k : Picks) → m k ≡ []) →
     ((name : K) → get same standings name ≡ None) → ((name : K) → aside name ≡ false) →
     IsNamedQueue same known key [] aside next m standings
-named_none none full nowhere no_one = record {
+named_none none nowhere no_one = record {
   is = record {
     queue = [];
     are = record {
-      bucket = none;
+      holds = none;
       below = λ k d inside. absurd (omega (arith, inside));
       rising = tt;
-      full = full;
     };
     same = refl;
   };

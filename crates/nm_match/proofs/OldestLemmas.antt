@@ -3,10 +3,8 @@ use Rattle.std.proofs.Common.{◌≡◌, ℕ, ◌==◌, Bool, true, false, ◌&&
 use Rattle.std.proofs.Common.{refl, sym, ◌∙◌, ap, arith, slice_get}
 use Rattle.std.specs.List.{find}
 use Rattle.std.specs.Option.{option_map}
-use Rattle.std.specs.BTreeMap.{BTreeMap}
 use Rattle.std.proofs.lemmas.Bool.{eqb-true, false≢true}
 use Rattle.std.proofs.lemmas.Bool.Decides.{nat_tests}
-use Rattle.indexmap.specs.IndexMap.{IndexMap}
 use Rattle.nm_types.specs.declared.messages.Arrival.{Arrival}
 use Rattle.nm_types.specs.declared.messages.Envelope.{Envelope}
 use Rattle.nm_types.specs.declared.messages.Peer.{Peer}
@@ -16,7 +14,7 @@ use Rattle.nm_types.specs.declared.messages.TagPick.{TagPick}
 use Rattle.nm_types.specs.declared.messages.TagPick.TheVariants as tag
 use Rattle.nm_history.specs.Selection.{matches, matches_source, matches_tag}
 use Rattle.nm_match.specs.declared.picks.Picks.{Picks}
-use Rattle.nm_match.specs.Buckets.{AreBuckets, IsQueue, bucket_of, earlier_of, oldest_of}
+use Rattle.nm_match.specs.Buckets.{AreBuckets, IsQueue, earlier_of, oldest_of}
 use Rattle.nm_match.specs.Picks.{fits_picks, names_both, picks_of_arrival, picks_of_post, same_peer, same_picks}
 use Rattle.nm_match.specs.Picks.{same_tag}
 use Rattle.nm_match.specs.Deeds.{is_message}
@@ -69,12 +67,11 @@ four (peer.One r) tag.Any c from named ctx = rw (flip c ctx, flip r from) (any_t
 four (peer.One r) (tag.One m) c from named ctx =
     rw (flip c ctx, flip r from, flip m named) (both_named (from == r) (named == m) (ctx == c))
 
-module _ {S : Type 0} {queue : List (ℕ × post.Post)} {next : ℕ}
-    {m : IndexMap Picks (BTreeMap ℕ post.Post) S}
+module _ {queue : List (ℕ × post.Post)} {next : ℕ} {m : Picks → List (ℕ × post.Post)}
     (are : AreBuckets picks_of_post queue next m) where
-  front : (k : Picks) → slice_get (bucket_of m k) 0
+  front : (k : Picks) → slice_get (m k) 0
       ≡ find (λ (x : ℕ × post.Post). same_picks k (picks_of_post x.1)) queue
-  front k = ap (λ (l : List (ℕ × post.Post)). slice_get l 0) (are.bucket k)
+  front k = ap (λ (l : List (ℕ × post.Post)). slice_get l 0) (are.holds k)
       ∙ front_is_found (λ (x : ℕ × post.Post). same_picks k (picks_of_post x.1)) queue
 
   -- the oldest under the four keys is the oldest receive that selects the message
@@ -96,16 +93,16 @@ module _ {S : Type 0} {queue : List (ℕ × post.Post)} {next : ℕ}
       (λ (x : ℕ × post.Post). matches x.1.from x.1.tag x.1.ctx env) queue
       (λ x. four x.1.from x.1.tag x.1.ctx env.from env.tag env.ctx)
 
-module _ {X S : Type 0} {key : X → Picks} {items : List X} {next : ℕ}
-    {m : IndexMap Picks (BTreeMap ℕ X) S} (is : IsQueue key items next m) where
+module _ {X : Type 0} {key : X → Picks} {items : List X} {next : ℕ} {m : Picks → List (ℕ × X)}
+    (is : IsQueue key items next m) where
   -- what is found, without its number
   pub queue_find : (test : X → Bool) → option_map (λ (y : ℕ × X). y.1) (find (λ (y : ℕ × X). test y.1) is.queue)
       ≡ find test items
   queue_find test = find-map (λ (y : ℕ × X). y.1) test is.queue ∙ ap (λ (l : List X). find test l) is.same
 
 -- the receive that is found
-pub posted_found : {S : Type 0} {posts : List post.Post} {next : ℕ}
-    {m : IndexMap Picks (BTreeMap ℕ post.Post) S} (is : IsQueue picks_of_post posts next m) →
+pub posted_found : {posts : List post.Post} {next : ℕ} {m : Picks → List (ℕ × post.Post)}
+    (is : IsQueue picks_of_post posts next m) →
     (env : Envelope) (o : Option (ℕ × post.Post)) → o ≡ oldest_of m env →
     option_map (λ (y : ℕ × post.Post). y.1) o ≡ find (λ p. matches p.from p.tag p.ctx env) posts
 posted_found is env o same =
@@ -121,8 +118,7 @@ arrival_fits (peer.One r) tag.Any ctx a = refl
 arrival_fits (peer.One r) (tag.One m) ctx a = refl
 
 -- the message that is found
-pub arrival_found : {S : Type 0} {arrivals : List Arrival} {next : ℕ}
-    {m : IndexMap Picks (BTreeMap ℕ Arrival) S}
+pub arrival_found : {arrivals : List Arrival} {next : ℕ} {m : Picks → List (ℕ × Arrival)}
     (is : IsQueue picks_of_arrival arrivals next m) →
     (f : Peer) (t : TagPick) (ctx : ℕ) (o : Option (ℕ × Arrival)) →
     o ≡ find (λ (x : ℕ × Arrival). fits_picks (record { from = f; tag = t; ctx = ctx }) (picks_of_arrival x.1))
@@ -169,25 +165,23 @@ named_fits (peer.One r) (tag.One m) ctx named_from named_tag a =
     swapped (r == a.env.from) (m == a.env.tag) (ctx == a.env.ctx)
 
 -- the oldest under its own key is the oldest that fits
-pub named_found : {S : Type 0} {queue : List (ℕ × Arrival)} {next : ℕ}
-    {m : IndexMap Picks (BTreeMap ℕ Arrival) S}
+pub named_found : {queue : List (ℕ × Arrival)} {next : ℕ} {m : Picks → List (ℕ × Arrival)}
     (are : AreBuckets picks_of_arrival queue next m) → (f : Peer) (t : TagPick) (ctx : ℕ) →
     same_peer f peer.Any ≡ false → same_tag t tag.Any ≡ false →
-    slice_get (bucket_of m (record { from = f; tag = t; ctx = ctx })) 0
+    slice_get (m (record { from = f; tag = t; ctx = ctx })) 0
     ≡ find (λ (x : ℕ × Arrival). fits_picks (record { from = f; tag = t; ctx = ctx }) (picks_of_arrival x.1)) queue
 named_found {queue} are f t ctx named_from named_tag =
     let wanted : Picks = record { from = f; tag = t; ctx = ctx } in
-    ap (λ (l : List (ℕ × Arrival)). slice_get l 0) (are.bucket wanted)
+    ap (λ (l : List (ℕ × Arrival)). slice_get l 0) (are.holds wanted)
     ∙ front_is_found (λ (x : ℕ × Arrival). same_picks wanted (picks_of_arrival x.1)) queue
     ∙ find_same (λ (x : ℕ × Arrival). same_picks wanted (picks_of_arrival x.1))
     (λ (x : ℕ × Arrival). fits_picks wanted (picks_of_arrival x.1)) queue
     (λ x. named_fits f t ctx named_from named_tag x.1)
 
 -- where a source and a tag are named, the bucket of these has the oldest that fits
-pub own_found : {S : Type 0} {queue : List (ℕ × Arrival)} {next : ℕ}
-    {m : IndexMap Picks (BTreeMap ℕ Arrival) S}
+pub own_found : {queue : List (ℕ × Arrival)} {next : ℕ} {m : Picks → List (ℕ × Arrival)}
     (are : AreBuckets picks_of_arrival queue next m) → (w : Picks) → names_both w ≡ true →
-    slice_get (bucket_of m w) 0 ≡ find (λ (x : ℕ × Arrival). fits_picks w (picks_of_arrival x.1)) queue
+    slice_get (m w) 0 ≡ find (λ (x : ℕ × Arrival). fits_picks w (picks_of_arrival x.1)) queue
 own_found are w named =
     let both = both_fail (same_peer w.from peer.Any) (same_tag w.tag tag.Any) named in
     named_found are w.from w.tag w.ctx both.0 both.1

@@ -3,7 +3,6 @@ use Rattle.std.specs.Prelude.{◌≡◌, ℕ, ◌==◌, ◌&&◌, Bool, true, fa
 use Rattle.std.specs.Prelude.{if◌then◌else◌, nat_eq}
 use Rattle.std.specs.List.{find, list_any}
 use Rattle.std.specs.Option.{option_map_or}
-use Rattle.std.specs.BTreeMap.{BTreeMap}
 use Rattle.indexmap.specs.IndexMap.{IndexMap, get}
 use Rattle.nm_types.specs.declared.messages.Arrival.{Arrival}
 use Rattle.nm_types.specs.declared.messages.Post as post
@@ -14,7 +13,7 @@ use Rattle.nm_match.specs.declared.names.Standing.TheVariants.{Waits, Aside}
 use Rattle.nm_match.specs.declared.picks.Picks.{Picks}
 use Rattle.nm_match.specs.declared.posted.Posted.{Posted}
 use Rattle.nm_match.specs.declared.unexpected.Unexpected.{Unexpected}
-use Rattle.nm_match.specs.Buckets.{IsQueue}
+use Rattle.nm_match.specs.Buckets.{IsQueue, bucket_of}
 use Rattle.nm_match.specs.Deeds.{is_message}
 use Rattle.nm_match.specs.Picks.{picks_of_arrival, picks_of_post}
 
@@ -55,21 +54,21 @@ standing_of known key queue aside name =
     (if aside name then Some Aside else None)
 
 -- The buckets hold these things in order of age, and a map says of each name where it stands.
-pub record IsNamedQueue {X K S T : Type 0} (same : K → K → Bool) (known : X → K → Bool)
+pub record IsNamedQueue {X K T : Type 0} (same : K → K → Bool) (known : X → K → Bool)
     (key : X → Picks) (items : List X) (aside : K → Bool) (next : ℕ)
-    (m : IndexMap Picks (BTreeMap ℕ X) S) (standings : IndexMap K Standing T)
+    (bucket : Picks → List (ℕ × X)) (standings : IndexMap K Standing T)
     : Type 0 where
-  pub is : IsQueue key items next m
+  pub is : IsQueue key items next bucket
   pub stands : (name : K) → get same standings name ≡ standing_of known key is.queue aside name
 
 -- these receives wait, and these numbers are of cancelled ones
 abbrev pub ArePosted : List post.Post → List ℕ → ℕ → Posted → Type 0
 ArePosted posts cancelled next p =
-    IsNamedQueue nat_eq has_number picks_of_post posts (has cancelled) next p.waiting.map
+    IsNamedQueue nat_eq has_number picks_of_post posts (has cancelled) next (bucket_of p.waiting.map)
     p.standings
 
 -- these messages wait, and these are claimed
 abbrev pub AreUnexpected : List Arrival → List Arrival → ℕ → Unexpected → Type 0
 AreUnexpected arrivals claimed next u =
-    IsNamedQueue same_message has_id picks_of_arrival arrivals (has_one claimed) next u.waiting.map
-    u.standings
+    IsNamedQueue same_message has_id picks_of_arrival arrivals (has_one claimed) next
+    (bucket_of u.waiting.map) u.standings

@@ -1,13 +1,13 @@
 //! Buckets of what waits: one for each key, each in order of age.
 
-ghost use Rattle.std.specs.Prelude.{◌≡◌, false, [], IsTrue, OnOk, OnErr, None};
+ghost use Rattle.std.specs.Prelude.{◌≡◌, ◌∷◌, [], false, IsTrue, OnOk, OnErr};
 ghost use Rattle.std.specs.Prelude.{slice_get};
 ghost use Rattle.std.specs.Ordering.{nat_cmp};
-ghost use Rattle.std.specs.BTreeMap.{insert_entry, is_at};
+ghost use Rattle.std.specs.BTreeMap.{is_at};
 ghost use Rattle.std.specs.Map.{remove_entry};
 ghost use Rattle.indexmap.specs.IndexMap.{get};
 ghost use Rattle.nm_match.specs.declared.picks.Picks as picks;
-ghost use Rattle.nm_match.specs.Buckets.{AreFull, bucket_of, earlier_of};
+ghost use Rattle.nm_match.specs.Buckets.{IsPutLast, bucket_of, earlier_of, entries_of};
 ghost use Rattle.nm_match.specs.Picks.{same_picks};
 
 use crate::picks::Picks;
@@ -16,10 +16,18 @@ use nm_types::Memory;
 use std::alloc::Global;
 use std::collections::BTreeMap;
 
+/// What waits under one key: the oldest entry by itself, since most keys have one, and the others in
+/// order of age. So no bucket is empty.
+#[derive(Drop)]
+pub struct Bucket<T> {
+    pub oldest: (u128, T),
+    pub rest: BTreeMap<u128, T>,
+}
+
 /// What waits, in a bucket for each key. Each entry has an order number, which grows with age.
 #[derive(Drop)]
 pub struct Buckets<T> {
-    pub map: IndexMap<Picks, BTreeMap<u128, T>>,
+    pub map: IndexMap<Picks, Bucket<T>>,
 }
 
 /// The entry with the smaller order number.
@@ -34,58 +42,94 @@ pub(crate) fn earlier<T: Copy>(a: Option<(u128, T)>, b: Option<(u128, T)>) -> Op
 }
 
 /// The oldest entry of a bucket.
-pub(crate) fn first<T: Copy>(bucket: &BTreeMap<u128, T>) -> Option<(u128, T)>
-    ensures { result ≡ slice_get bucket.now.entries 0 }
+pub(crate) fn first<T: Copy>(bucket: &Bucket<T>) -> Option<(u128, T)>
+    ensures { result ≡ slice_get (entries_of bucket.now) 0 }
 {
-    let (order, item) = bucket.first_key_value()?;
-    Some((*order, *item))
+    Some(bucket.oldest)
 }
 
-/// Puts an item at the place of its order number into the bucket of its key, which may be a new
-/// one.
+impl<T: Copy> Bucket<T> {
+    /// The bucket of one entry.
+    fn of(alloc: Global, order: u128, item: T) -> Self
+        ensures { entries_of result ≡ (order, item) ∷ [] }
+    {
+        Bucket {
+            oldest: (order, item),
+            rest: BTreeMap::new(alloc),
+        }
+    }
+
+    /// Puts an item last, whose order number is above the others.
+    fn put(&mut self, order: u128, item: T) -> Result<(), Memory>
+        ensures ok { OnOk result (IsPutLast order item (entries_of self.old) (entries_of self.new)) }
+        ensures err { OnErr result (entries_of self.new ≡ entries_of self.old) }
+    {
+        self.rest.insert(order, item)?;
+        Ok(())
+    }
+
+    /// Takes the oldest entry, and answers whether it was the only one.
+    fn take_oldest(&mut self) -> bool
+        ensures left { result ≡ false → entries_of self.new ≡ self.old.rest.entries }
+        ensures only { IsTrue result → self.old.rest.entries ≡ [] }
+    {
+        match self.rest.pop_first() {
+            Some(next) => {
+                self.oldest = next;
+                false
+            }
+            None => true,
+        }
+    }
+
+    /// Takes the entry of this order number, and answers whether it was the only one.
+    fn take(&mut self, order: u128) -> bool
+        ensures left { result ≡ false → entries_of self.new
+            ≡ remove_entry (is_at (nat_cmp order)) (entries_of self.old) }
+        ensures only { IsTrue result → remove_entry (is_at (nat_cmp order)) (entries_of self.old)
+            ≡ [] }
+    {
+        if order == self.oldest.0 {
+            return self.take_oldest();
+        }
+        let _ = self.rest.remove(&order);
+        false
+    }
+}
+
+/// Puts an item last into the bucket of its key, which may be a new one.
 fn add<T: Copy>(
-    map: &mut IndexMap<Picks, BTreeMap<u128, T>>,
+    map: &mut IndexMap<Picks, Bucket<T>>,
     key: Picks,
     order: u128,
     item: T,
 ) -> Result<(), Memory>
-    ensures own { OnOk result
-        (bucket_of map.new key ≡ insert_entry nat_cmp (bucket_of map.old key) order item) }
+    ensures own { OnOk result (IsPutLast order item (bucket_of map.old key) (bucket_of map.new key)) }
     ensures others { (k : picks.Picks) → same_picks key k ≡ false →
         bucket_of map.new k ≡ bucket_of map.old k }
     ensures err { OnErr result (bucket_of map.new key ≡ bucket_of map.old key) }
-    ensures full { AreFull map.old → AreFull map.new }
 {
     match map.get_mut(&key) {
-        Some(bucket) => {
-            bucket.insert(order, item)?;
-            Ok(())
-        }
+        Some(bucket) => bucket.put(order, item),
         None => {
-            let mut bucket = BTreeMap::new(*map.allocator());
-            bucket.insert(order, item)?;
+            let bucket = Bucket::of(*map.allocator(), order, item);
             map.insert(key, bucket)?;
             Ok(())
         }
     }
 }
 
-/// Takes the entry of this order number out of a bucket, and answers whether the bucket is empty
-/// now.
-fn drop_at<T: Copy>(map: &mut IndexMap<Picks, BTreeMap<u128, T>>, key: Picks, order: u128) -> bool
-    ensures own { bucket_of map.new key
+/// Takes the entry of this order number out of a bucket, and answers whether it was the only one.
+fn drop_at<T: Copy>(map: &mut IndexMap<Picks, Bucket<T>>, key: Picks, order: u128) -> bool
+    ensures left { result ≡ false → bucket_of map.new key
         ≡ remove_entry (is_at (nat_cmp order)) (bucket_of map.old key) }
+    ensures only { IsTrue result →
+        remove_entry (is_at (nat_cmp order)) (bucket_of map.old key) ≡ [] }
     ensures others { (k : picks.Picks) → same_picks key k ≡ false →
         get same_picks map.new k ≡ get same_picks map.old k }
-    ensures emptied { IsTrue result → bucket_of map.new key ≡ [] }
-    ensures left { result ≡ false → bucket_of map.new key ≡ [] →
-        get same_picks map.new key ≡ None }
 {
     match map.get_mut(&key) {
-        Some(bucket) => {
-            let _ = bucket.remove(&order);
-            bucket.is_empty()
-        }
+        Some(bucket) => bucket.take(order),
         None => false,
     }
 }
@@ -93,8 +137,7 @@ fn drop_at<T: Copy>(map: &mut IndexMap<Picks, BTreeMap<u128, T>>, key: Picks, or
 impl<T: Copy> Buckets<T> {
     /// Buckets where nothing waits.
     pub(crate) fn new(alloc: Global) -> Self
-        ensures none { (k : picks.Picks) → bucket_of result.map k ≡ [] }
-        ensures full { AreFull result.map }
+        ensures { (k : picks.Picks) → bucket_of result.map k ≡ [] }
     {
         Buckets {
             map: IndexMap::new(alloc),
@@ -108,14 +151,13 @@ impl<T: Copy> Buckets<T> {
         first(self.map.get(&key)?)
     }
 
-    /// Puts an item at the place of its order number into the bucket of its key.
+    /// Puts an item last into the bucket of its key.
     pub(crate) fn put(&mut self, key: Picks, order: u128, item: T) -> Result<(), Memory>
-        ensures own { OnOk result (bucket_of self.new.map key
-            ≡ insert_entry nat_cmp (bucket_of self.old.map key) order item) }
+        ensures own { OnOk result
+            (IsPutLast order item (bucket_of self.old.map key) (bucket_of self.new.map key)) }
         ensures others { (k : picks.Picks) → same_picks key k ≡ false →
             bucket_of self.new.map k ≡ bucket_of self.old.map k }
         ensures err { OnErr result (bucket_of self.new.map key ≡ bucket_of self.old.map key) }
-        ensures full { AreFull self.old.map → AreFull self.new.map }
     {
         add(&mut self.map, key, order, item)
     }
@@ -126,7 +168,6 @@ impl<T: Copy> Buckets<T> {
             ≡ remove_entry (is_at (nat_cmp order)) (bucket_of self.old.map key) }
         ensures others { (k : picks.Picks) → same_picks key k ≡ false →
             bucket_of self.new.map k ≡ bucket_of self.old.map k }
-        ensures full { AreFull self.old.map → AreFull self.new.map }
     {
         let emptied = drop_at(&mut self.map, key, order);
         if emptied {

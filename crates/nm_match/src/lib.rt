@@ -26,8 +26,8 @@
 //! claim that names a source and a tag at one; a wildcard looks at the first message of each bucket
 //! of its queue. A cancel, a withdrawal, `is_claimed` and `take_claimed` look up one name. A bucket
 //! is found by hashing, and an entry leaves it in steps that grow with the logarithm of what is
-//! there; an emptied bucket goes, which the matcher's type says, so a wildcard looks at none that is
-//! empty. `knows_post` and `knows_arrival` look up one number.
+//! there. No bucket is empty, which its type says: its oldest entry stands by itself, and an emptied
+//! bucket goes. `knows_post` and `knows_arrival` look up one number.
 //! # What it holds
 //! What waits, what is claimed and not yet received, and the numbers of the cancelled receives. Which
 //! numbers are taken is known by the next of each, and by those that came before their time.

@@ -7,7 +7,7 @@ ghost use Rattle.indexmap.specs.IndexMap.{get};
 ghost use Rattle.nm_types.specs.declared.messages.Post as post;
 ghost use Rattle.nm_history.specs.Selection.{matches};
 ghost use Rattle.nm_match.specs.declared.names.Standing.TheVariants as standing;
-ghost use Rattle.nm_match.specs.Buckets.{front_of, oldest_of};
+ghost use Rattle.nm_match.specs.Buckets.{bucket_of, front_of, oldest_of};
 ghost use Rattle.nm_history.specs.Continues.{has};
 ghost use Rattle.nm_match.specs.Names.{ArePosted};
 ghost use Rattle.nm_match.specs.Queues.{TwoReceives, without_first};
@@ -60,7 +60,7 @@ impl Posted {
 
     /// The oldest receive that names this source and this tag, in the context of a message.
     fn front(&self, from: Peer, tag: TagPick, env: &Envelope) -> Option<(u128, Post)>
-        ensures { result ≡ front_of self.now.waiting.map from tag env.now }
+        ensures { result ≡ front_of (bucket_of self.now.waiting.map) from tag env.now }
     {
         self.waiting.front(Picks {
             from,
@@ -71,7 +71,7 @@ impl Posted {
 
     /// The oldest receive that selects a message: the oldest under the four keys that select it.
     fn oldest(&self, env: &Envelope) -> Option<(u128, Post)>
-        ensures { result ≡ oldest_of self.now.waiting.map env.now }
+        ensures { result ≡ oldest_of (bucket_of self.now.waiting.map) env.now }
     {
         let from = Peer::One(env.from);
         let tag = TagPick::One(env.tag);

@@ -9,7 +9,7 @@ ghost use Rattle.nm_types.specs.declared.messages.Arrival as arrival;
 ghost use Rattle.nm_history.specs.Selection.{matches};
 ghost use Rattle.nm_match.specs.declared.names.Message as message;
 ghost use Rattle.nm_match.specs.declared.names.Standing.TheVariants as standing;
-ghost use Rattle.nm_match.specs.Buckets.{AreBuckets, fitting_at};
+ghost use Rattle.nm_match.specs.Buckets.{AreBuckets, bucket_of, fitting_at};
 ghost use Rattle.nm_match.specs.Deeds.{is_message};
 ghost use Rattle.nm_match.specs.Names.{AreUnexpected, has_one, id_of_arrival, same_message};
 ghost use Rattle.nm_match.specs.Picks.{fits_picks, names_both, picks_of_arrival};
@@ -69,7 +69,7 @@ fn fitting(waiting: &Buckets<Arrival>, wanted: Picks, index: usize) -> Option<(u
 /// The oldest of the first messages of all buckets that a receive or a probe selects.
 fn best(waiting: &Buckets<Arrival>, wanted: Picks) -> Option<(u128, Arrival)>
     ensures { (queue : List (ℕ × arrival.Arrival)) (next : ℕ) →
-        AreBuckets picks_of_arrival queue next waiting.now.map →
+        AreBuckets picks_of_arrival queue next (bucket_of waiting.now.map) →
         result ≡ find (λ x. fits_picks wanted (picks_of_arrival x.1)) queue }
 {
     let mut best = None;
@@ -82,7 +82,7 @@ fn best(waiting: &Buckets<Arrival>, wanted: Picks) -> Option<(u128, Arrival)>
 /// The oldest message that a receive or a probe selects, with its order number.
 fn selected(waiting: &Buckets<Arrival>, wanted: Picks) -> Option<(u128, Arrival)>
     ensures { (queue : List (ℕ × arrival.Arrival)) (next : ℕ) →
-        AreBuckets picks_of_arrival queue next waiting.now.map →
+        AreBuckets picks_of_arrival queue next (bucket_of waiting.now.map) →
         result ≡ find (λ x. fits_picks wanted (picks_of_arrival x.1)) queue }
 {
     if is_named(&wanted) {

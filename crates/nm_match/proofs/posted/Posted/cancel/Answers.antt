@@ -5,6 +5,7 @@ use Rattle.std.specs.Prelude.{nat_eq}
 use Rattle.nm_match.specs.declared.names.Standing.{Standing}
 use Rattle.nm_match.specs.declared.names.Standing.TheVariants.{Aside}
 use Rattle.nm_history.specs.Continues.{has}
+use Rattle.nm_match.specs.Buckets.{bucket_of}
 use Rattle.nm_match.specs.Queues.{TwoReceives}
 use Rattle.nm_match.proofs.NameLemmas.{any_more, any_other, no_place, number_itself, place_found, place_taken}
 use Rattle.nm_match.proofs.NameLemmas.{same_number-true, there_at}
@@ -17,7 +18,7 @@ returns-in-Some-clause-found c = λ posts cancelled next is.
 
 pub returns-in-Some-clause-others : goal.returns-in-Some-clause-others
 returns-in-Some-clause-others c = λ yes posts cancelled next two is.
-    place_taken is c.take.new.self.map c.set_aside.new.standings c.take.ensures.full TwoReceives two
+    place_taken is (bucket_of c.take.new.self.map) c.set_aside.new.standings TwoReceives two
     (λ p q number. posts_apart number p q) c.args.number c.in-Some.key c.in-Some.order c.in-Some.ensures.some
     (λ p here number. ap (λ n. nat_eq n number) (same_number-true p.number c.args.number here))
     c.take.ensures.own c.take.ensures.others (has (cancelled ++ c.args.number ∷ []))

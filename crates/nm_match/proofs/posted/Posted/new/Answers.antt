@@ -8,6 +8,6 @@ use Rattle.nm_match.proofs.posted.Posted.new.Goals as goal
 
 pub returns : goal.returns
 returns c = record {
-  none = λ next. named_none c.new.ensures.none c.new.ensures.full
+  none = λ next. named_none c.new.ensures
       (λ name. ap (λ (es : List (ℕ × Standing)). lookup (nat_eq name) es) c.new-2.ensures.empty) (λ name. refl);
 }

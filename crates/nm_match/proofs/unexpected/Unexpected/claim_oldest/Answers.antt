@@ -6,6 +6,7 @@ use Rattle.nm_history.specs.Selection.{matches}
 use Rattle.nm_match.specs.declared.names.Message.{Message}
 use Rattle.nm_match.specs.declared.names.Standing.{Standing}
 use Rattle.nm_match.specs.declared.names.Standing.TheVariants.{Aside}
+use Rattle.nm_match.specs.Buckets.{bucket_of}
 use Rattle.nm_match.specs.Deeds.{is_message}
 use Rattle.nm_match.specs.Names.{has_one, id_of_arrival}
 use Rattle.nm_match.specs.Picks.{fits_picks, picks_of_arrival}
@@ -34,7 +35,7 @@ returns-clause-others c = λ arrivals claimed next two is.
     let waits = waits_by_name is TwoMessages two (λ a b id. messages_apart id.rank id.n a b)
     (λ (x : ℕ × Arrival). fits_picks (record { from = c.args.from; tag = c.args.tag; ctx = c.args.ctx })
     (picks_of_arrival x.1)) (c.in_ok-order.order, c.in_ok-order.a) found id (message_itself id) in
-    named_taken is c.take.new.self.map c.set_aside.new.standings c.take.ensures.full TwoMessages two
+    named_taken is (bucket_of c.take.new.self.map) c.set_aside.new.standings TwoMessages two
     (λ a b id. messages_apart id.rank id.n a b) (λ (a : Arrival). matches c.args.from c.args.tag c.args.ctx a.env)
     (c.in_ok-order.order, c.in_ok-order.a)
     (selected_found is.is.queue c.args.from c.args.tag c.args.ctx (c.in_ok-order.order, c.in_ok-order.a) found)

@@ -9,7 +9,7 @@ use Rattle.nm_match.proofs.unexpected.Unexpected.new.Goals as goal
 
 pub returns : goal.returns
 returns c = record {
-  none = λ next. named_none c.new.ensures.none c.new.ensures.full
+  none = λ next. named_none c.new.ensures
       (λ name. ap (λ (es : List (Message × Standing)). lookup (same_message name) es) c.new-2.ensures.empty)
       (λ name. refl);
 }

@@ -2,6 +2,7 @@
 use Rattle.std.proofs.Common.{◌∙◌, Some, None, refl, sym}
 use Rattle.nm_types.specs.declared.messages.Arrival.{Arrival}
 use Rattle.nm_history.specs.Selection.{matches}
+use Rattle.nm_match.specs.Buckets.{bucket_of}
 use Rattle.nm_match.specs.Names.{has_one, id_of_arrival}
 use Rattle.nm_match.specs.Queues.{TwoMessages}
 use Rattle.nm_match.proofs.NameLemmas.{message_itself, named_taken, same_message-true}
@@ -24,7 +25,7 @@ returns-clause-others c = λ arrivals claimed next two is stays.
     let own = rw c.of_arrival.ensures at c.take.ensures.own in
     let others = rw c.of_arrival.ensures at c.take.ensures.others in
     let updates = rw c.id_of.ensures at c.swap_remove.ensures.updates.0 in
-    named_taken is c.take.new.self.map c.swap_remove.new.self c.take.ensures.full TwoMessages two
+    named_taken is (bucket_of c.take.new.self.map) c.swap_remove.new.self TwoMessages two
     (λ a b id. messages_apart id.rank id.n a b) (λ (a : Arrival). matches c.args.from c.args.tag c.args.ctx a.env)
     (c.in_ok-order.order, c.in_ok-order.a)
     (selected_found is.is.queue c.args.from c.args.tag c.args.ctx (c.in_ok-order.order, c.in_ok-order.a)
