@@ -7,6 +7,7 @@ pub mod NameLemmas
 pub mod NumberLemmas
 mod OldestLemmas
 mod OrderLemmas
+mod PlaceLemmas
 pub mod PushLemmas
 pub mod QueueLemmas
 pub mod StandsLemmas
@@ -15,4 +16,5 @@ pub mod TurnLemmas
 mod EventLemmas
 mod SearchLemmas
 mod SeenLemmas
+mod WildLemmas
 pub mod InTurnLemmas

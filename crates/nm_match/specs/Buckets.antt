@@ -1,8 +1,11 @@
 -- What waits in buckets, and the queue that it makes.
-use Rattle.std.specs.Prelude.{◌≡◌, ℕ, ◌<◌, Bool, List, [], ◌∷◌, ◌++◌, Option, Some, None}
+use Rattle.std.specs.Prelude.{◌≡◌, ℕ, ◌<◌, Bool, false, List, [], ◌∷◌, ◌++◌, Option, Some, None}
 use Rattle.std.specs.Prelude.{if◌then◌else◌, map, nat_le, slice_get, filter}
 use Rattle.std.specs.List.{All}
+use Rattle.std.specs.BTreeMap.{is_at}
+use Rattle.std.specs.Map.{remove_entry}
 use Rattle.std.specs.Option.{option_map_or}
+use Rattle.std.specs.Ordering.{nat_cmp}
 use Rattle.indexmap.specs.IndexMap.{IndexMap, get}
 use Rattle.nm_types.specs.declared.messages.Envelope.{Envelope}
 use Rattle.nm_types.specs.declared.messages.Peer.{Peer}
@@ -24,6 +27,13 @@ bucket_of m key = option_map_or entries_of (get same_picks m key) []
 -- an item was put last, where its order number is above the others
 abbrev pub IsPutLast : {X : Type 0} → ℕ → X → List (ℕ × X) → List (ℕ × X) → Type 0
 IsPutLast order item before after = All (λ x. x.0 < order) before → after ≡ before ++ (order, item) ∷ []
+
+-- the entry of this key and this order number was taken, and nothing else
+abbrev pub IsTaken : {X : Type 0} → Picks → ℕ → (Picks → List (ℕ × X)) → (Picks → List (ℕ × X))
+    → Type 0
+IsTaken key order before after =
+    (after key ≡ remove_entry (is_at (nat_cmp order)) (before key))
+    × ((k : Picks) → same_picks key k ≡ false → after k ≡ before k)
 
 -- the one with the smaller order number
 abbrev pub earlier_of : {X : Type 0} → Option (ℕ × X) → Option (ℕ × X) → Option (ℕ × X)

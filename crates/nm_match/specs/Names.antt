@@ -15,7 +15,7 @@ use Rattle.nm_match.specs.declared.posted.Posted.{Posted}
 use Rattle.nm_match.specs.declared.unexpected.Unexpected.{Unexpected}
 use Rattle.nm_match.specs.Buckets.{IsQueue, bucket_of}
 use Rattle.nm_match.specs.Deeds.{is_message}
-use Rattle.nm_match.specs.Picks.{picks_of_arrival, picks_of_post}
+use Rattle.nm_match.specs.Picks.{names_both, picks_of_arrival, picks_of_post}
 
 -- the same message of the same rank
 abbrev pub same_message : Message → Message → Bool
@@ -61,10 +61,15 @@ pub record IsNamedQueue {X K T : Type 0} (same : K → K → Bool) (known : X �
   pub is : IsQueue key items next bucket
   pub stands : (name : K) → get same standings name ≡ standing_of known key is.queue aside name
 
+-- the receives that wait under a key: those that name a source and a tag stand apart from the others
+abbrev pub posted_under : Posted → Picks → List (ℕ × post.Post)
+posted_under p key =
+    if names_both key then bucket_of p.named.map key else bucket_of p.wild.map key
+
 -- these receives wait, and these numbers are of cancelled ones
 abbrev pub ArePosted : List post.Post → List ℕ → ℕ → Posted → Type 0
 ArePosted posts cancelled next p =
-    IsNamedQueue nat_eq has_number picks_of_post posts (has cancelled) next (bucket_of p.waiting.map)
+    IsNamedQueue nat_eq has_number picks_of_post posts (has cancelled) next (posted_under p)
     p.standings
 
 -- these messages wait, and these are claimed

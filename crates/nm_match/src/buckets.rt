@@ -1,13 +1,13 @@
 //! Buckets of what waits: one for each key, each in order of age.
 
 ghost use Rattle.std.specs.Prelude.{◌≡◌, ◌∷◌, [], false, IsTrue, OnOk, OnErr};
-ghost use Rattle.std.specs.Prelude.{slice_get};
+ghost use Rattle.std.specs.Prelude.{◌<◌, IfSome, None, Some, slice_get};
 ghost use Rattle.std.specs.Ordering.{nat_cmp};
 ghost use Rattle.std.specs.BTreeMap.{is_at};
 ghost use Rattle.std.specs.Map.{remove_entry};
-ghost use Rattle.indexmap.specs.IndexMap.{get};
+ghost use Rattle.indexmap.specs.IndexMap.{index_map_len, index_of};
 ghost use Rattle.nm_match.specs.declared.picks.Picks as picks;
-ghost use Rattle.nm_match.specs.Buckets.{IsPutLast, bucket_of, earlier_of, entries_of};
+ghost use Rattle.nm_match.specs.Buckets.{IsPutLast, IsTaken, bucket_of, earlier_of, entries_of};
 ghost use Rattle.nm_match.specs.Picks.{same_picks};
 
 use crate::picks::Picks;
@@ -119,18 +119,16 @@ fn add<T: Copy>(
     }
 }
 
-/// Takes the entry of this order number out of a bucket, and answers whether it was the only one.
-fn drop_at<T: Copy>(map: &mut IndexMap<Picks, Bucket<T>>, key: Picks, order: u128) -> bool
-    ensures left { result ≡ false → bucket_of map.new key
-        ≡ remove_entry (is_at (nat_cmp order)) (bucket_of map.old key) }
-    ensures only { IsTrue result →
-        remove_entry (is_at (nat_cmp order)) (bucket_of map.old key) ≡ [] }
-    ensures others { (k : picks.Picks) → same_picks key k ≡ false →
-        get same_picks map.new k ≡ get same_picks map.old k }
+/// Takes the entry of this order number out of the bucket at a place of the map, and an emptied
+/// bucket with it.
+fn take_at<T: Copy>(map: &mut IndexMap<Picks, Bucket<T>>, place: usize, order: u128)
+    requires { place < index_map_len map.old }
+    ensures { (key : picks.Picks) → index_of same_picks map.old key ≡ Some place →
+        IsTaken key order (bucket_of map.old) (bucket_of map.new) }
 {
-    match map.get_mut(&key) {
-        Some(bucket) => bucket.take(order),
-        None => false,
+    let (_, bucket) = map.pair_mut(place);
+    if bucket.take(order) {
+        let _ = map.swap_remove_index(place);
     }
 }
 
@@ -148,7 +146,17 @@ impl<T: Copy> Buckets<T> {
     pub(crate) fn front(&self, key: Picks) -> Option<(u128, T)>
         ensures { result ≡ slice_get (bucket_of self.now.map key) 0 }
     {
+        if self.map.is_empty() {
+            return None;
+        }
         first(self.map.get(&key)?)
+    }
+
+    /// Whether nothing waits.
+    pub(crate) fn is_empty(&self) -> bool
+        ensures { IsTrue result → (k : picks.Picks) → bucket_of self.now.map k ≡ [] }
+    {
+        self.map.is_empty()
     }
 
     /// Puts an item last into the bucket of its key.
@@ -164,14 +172,26 @@ impl<T: Copy> Buckets<T> {
 
     /// Takes the entry of this order number out of a bucket, and an emptied bucket with it.
     pub(crate) fn take(&mut self, key: Picks, order: u128)
-        ensures own { bucket_of self.new.map key
-            ≡ remove_entry (is_at (nat_cmp order)) (bucket_of self.old.map key) }
-        ensures others { (k : picks.Picks) → same_picks key k ≡ false →
-            bucket_of self.new.map k ≡ bucket_of self.old.map k }
+        ensures { IsTaken key order (bucket_of self.old.map) (bucket_of self.new.map) }
     {
-        let emptied = drop_at(&mut self.map, key, order);
-        if emptied {
-            let _ = self.map.swap_remove(&key);
+        if let Some(place) = self.map.get_index_of(&key) {
+            take_at(&mut self.map, place, order);
         }
+    }
+
+    /// Takes the oldest entry under a key, and an emptied bucket with it.
+    pub(crate) fn take_front(&mut self, key: Picks) -> Option<(u128, T)>
+        ensures oldest { result ≡ slice_get (bucket_of self.old.map key) 0 }
+        ensures taken { IfSome result (λ x.
+            IsTaken key x.0 (bucket_of self.old.map) (bucket_of self.new.map)) }
+        ensures none { result ≡ None → self.new ≡ self.old }
+    {
+        if self.map.is_empty() {
+            return None;
+        }
+        let place = self.map.get_index_of(&key)?;
+        let oldest = self.map[place].oldest;
+        take_at(&mut self.map, place, oldest.0);
+        Some(oldest)
     }
 }

@@ -22,12 +22,13 @@
 //! - `laws` lets a caller that keeps a history of its own speak of that history in place of the
 //!   deeds; proofs above cite the lemmas that it comes to.
 //! # What a call looks at
-//! An arrival looks at the four buckets that can have its receive, and a receive, a probe or a
-//! claim that names a source and a tag at one; a wildcard looks at the first message of each bucket
-//! of its queue. A cancel, a withdrawal, `is_claimed` and `take_claimed` look up one name. A bucket
-//! is found by hashing, and an entry leaves it in steps that grow with the logarithm of what is
-//! there. No bucket is empty, which its type says: its oldest entry stands by itself, and an emptied
-//! bucket goes. `knows_post` and `knows_arrival` look up one number.
+//! An arrival looks at the bucket of its own key, and where a receive waits that takes any source or
+//! any tag at the four that can have its receive. A receive, a probe or a claim that names a source
+//! and a tag looks at one; a wildcard looks at the first message of each bucket of its queue. A
+//! cancel, a withdrawal, `is_claimed` and `take_claimed` look up one name. A bucket is found by
+//! hashing, and an entry leaves it in steps that grow with the logarithm of what is there. No bucket
+//! is empty, which its type says: its oldest entry stands by itself, and an emptied bucket goes.
+//! `knows_post` and `knows_arrival` look up one number.
 //! # What it holds
 //! What waits, what is claimed and not yet received, and the numbers of the cancelled receives. Which
 //! numbers are taken is known by the next of each, and by those that came before their time.

@@ -1,7 +1,7 @@
 //! The keys of the buckets.
 
 ghost use Rattle.std.specs.Prelude.{◌≡◌};
-ghost use Rattle.nm_match.specs.Picks.{picks_of_post, picks_of_arrival};
+ghost use Rattle.nm_match.specs.Picks.{names_both, picks_of_arrival, picks_of_post};
 
 use nm_types::{Arrival, Peer, Post, TagPick};
 
@@ -25,6 +25,13 @@ impl PartialEq for Picks {
     fn eq(&self, other: &Picks) -> bool {
         self.from == other.from && self.tag == other.tag && self.ctx == other.ctx
     }
+}
+
+/// Whether a source and a tag are named.
+pub(crate) fn is_named(key: &Picks) -> bool
+    ensures { result ≡ names_both key.now }
+{
+    key.from != Peer::Any && key.tag != TagPick::Any
 }
 
 /// What a posted receive names.

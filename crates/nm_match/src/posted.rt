@@ -7,21 +7,26 @@ ghost use Rattle.indexmap.specs.IndexMap.{get};
 ghost use Rattle.nm_types.specs.declared.messages.Post as post;
 ghost use Rattle.nm_history.specs.Selection.{matches};
 ghost use Rattle.nm_match.specs.declared.names.Standing.TheVariants as standing;
-ghost use Rattle.nm_match.specs.Buckets.{bucket_of, front_of, oldest_of};
+ghost use Rattle.nm_match.specs.Buckets.{AreBuckets, IsPutLast, IsTaken, front_of, oldest_of};
 ghost use Rattle.nm_history.specs.Continues.{has};
-ghost use Rattle.nm_match.specs.Names.{ArePosted};
+ghost use Rattle.nm_match.specs.declared.picks.Picks as picks;
+ghost use Rattle.nm_match.specs.Names.{ArePosted, posted_under};
+ghost use Rattle.nm_match.specs.Picks.{picks_of_post, same_picks};
 ghost use Rattle.nm_match.specs.Queues.{TwoReceives, without_first};
 
 use crate::buckets::{Buckets, earlier};
 use crate::names::Standing;
-use crate::picks::{Picks, of_post};
+use crate::picks::{Picks, is_named, of_post};
 use indexmap::IndexMap;
 use nm_types::{Envelope, Memory, Peer, Post, TagPick};
 use std::alloc::Global;
 
 /// The receives that wait, and those that are cancelled.
 pub struct Posted {
-    pub waiting: Buckets<Post>,
+    /// Those that name a source and a tag.
+    pub named: Buckets<Post>,
+    /// Those that take any source or any tag.
+    pub wild: Buckets<Post>,
     /// Where each of them stands, by its number.
     pub standings: IndexMap<u64, Standing>,
 }
@@ -29,7 +34,8 @@ pub struct Posted {
 impl Drop for Posted {
     fn drop(self) {
         let Posted {
-            waiting: _,
+            named: _,
+            wild: _,
             standings: _,
         } = self;
     }
@@ -53,25 +59,31 @@ impl Posted {
         ensures none { (next : ℕ) → ArePosted [] [] next result }
     {
         Posted {
-            waiting: Buckets::new(alloc),
+            named: Buckets::new(alloc),
+            wild: Buckets::new(alloc),
             standings: IndexMap::new(alloc),
         }
     }
 
     /// The oldest receive that names this source and this tag, in the context of a message.
     fn front(&self, from: Peer, tag: TagPick, env: &Envelope) -> Option<(u128, Post)>
-        ensures { result ≡ front_of (bucket_of self.now.waiting.map) from tag env.now }
+        ensures { result ≡ front_of (posted_under self.now) from tag env.now }
     {
-        self.waiting.front(Picks {
+        let key = Picks {
             from,
             tag,
             ctx: env.ctx,
-        })
+        };
+        if is_named(&key) {
+            self.named.front(key)
+        } else {
+            self.wild.front(key)
+        }
     }
 
     /// The oldest receive that selects a message: the oldest under the four keys that select it.
     fn oldest(&self, env: &Envelope) -> Option<(u128, Post)>
-        ensures { result ≡ oldest_of (bucket_of self.now.waiting.map) env.now }
+        ensures { result ≡ oldest_of (posted_under self.now) env.now }
     {
         let from = Peer::One(env.from);
         let tag = TagPick::One(env.tag);
@@ -81,6 +93,34 @@ impl Posted {
             self.front(Peer::Any, TagPick::Any, env),
         );
         earlier(named, any_tag)
+    }
+
+    /// Puts a receive last into the bucket of its key.
+    fn put_under(&mut self, key: Picks, order: u128, p: Post) -> Result<(), Memory>
+        ensures own { OnOk result
+            (IsPutLast order p (posted_under self.old key) (posted_under self.new key)) }
+        ensures others { (k : picks.Picks) → same_picks key k ≡ false →
+            posted_under self.new k ≡ posted_under self.old k }
+        ensures err { OnErr result (posted_under self.new key ≡ posted_under self.old key) }
+        ensures standings { self.new.standings ≡ self.old.standings }
+    {
+        if is_named(&key) {
+            self.named.put(key, order, p)
+        } else {
+            self.wild.put(key, order, p)
+        }
+    }
+
+    /// Takes the receive of this order number out of the bucket of a key.
+    fn take_under(&mut self, key: Picks, order: u128)
+        ensures taken { IsTaken key order (posted_under self.old) (posted_under self.new) }
+        ensures standings { self.new.standings ≡ self.old.standings }
+    {
+        if is_named(&key) {
+            self.named.take(key, order);
+        } else {
+            self.wild.take(key, order);
+        }
     }
 
     /// Puts a receive whose number is new last.
@@ -94,11 +134,34 @@ impl Posted {
     {
         self.standings.reserve(1)?;
         let key = of_post(&p);
-        self.waiting.put(key, order, p)?;
+        self.put_under(key, order, p)?;
         self.standings
             .insert(p.number, Standing::Waits { key, order })
             .unwrap();
         Ok(())
+    }
+
+    /// Takes the oldest receive that selects a message out of its bucket. Where no receive takes any
+    /// source or any tag, one bucket can have it.
+    fn take_waiting(&mut self, env: &Envelope) -> Option<(u128, Post)>
+        ensures oldest { result ≡ oldest_of (posted_under self.old) env.now }
+        ensures taken { (queue : List (ℕ × post.Post)) (next : ℕ) →
+            AreBuckets picks_of_post queue next (posted_under self.old) →
+            IfSome result (λ x. IsTaken (picks_of_post x.1) x.0 (posted_under self.old)
+            (posted_under self.new)) }
+        ensures none { result ≡ None → self.new ≡ self.old }
+        ensures standings { self.new.standings ≡ self.old.standings }
+    {
+        if self.wild.is_empty() {
+            return self.named.take_front(Picks {
+                from: Peer::One(env.from),
+                tag: TagPick::One(env.tag),
+                ctx: env.ctx,
+            });
+        }
+        let (order, p) = self.oldest(env)?;
+        self.take_under(of_post(&p), order);
+        Some((order, p))
     }
 
     /// Takes the oldest receive that selects a message. The others keep their order.
@@ -113,8 +176,7 @@ impl Posted {
             (without_first (λ q. matches q.from q.tag q.ctx env.now) posts) cancelled next
             self.new) }
     {
-        let (order, p) = self.oldest(env)?;
-        self.waiting.take(of_post(&p), order);
+        let (_, p) = self.take_waiting(env)?;
         let _ = self.standings.swap_remove(&p.number);
         Some(p)
     }
@@ -147,7 +209,7 @@ impl Posted {
     {
         match self.place(number) {
             Some((key, order)) => {
-                self.waiting.take(key, order);
+                self.take_under(key, order);
                 set_aside(&mut self.standings, number);
                 true
             }

@@ -93,6 +93,9 @@ impl Seen {
         ensures same { (i : message.Message) → has_seen self.new i ≡ has_seen self.old i }
         ensures len { length self.new.next.items ≡ length self.old.next.items }
     {
+        if self.apart.is_empty() {
+            return;
+        }
         let next = Message {
             rank: group,
             n: self.next_of(group),

@@ -9,15 +9,15 @@ ghost use Rattle.nm_types.specs.declared.messages.Arrival as arrival;
 ghost use Rattle.nm_history.specs.Selection.{matches};
 ghost use Rattle.nm_match.specs.declared.names.Message as message;
 ghost use Rattle.nm_match.specs.declared.names.Standing.TheVariants as standing;
-ghost use Rattle.nm_match.specs.Buckets.{AreBuckets, bucket_of, fitting_at};
+ghost use Rattle.nm_match.specs.Buckets.{AreBuckets, IsTaken, bucket_of, fitting_at};
 ghost use Rattle.nm_match.specs.Deeds.{is_message};
 ghost use Rattle.nm_match.specs.Names.{AreUnexpected, has_one, id_of_arrival, same_message};
-ghost use Rattle.nm_match.specs.Picks.{fits_picks, names_both, picks_of_arrival};
+ghost use Rattle.nm_match.specs.Picks.{fits_picks, picks_of_arrival};
 ghost use Rattle.nm_match.specs.Queues.{TwoMessages, without_first};
 
 use crate::buckets::{Buckets, earlier, first};
 use crate::names::{Message, Standing, id_of};
-use crate::picks::{Picks, of_arrival};
+use crate::picks::{Picks, is_named, of_arrival};
 use indexmap::IndexMap;
 use nm_types::{Arrival, Memory, Peer, TagPick};
 use std::alloc::Global;
@@ -45,13 +45,6 @@ fn fits(wanted: &Picks, key: &Picks) -> bool
     wanted.ctx == key.ctx
         && (wanted.from == Peer::Any || wanted.from == key.from)
         && (wanted.tag == TagPick::Any || wanted.tag == key.tag)
-}
-
-/// Whether a receive or a probe names a source and a tag.
-fn is_named(wanted: &Picks) -> bool
-    ensures { result ≡ names_both wanted.now }
-{
-    wanted.from != Peer::Any && wanted.tag != TagPick::Any
 }
 
 /// The oldest message of the bucket at this place of the map, if it is selected.
@@ -90,6 +83,23 @@ fn selected(waiting: &Buckets<Arrival>, wanted: Picks) -> Option<(u128, Arrival)
     } else {
         best(waiting, wanted)
     }
+}
+
+/// Takes the oldest message that a receive or a probe selects out of its bucket.
+fn take_selected(waiting: &mut Buckets<Arrival>, wanted: Picks) -> Option<(u128, Arrival)>
+    ensures taken { (queue : List (ℕ × arrival.Arrival)) (next : ℕ) →
+        AreBuckets picks_of_arrival queue next (bucket_of waiting.old.map) →
+        (result ≡ find (λ x. fits_picks wanted (picks_of_arrival x.1)) queue)
+        × IfSome result (λ x. IsTaken (picks_of_arrival x.1) x.0 (bucket_of waiting.old.map)
+        (bucket_of waiting.new.map)) }
+    ensures none { result ≡ None → waiting.new ≡ waiting.old }
+{
+    if is_named(&wanted) {
+        return waiting.take_front(wanted);
+    }
+    let (order, a) = best(waiting, wanted)?;
+    waiting.take(of_arrival(&a), order);
+    Some((order, a))
 }
 
 /// Sets aside a message, if it waits.
@@ -155,8 +165,7 @@ impl Unexpected {
             (λ a. has_one claimed (id_of_arrival a) ≡ false → AreUnexpected
             (without_first (λ a. matches from tag ctx a.env) arrivals) claimed next self.new) }
     {
-        let (order, a) = selected(&self.waiting, Picks { from, tag, ctx })?;
-        self.waiting.take(of_arrival(&a), order);
+        let (_, a) = take_selected(&mut self.waiting, Picks { from, tag, ctx })?;
         let _ = self.standings.swap_remove(&id_of(&a));
         Some(a)
     }
@@ -172,8 +181,7 @@ impl Unexpected {
             (λ a. AreUnexpected (without_first (λ a. matches from tag ctx a.env) arrivals)
             (claimed ++ a ∷ []) next self.new) }
     {
-        let (order, a) = selected(&self.waiting, Picks { from, tag, ctx })?;
-        self.waiting.take(of_arrival(&a), order);
+        let (_, a) = take_selected(&mut self.waiting, Picks { from, tag, ctx })?;
         set_aside(&mut self.standings, id_of(&a));
         Some(a)
     }

@@ -6,29 +6,31 @@ use Rattle.std.specs.Prelude.{nat_eq}
 use Rattle.nm_types.specs.declared.messages.Post.{Post}
 use Rattle.nm_types.proofs.ResultLemmas.{on_err}
 use Rattle.nm_match.specs.declared.names.Standing.{Standing}
-use Rattle.nm_match.specs.Buckets.{bucket_of}
+use Rattle.nm_match.specs.Names.{posted_under}
 use Rattle.nm_match.proofs.HeldLemmas.{all_same}
 use Rattle.nm_match.proofs.NameLemmas.{named_kept, named_put, same_number-true}
 use Rattle.nm_match.proofs.posted.Posted.put.Goals as goal
 
 pub returns-in_err-reserve-clause-err : goal.returns-in_err-reserve-clause-err
 returns-in_err-reserve-clause-err c = on_err c.from_residual.result (λ posts cancelled next is.
-    named_kept is (bucket_of c.args.self.now.waiting.map) c.reserve.new.self (λ k. refl)
+    named_kept is (posted_under c.args.self.now) c.reserve.new.self (λ k. refl)
     (λ name. ap (λ (es : List (ℕ × Standing)). lookup (nat_eq name) es) c.reserve.ensures.entries))
 
-pub returns-in_err-put-clause-err : goal.returns-in_err-put-clause-err
-returns-in_err-put-clause-err c = on_err c.from_residual-in_err-put.result (λ posts cancelled next is.
-    named_kept is (bucket_of c.put.new.self.map) c.reserve.new.self
-    (all_same (bucket_of c.args.self.now.waiting.map) (bucket_of c.put.new.self.map) c.of_post-key.result c.in_err-put.ensures.err
-    c.in_err-put.ensures.others)
-    (λ name. ap (λ (es : List (ℕ × Standing)). lookup (nat_eq name) es) c.reserve.ensures.entries))
+pub returns-in_err-put_under-clause-err : goal.returns-in_err-put_under-clause-err
+returns-in_err-put_under-clause-err c = on_err c.from_residual-in_err-put_under.result (λ posts cancelled next is.
+    named_kept is (posted_under c.put_under.new.self) c.put_under.new.self.standings
+    (all_same (posted_under c.args.self.now) (posted_under c.put_under.new.self) c.of_post-key.result
+    c.in_err-put_under.ensures.err c.in_err-put_under.ensures.others)
+    (λ name. rw c.in_err-put_under.ensures.standings
+    (ap (λ (es : List (ℕ × Standing)). lookup (nat_eq name) es) c.reserve.ensures.entries)))
 
 pub returns-clause-ok : goal.returns-clause-ok
 returns-clause-ok c = λ posts cancelled is none.
-    let own = rw c.of_post-key.ensures at c.in_ok-put.ensures.own in
-    let others = rw c.of_post-key.ensures at c.in_ok-put.ensures.others in
-    let updates = rw c.of_post-key.ensures at (rw c.unwrap.ensures at c.insert.ensures.updates).0 in
-    named_put is (bucket_of c.put.new.self.map) c.insert.new.self c.args.p c.args.p.number (λ name. refl)
+    let own = rw c.of_post-key.ensures at c.in_ok-put_under.ensures.own in
+    let others = rw c.of_post-key.ensures at c.in_ok-put_under.ensures.others in
+    let updates = rw (c.of_post-key.ensures, c.in_ok-put_under.ensures.standings) at
+    (rw c.unwrap.ensures at c.insert.ensures.updates).0 in
+    named_put is (posted_under c.put_under.new.self) c.insert.new.self c.args.p c.args.p.number (λ name. refl)
     (λ name here. subst (λ (n : ℕ). find (λ (q : Post). q.number == n) posts ≡ None)
     (same_number-true c.args.p.number name here) none) own others
     (λ name here. updates name ∙ rw here refl)

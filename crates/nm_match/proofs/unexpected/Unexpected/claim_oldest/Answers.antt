@@ -6,44 +6,50 @@ use Rattle.nm_history.specs.Selection.{matches}
 use Rattle.nm_match.specs.declared.names.Message.{Message}
 use Rattle.nm_match.specs.declared.names.Standing.{Standing}
 use Rattle.nm_match.specs.declared.names.Standing.TheVariants.{Aside}
+use Rattle.nm_match.specs.declared.buckets.Buckets.{Buckets}
 use Rattle.nm_match.specs.Buckets.{bucket_of}
 use Rattle.nm_match.specs.Deeds.{is_message}
 use Rattle.nm_match.specs.Names.{has_one, id_of_arrival}
 use Rattle.nm_match.specs.Picks.{fits_picks, picks_of_arrival}
 use Rattle.nm_match.specs.Queues.{TwoMessages}
-use Rattle.nm_match.proofs.NameLemmas.{any_more, any_other, message_itself, named_taken, same_message-true}
-use Rattle.nm_match.proofs.NameLemmas.{there_at, waits_by_name}
+use Rattle.nm_match.proofs.NameLemmas.{any_more, any_other, message_itself, named_kept, named_taken}
+use Rattle.nm_match.proofs.NameLemmas.{same_message-true, there_at, waits_by_name}
 use Rattle.nm_match.proofs.OldestLemmas.{arrival_found, messages_apart, selected_found}
 use Rattle.nm_match.proofs.unexpected.Unexpected.claim_oldest.Goals as goal
 
-pub returns-in_err-order-clause-oldest : goal.returns-in_err-order-clause-oldest
-returns-in_err-order-clause-oldest c = λ arrivals claimed next is.
+pub returns-in_err-a-clause-oldest : goal.returns-in_err-a-clause-oldest
+returns-in_err-a-clause-oldest c = λ arrivals claimed next is.
     c.from_residual.ensures ∙ arrival_found is.is c.args.from c.args.tag c.args.ctx None
-    (c.in_err-order.ensures is.is.queue next is.is.are)
+    (c.in_err-a.ensures.taken is.is.queue next is.is.are).0
+
+pub returns-in_err-a-clause-others : goal.returns-in_err-a-clause-others
+returns-in_err-a-clause-others c = λ arrivals claimed next two is.
+    let same = c.in_err-a.ensures.none refl in
+    rw c.from_residual.ensures (named_kept is (bucket_of c.take_selected.new.waiting.map) c.args.self.now.standings
+    (λ k. ap (λ (b : Buckets Arrival). bucket_of b.map k) same) (λ id. refl))
 
 pub returns-clause-oldest : goal.returns-clause-oldest
 returns-clause-oldest c = λ arrivals claimed next is.
-    arrival_found is.is c.args.from c.args.tag c.args.ctx (Some (c.in_ok-order.order, c.in_ok-order.a))
-    (c.in_ok-order.ensures is.is.queue next is.is.are)
+    arrival_found is.is c.args.from c.args.tag c.args.ctx (Some (c.in_ok-a.field-0-0, c.in_ok-a.a))
+    (c.in_ok-a.ensures.taken is.is.queue next is.is.are).0
 
 pub returns-clause-others : goal.returns-clause-others
 returns-clause-others c = λ arrivals claimed next two is.
-    let own = rw c.of_arrival.ensures at c.take.ensures.own in
-    let others = rw c.of_arrival.ensures at c.take.ensures.others in
-    let id : Message = id_of_arrival c.in_ok-order.a in
-    let found = sym (c.in_ok-order.ensures is.is.queue next is.is.are) in
+    let id : Message = id_of_arrival c.in_ok-a.a in
+    let taken = c.in_ok-a.ensures.taken is.is.queue next is.is.are in
+    let found = sym taken.0 in
     let waits = waits_by_name is TwoMessages two (λ a b id. messages_apart id.rank id.n a b)
     (λ (x : ℕ × Arrival). fits_picks (record { from = c.args.from; tag = c.args.tag; ctx = c.args.ctx })
-    (picks_of_arrival x.1)) (c.in_ok-order.order, c.in_ok-order.a) found id (message_itself id) in
-    named_taken is (bucket_of c.take.new.self.map) c.set_aside.new.standings TwoMessages two
+    (picks_of_arrival x.1)) (c.in_ok-a.field-0-0, c.in_ok-a.a) found id (message_itself id) in
+    named_taken is (bucket_of c.take_selected.new.waiting.map) c.set_aside.new.standings TwoMessages two
     (λ a b id. messages_apart id.rank id.n a b) (λ (a : Arrival). matches c.args.from c.args.tag c.args.ctx a.env)
-    (c.in_ok-order.order, c.in_ok-order.a)
-    (selected_found is.is.queue c.args.from c.args.tag c.args.ctx (c.in_ok-order.order, c.in_ok-order.a) found)
-    id (λ id. refl) own others (has_one (claimed ++ c.in_ok-order.a ∷ []))
-    (λ other apart. any_other (is_message other.rank other.n) claimed c.in_ok-order.a apart)
-    (there_at same_message-true (has_one (claimed ++ c.in_ok-order.a ∷ [])) c.set_aside.new.standings id
+    (c.in_ok-a.field-0-0, c.in_ok-a.a)
+    (selected_found is.is.queue c.args.from c.args.tag c.args.ctx (c.in_ok-a.field-0-0, c.in_ok-a.a) found)
+    id (λ id. refl) taken.1.0 taken.1.1 (has_one (claimed ++ c.in_ok-a.a ∷ []))
+    (λ other apart. any_other (is_message other.rank other.n) claimed c.in_ok-a.a apart)
+    (there_at same_message-true (has_one (claimed ++ c.in_ok-a.a ∷ [])) c.set_aside.new.standings id
     ((rw c.id_of.ensures at c.set_aside.ensures.own)
     ∙ ap (λ (o : Option Standing). option_map (λ s. Aside) o) waits
     ∙ sym (ap (λ b. cond b (Some Aside) None)
-    (any_more (is_message id.rank id.n) claimed c.in_ok-order.a (message_itself id)))))
+    (any_more (is_message id.rank id.n) claimed c.in_ok-a.a (message_itself id)))))
     (rw c.id_of.ensures at c.set_aside.ensures.others)

@@ -20,8 +20,8 @@ returns-in_err-reserve-clause-err c = on_err c.from_residual.result (λ arrivals
 pub returns-in_err-put-clause-err : goal.returns-in_err-put-clause-err
 returns-in_err-put-clause-err c = on_err c.from_residual-in_err-put.result (λ arrivals claimed next is.
     named_kept is (bucket_of c.put.new.self.map) c.reserve.new.self
-    (all_same (bucket_of c.args.self.now.waiting.map) (bucket_of c.put.new.self.map) c.of_arrival-key.result c.in_err-put.ensures.err
-    c.in_err-put.ensures.others)
+    (all_same (bucket_of c.args.self.now.waiting.map) (bucket_of c.put.new.self.map) c.of_arrival-key.result
+    c.in_err-put.ensures.err c.in_err-put.ensures.others)
     (λ id. ap (λ (es : List (Message × Standing)). lookup (same_message id) es) c.reserve.ensures.entries))
 
 pub returns-clause-ok : goal.returns-clause-ok

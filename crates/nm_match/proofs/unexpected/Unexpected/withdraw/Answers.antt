@@ -17,7 +17,7 @@ returns-in-Some-clause-others c = λ yes arrivals claimed next two is stays.
     place_taken is (bucket_of c.take.new.self.map) c.swap_remove.new.self TwoMessages two
     (λ a b id. messages_apart id.rank id.n a b) c.args.id c.in-Some.key c.in-Some.order c.in-Some.ensures.some
     (λ a here id. ap (λ m. same_message m id) (same_message-true (id_of_arrival a) c.args.id here))
-    c.take.ensures.own c.take.ensures.others (has_one claimed) (λ id other. refl)
+    c.take.ensures.0 c.take.ensures.1 (has_one claimed) (λ id other. refl)
     (there_at same_message-true (has_one claimed) c.swap_remove.new.self c.args.id
     (updates c.args.id ∙ rw (message_itself c.args.id, stays) refl))
     (λ id other. updates id ∙ rw other refl)
