@@ -8,12 +8,14 @@ use Rattle.std.proofs.lemmas.Bool.Decides.{nat_tests}
 use Rattle.std.proofs.lemmas.Map.Entries.{lookup_from_place}
 use Rattle.std.specs.Cmp.{nat_eq_equiv}
 use Rattle.std.specs.List.{position_or_len, IsDistinct}
-use Rattle.std.specs.Map.{keys_of, lookup}
-use Rattle.std.proofs.lemmas.Option.{slice_get_within}
+use Rattle.std.specs.Map.{keys_of, lookup, values_of}
+use Rattle.indexmap.specs.IndexMap.{set_value_at}
+use Rattle.std.proofs.lemmas.Option.{slice_get-map, slice_get_within}
 use Rattle.std.specs.Option.{is_some, option_map, option_map_or}
 use Rattle.nm_rndv.specs.Grants.{Granted, came, is_open, is_whole, is_unfinished, expected_in}
 use Rattle.nm_rndv.specs.Grants.{count_unfinished, due_in, has_unfinished}
-use Rattle.nm_rndv.specs.Grants.{due_of, first_unfinished, AllWhole}
+use Rattle.nm_rndv.specs.Grants.{due_of, first_unfinished, with_grant, AllWhole}
+use Rattle.nm_rndv.proofs.EntryLemmas.{entry_there, set_value-place}
 use Rattle.nm_rndv.proofs.Places.{passes_there, find-first, none_found, found_none, none_within}
 
 -- a whole message is not open
@@ -118,23 +120,40 @@ module _ (es : List (ℕ × Granted)) (i : ℕ) (first : i ≡ position_or_len i
   due_in-some e at =
       ap (λ o. option_map_or (λ e. due_of e.1) o 0) (find-first is_unfinished es i first ∙ at)
 
-  -- an expected message has an unfinished grant
-  pub expected_is_open : IsDistinct nat_eq (keys_of es) → (n : ℕ) →
-      option_map (λ at. at.0) (expected_in es) ≡ Some n →
-      (g : Granted) × (lookup (nat_eq n) es ≡ Some g) × (is_open g ≡ true)
-  expected_is_open distinct n h = by (slice_get es i) refl
+  -- an expected message has an unfinished grant, which stands there
+  expected_there : (n : ℕ) → option_map (λ at. at.0) (expected_in es) ≡ Some n →
+      (g : Granted) × (slice_get es i ≡ Some (n, g)) × (is_open g ≡ true)
+  expected_there n h = by (slice_get es i) refl
     where
       by : (o : Option (ℕ × Granted)) → slice_get es i ≡ o →
-          (g : Granted) × (lookup (nat_eq n) es ≡ Some g) × (is_open g ≡ true)
+          (g : Granted) × (o ≡ Some (n, g)) × (is_open g ≡ true)
       by None at =
           let none : Some n ≡ None = sym h ∙ ap (λ o. option_map (λ (e : ℕ × ℕ). e.0) o) (expected_in-none at) in
           absurd cc
       by (Some e) at =
           let named : Some e.0 ≡ Some n = sym (ap (λ o. option_map (λ (e : ℕ × ℕ). e.0) o) (expected_in-some e at))
           ∙ h in
-          let is : e.0 ≡ n = cc in (
-            e.1,
-            subst (λ k. lookup (nat_eq k) es ≡ Some e.1) is
-                (lookup_from_place nat_eq_equiv es i e.0 e.1 distinct at),
-            open_there e at,
-          )
+          let is : e.0 ≡ n = cc in (e.1, ap (λ (m : ℕ). Some (m, e.1)) is, open_there e at)
+
+  -- the value there is its grant, which is written at its number
+  module _ (distinct : IsDistinct nat_eq (keys_of es)) (n : ℕ)
+      (named : option_map (λ at. at.0) (expected_in es) ≡ Some n) where
+    pub within_there : i < length es
+    within_there =
+        let g = expected_there n named in slice_get_within es i (n, g.0) g.1
+
+    module _ (v : Granted) (value : slice_get (values_of es) i ≡ Some v) where
+      here : slice_get es i ≡ Some (n, v)
+      here =
+          let g = expected_there n named in
+          entry_there es i n v (slice_get-map (λ (e : ℕ × Granted). e.0) es i
+          ∙ ap (option_map (λ (e : ℕ × Granted). e.0)) g.1) value
+
+      pub grant_there : lookup (nat_eq n) es ≡ Some v
+      grant_there = lookup_from_place nat_eq_equiv es i n v distinct here
+
+      pub opens_there : is_open v ≡ true
+      opens_there = open_there (n, v) here
+
+      pub written_there : (w : Granted) → set_value_at es i w ≡ with_grant es n w
+      written_there w = set_value-place es i n v w distinct here

@@ -1,3 +1,4 @@
+mod EntryLemmas
 pub mod GrantLemmas
 mod KeptLemmas
 mod PieceLemmas

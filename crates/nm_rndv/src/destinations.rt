@@ -1,8 +1,9 @@
 //! What was asked of one destination, and what was recalled from it.
 
 ghost use Rattle.std.specs.Prelude.{◌≡◌, ℕ, false, Some, None, nat_eq, if◌then◌else◌, IsSome};
-ghost use Rattle.std.specs.Prelude.{OnOk, OnErr};
-ghost use Rattle.std.specs.Option.{option_map, option_map_or, option_and_then};
+ghost use Rattle.std.specs.Prelude.{OnOk, OnErr, IfSome, IfNone, slice_get};
+ghost use Rattle.std.specs.Option.{option_copied, option_map, option_map_or, option_and_then};
+ghost use Rattle.std.specs.Map.{keys_of};
 ghost use Rattle.nm_rndv.specs.Cuts.{offset_of, next_bytes};
 ghost use Rattle.nm_rndv.specs.Offers.{untold, state_in, recall_in, is_waiting};
 ghost use Rattle.nm_rndv.specs.Offers.{is_leaving as is_leaving_lem, is_out as is_out_lem};
@@ -12,6 +13,7 @@ ghost use Rattle.nm_rndv.specs.Offers.{after_clearance, after_piece};
 
 use crate::asked::{State, cleared, popped, withdrawn};
 use crate::cuts::{Leaving, LongBody};
+use crate::recalls::Recalls;
 use indexmap::IndexMap;
 use nm_types::Memory;
 use std::alloc::Global;
@@ -21,13 +23,16 @@ use std::mem;
 /// The messages asked of one destination and those recalled from it, each by its number, in order.
 pub struct Destination {
     asked: IndexMap<u64, State>,
-    recalls: IndexMap<u64, Option<bool>>,
+    // by number, where the message may stand among those asked
+    hints: Vec<u32>,
+    recalls: Recalls,
 }
 
 impl Drop for Destination {
     fn drop(self) {
         let Destination {
             asked: _,
+            hints: _,
             recalls: _,
         } = self;
     }
@@ -38,17 +43,71 @@ impl Model for Destination {
 
     ghost Value = { Destined };
 
-    ghost view = { λ d. record { asked = d.asked.entries; recalls = d.recalls.entries } };
+    ghost view = { λ d. record { asked = d.asked.entries; recalls = d.recalls } };
+}
+
+/// The most numbers that have a hint.
+const HINTS: u64 = 1_048_576;
+
+/// Notes where the message of a number may stand.
+fn note(hints: &mut Vec<u32>, n: u64, place: usize) -> Result<(), Memory> {
+    if n >= HINTS {
+        return Ok(());
+    }
+    let number = n as usize;
+    if hints.len() <= number {
+        hints.resize(number + 1, 0)?;
+    }
+    if let Some(hint) = hints.get_mut(number) {
+        *hint = place.min(u32::MAX as usize) as u32;
+    }
+    Ok(())
 }
 
 impl Destination {
+    /// Where the message may stand.
+    fn hint(&self, n: u64) -> usize {
+        match self.hints.get(n as usize) {
+            Some(place) => *place as usize,
+            None => 0,
+        }
+    }
+
+    /// How far the message has come, if it was asked.
+    fn state(&self, n: u64) -> Option<&State>
+        ensures { option_copied result ≡ state_in self.now n }
+    {
+        if let Some((number, state)) = self.asked.get_index(self.hint(n)) {
+            if *number == n {
+                return Some(state);
+            }
+        }
+        self.asked.get(&n)
+    }
+
+    /// Where the message stands among those asked.
+    fn place_of(&self, n: u64) -> Option<usize>
+        ensures some { IfSome result (λ place.
+            slice_get (keys_of self.now.asked) place ≡ Some n) }
+        ensures none { IfNone result (state_in self.now n ≡ None) }
+    {
+        let hint = self.hint(n);
+        if let Some((number, _)) = self.asked.get_index(hint) {
+            if *number == n {
+                return Some(hint);
+            }
+        }
+        self.asked.get_index_of(&n)
+    }
+
     /// Nothing was asked, and nothing recalled.
     pub fn new(alloc: Global) -> Self
         ensures { result ≡ untold }
     {
         Destination {
             asked: IndexMap::new(alloc),
-            recalls: IndexMap::new(alloc),
+            hints: Vec::new(alloc),
+            recalls: Recalls::new(alloc),
         }
     }
 
@@ -60,6 +119,7 @@ impl Destination {
             ≡ (if nat_eq n q then Some (State.Asked body) else state_in self.old q)) }
         ensures err { OnErr result (self.new ≡ self.old) }
     {
+        note(&mut self.hints, n, self.asked.len())?;
         self.asked.insert(n, State::Asked(body))?;
         Ok(())
     }
@@ -68,28 +128,28 @@ impl Destination {
     pub fn is_asked(&self, n: u64) -> bool
         ensures { result ≡ option_map_or is_waiting (state_in self.now n) false }
     {
-        matches!(self.asked.get(&n), Some(State::Asked(_)))
+        matches!(self.state(n), Some(State::Asked(_)))
     }
 
     /// Whether the message was cleared and is not out.
     pub fn is_leaving(&self, n: u64) -> bool
         ensures { result ≡ option_map_or is_leaving_lem (state_in self.now n) false }
     {
-        matches!(self.asked.get(&n), Some(State::Cleared(_)))
+        matches!(self.state(n), Some(State::Cleared(_)))
     }
 
     /// Whether the message was cleared, also where it is out.
     pub fn was_cleared(&self, n: u64) -> bool
         ensures { result ≡ option_map_or was_cleared_lem (state_in self.now n) false }
     {
-        matches!(self.asked.get(&n), Some(State::Cleared(_) | State::Out))
+        matches!(self.state(n), Some(State::Cleared(_) | State::Out))
     }
 
     /// Whether the message is out.
     pub fn is_out(&self, n: u64) -> bool
         ensures { result ≡ option_map_or is_out_lem (state_in self.now n) false }
     {
-        matches!(self.asked.get(&n), Some(State::Out))
+        matches!(self.state(n), Some(State::Out))
     }
 
     /// What is left to be sent of a message that was cleared and is not out.
@@ -97,7 +157,7 @@ impl Destination {
         ensures { option_map (λ left. (offset_of left.now, next_bytes left.now)) result
             ≡ option_and_then next_in (state_in self.now n) }
     {
-        match self.asked.get(&n) {
+        match self.state(n) {
             Some(State::Cleared(leaving)) => Some(leaving),
             _ => None,
         }
@@ -108,7 +168,8 @@ impl Destination {
         requires { IsSome (state_in self.old n) }
         ensures { self.new ≡ with_step self.old n after_clearance }
     {
-        let state = self.asked.get_mut(&n).unwrap();
+        let place = self.place_of(n).unwrap();
+        let state = self.asked.get_index_mut(place).unwrap();
         *state = cleared(mem::replace(state, State::Out));
     }
 
@@ -117,7 +178,8 @@ impl Destination {
         requires { IsSome (state_in self.old n) }
         ensures { self.new ≡ with_step self.old n after_piece }
     {
-        let state = self.asked.get_mut(&n).unwrap();
+        let place = self.place_of(n).unwrap();
+        let state = self.asked.get_index_mut(place).unwrap();
         *state = popped(mem::replace(state, State::Out));
     }
 
@@ -127,15 +189,14 @@ impl Destination {
         ensures ok { OnOk result (self.new ≡ with_recall self.old n) }
         ensures err { OnErr result (self.new ≡ self.old) }
     {
-        self.recalls.insert(n, None)?;
-        Ok(())
+        self.recalls.add(n)
     }
 
     /// Whether the message was recalled, and the recall not answered.
     pub fn is_recalled(&self, n: u64) -> bool
         ensures { result ≡ option_map_or is_unanswered (recall_in self.now n) false }
     {
-        matches!(self.recalls.get(&n), Some(None))
+        matches!(self.recalls.get(n), Some(None))
     }
 
     /// Notes the answer of a recall.
@@ -143,7 +204,7 @@ impl Destination {
         requires { IsSome (recall_in self.old n) }
         ensures { self.new ≡ with_answer self.old n done }
     {
-        *self.recalls.get_mut(&n).unwrap() = Some(done);
+        self.recalls.answer(n, done);
         if done {
             if let Some(state) = self.asked.get_mut(&n) {
                 *state = withdrawn(mem::replace(state, State::Out));

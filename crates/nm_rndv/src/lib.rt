@@ -38,6 +38,7 @@ mod granted;
 mod granting;
 pub mod laws;
 mod offering;
+mod recalls;
 mod senders;
 
 pub use granting::Grants;

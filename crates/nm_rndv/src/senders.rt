@@ -150,7 +150,8 @@ impl Sender {
         ensures err { OnErr result (self.new.grants ≡ self.old.grants) }
         ensures room { self.new.spare ≡ self.old.spare }
     {
-        self.grants.get_mut(&p.n).unwrap().add(p.bytes.as_slice())?;
+        let grant = self.grants.get_index_mut(self.first_open).unwrap();
+        grant.add(p.bytes.as_slice())?;
         self.first_open = first_open(&self.grants, self.first_open);
         Ok(())
     }

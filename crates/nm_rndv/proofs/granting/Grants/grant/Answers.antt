@@ -20,7 +20,8 @@ returns-clause-ok c =
 pub returns-clause-err : goal.returns-clause-err
 returns-clause-err c =
     on_err_weaker c.grant-whole.result (grants-set_same c.self.inside.senders.items c.args.self.now c.args.from
-    c.self.view_is c.requires.in_range c.index_mut-sender.result.now c.index_mut-sender.ensures.value c.grant-whole.new.self)
+    c.self.view_is c.requires.in_range c.index_mut-sender.result.now c.index_mut-sender.ensures.value
+    c.grant-whole.new.self)
     c.grant-whole.ensures.err
 
 pub returns-clause-succeeds : goal.returns-clause-succeeds

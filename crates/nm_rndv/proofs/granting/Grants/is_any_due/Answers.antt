@@ -11,6 +11,7 @@ returns c =
     let counted = none_counted rows in
     subst (λ (v : Granting). (nat_lt 0 a.unfinished ≡ false) ↔ ((from : ℕ) → from < length v.grants →
     AllWhole (grants_from v from))) c.self.view_is (
-      λ none. counted.0 (let zero : count_unfinished rows ≡ 0 = grind (arith, nat_tests, none, c.self.invariant) in zero),
+      λ none. counted.0
+          (let zero : count_unfinished rows ≡ 0 = grind (arith, nat_tests, none, c.self.invariant) in zero),
       λ whole. let zero = counted.1 whole in grind (arith, nat_tests, zero, c.self.invariant),
     )
