@@ -4,3 +4,4 @@ mod ToldLemmas
 mod TotalsLemmas
 mod GotLemmas
 mod FitLemmas
+mod DigitLemmas

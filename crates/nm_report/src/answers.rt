@@ -4,8 +4,9 @@ ghost use Rattle.std.specs.Prelude.{◌≡◌, [], ◌∷◌, ◌++◌, OnOk, de
 ghost use Rattle.std.specs.List.{join_with_byte};
 ghost use Rattle.nm_report.specs.Answers.{answer_words, body_word};
 
+use crate::digits::push_digits;
 use nm_types::Answer;
-use std::alloc::{AllocError, Global};
+use std::alloc::AllocError;
 
 /// Writes a name, the source and the tag of a message, and a number of bytes.
 fn push_shown(out: &mut String, name: &str, from: u8, tag: u16, len: u64) -> Result<(), AllocError>
@@ -38,13 +39,12 @@ pub fn push_answer(out: &mut String, answer: &Answer) -> Result<(), AllocError>
 }
 
 /// Writes the bytes of a message, where the answer has them.
-pub(crate) fn push_body(alloc: Global, out: &mut String, answer: &Answer) -> Result<(), AllocError>
+pub(crate) fn push_body(out: &mut String, answer: &Answer) -> Result<(), AllocError>
     ensures ok { OnOk result (string_bytes out.new ≡ string_bytes out.old ++ body_word answer.now) }
 {
     if let Answer::Got { body, .. } = answer {
-        let digits = hex::encode(alloc, body.as_slice())?;
         out.push_str(" x")?;
-        out.push_str(&digits)?;
+        push_digits(out, body.as_slice())?;
     }
     Ok(())
 }

@@ -25,6 +25,7 @@
 
 mod accounts;
 mod answers;
+mod digits;
 mod events;
 pub mod laws;
 mod pairs;

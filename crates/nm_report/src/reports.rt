@@ -14,7 +14,6 @@ use std::alloc::{AllocError, Global};
 
 /// Writes the line of an answer, but none where a start was taken.
 fn push_answer_line(
-    alloc: Global,
     out: &mut String,
     rank: usize,
     line: u32,
@@ -28,33 +27,28 @@ fn push_answer_line(
     }
     write!(out, "{rank} {line} ")?;
     push_answer(out, answer)?;
-    push_body(alloc, out, answer)?;
+    push_body(out, answer)?;
     out.push_str("\n")
 }
 
 /// Writes the line of an event that is an answer.
-fn push_ran(alloc: Global, out: &mut String, rank: usize, what: &Happened) -> Result<(), AllocError>
+fn push_ran(out: &mut String, rank: usize, what: &Happened) -> Result<(), AllocError>
     ensures ok { OnOk result
         (string_bytes out.new ≡ string_bytes out.old ++ ran_line rank what.now) }
 {
     match what {
-        Happened::Ran { line, answer } => push_answer_line(alloc, out, rank, *line, answer),
+        Happened::Ran { line, answer } => push_answer_line(out, rank, *line, answer),
         _ => Ok(()),
     }
 }
 
 /// Writes the lines of a rank's answers, and then of the command that can't go on.
-fn push_answers(
-    alloc: Global,
-    out: &mut String,
-    rank: usize,
-    account: &RankAccount,
-) -> Result<(), AllocError>
+fn push_answers(out: &mut String, rank: usize, account: &RankAccount) -> Result<(), AllocError>
     ensures ok { OnOk result
         (string_bytes out.new ≡ string_bytes out.old ++ answer_lines rank account.now) }
 {
     for event in account.history.as_slice() {
-        push_ran(alloc, out, rank, &event.what)?;
+        push_ran(out, rank, &event.what)?;
     }
     match account.waits {
         Some(line) => write!(out, "{rank} {line} waits\n"),
@@ -63,16 +57,12 @@ fn push_answers(
 }
 
 /// Writes the lines of all answers, rank by rank.
-fn push_all_answers(
-    alloc: Global,
-    out: &mut String,
-    ranks: &[RankAccount],
-) -> Result<(), AllocError>
+fn push_all_answers(out: &mut String, ranks: &[RankAccount]) -> Result<(), AllocError>
     ensures ok { OnOk result
         (string_bytes out.new ≡ string_bytes out.old ++ by_rank answer_lines ranks.now) }
 {
     for (rank, account) in ranks.iter().enumerate() {
-        push_answers(alloc, out, rank, account)?;
+        push_answers(out, rank, account)?;
     }
     Ok(())
 }
@@ -95,11 +85,11 @@ pub fn push_end(out: &mut String, run: &RunRecord) -> Result<(), AllocError>
 }
 
 /// Writes the lines of a report.
-fn push_report(alloc: Global, out: &mut String, run: &RunRecord) -> Result<(), AllocError>
+fn push_report(out: &mut String, run: &RunRecord) -> Result<(), AllocError>
     ensures ok { OnOk result
         (string_bytes out.new ≡ string_bytes out.old ++ report_text false run.now) }
 {
-    push_all_answers(alloc, out, run.ranks.as_slice())?;
+    push_all_answers(out, run.ranks.as_slice())?;
     push_end(out, run)
 }
 
@@ -112,7 +102,7 @@ pub fn report(alloc: Global, run: &RunRecord) -> Result<Vec<u8>, Memory>
     ensures { IfOk result (λ text. text.items ≡ report_text false run.now) }
 {
     let mut out = String::new(alloc);
-    push_report(alloc, &mut out, run)?;
+    push_report(&mut out, run)?;
     Ok(out.into_bytes())
 }
 
@@ -124,6 +114,6 @@ pub fn trace(alloc: Global, run: &RunRecord) -> Result<Vec<u8>, Memory>
     let mut out = String::new(alloc);
     push_all_events(&mut out, run.ranks.as_slice())?;
     push_pairs(&mut out, run.pairs.as_slice())?;
-    push_report(alloc, &mut out, run)?;
+    push_report(&mut out, run)?;
     Ok(out.into_bytes())
 }
