@@ -2,6 +2,6 @@ pub mod CutLemmas
 mod JoinLemmas
 pub mod MessageLemmas
 pub mod MissingLemmas
-mod SearchLemmas
+mod PlaceLemmas
 mod SenderLemmas
 mod StreamLemmas

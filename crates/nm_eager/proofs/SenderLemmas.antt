@@ -1,22 +1,26 @@
 -- What the fields of a sender keep, step by step.
 use Rattle.std.proofs.Common.{◌≡◌, ◌≢◌, ℕ, ◌+◌, ◌<◌, ◌≤◌, ◌==◌, true, false, cond, not, IfSome}
 use Rattle.std.proofs.Common.{List, [], ◌∷◌, ◌++◌, length, map, filter, find, Option, Some, None}
-use Rattle.std.proofs.Common.{sym, ap, ◌∙◌, refl, inl, inr, arith, slice_get, get_or, IfNone}
-use Rattle.std.proofs.Common.{IsTrue, Bool}
-use Rattle.std.specs.List.{AllByRecursion, All, remove, sum_by}
-use Rattle.std.specs.Option.{option_to_list, IsSomeAnd, IsSome, is_some}
+use Rattle.std.proofs.Common.{sym, ap, ◌∙◌, refl, inl, inr, arith, slice_get}
+use Rattle.std.proofs.Common.{Bool, IsTrue, length-append, length-set, set}
+use Rattle.std.specs.List.{AllByRecursion, remove, sum_by}
+use Rattle.std.specs.Option.{option_to_list, IsSomeAnd, is_some}
 use Rattle.std.proofs.lemmas.List.{map-append, append-nil}
 use Rattle.std.proofs.lemmas.List.Sums.{sum_by-append, sum_by-cons}
 use Rattle.std.proofs.lemmas.List.Elements.{filter-append}
 use Rattle.std.proofs.lemmas.List.Folds.{find-append}
-use Rattle.std.proofs.lemmas.Option.{slice_get-get_or, slice_get_within}
-use Rattle.nm_eager.specs.Streams.{IsStream, IsWholeOrLast, carried_on, Incoming, AreNumbered}
+use Rattle.std.proofs.lemmas.Option.{slice_get_past}
+use Rattle.nm_types.specs.declared.limits.TheConstants.{MAX_PACKETS}
+use Rattle.nm_eager.specs.Streams.{IsStream, IsWholeOrLast, Incoming, AreNumbered}
 use Rattle.nm_eager.specs.Streams.{lacking, with_more, IsWholeIn}
-use Rattle.nm_eager.specs.Senders.{AreReceived, IsLast}
+use Rattle.nm_eager.specs.Streams.{Stream}
+use Rattle.nm_eager.specs.Senders.{AreAtNumbers, AreAtPlaces, AreReceived, IsLast, IsPut, standing}
 use Rattle.nm_eager.proofs.MessageLemmas.{Lacks, AreNumbered-wider, AreNumbered-push}
 use Rattle.nm_eager.proofs.MessageLemmas.{AreNumbered-at, AreNumbered-filter, AllByRecursion-filter}
 use Rattle.nm_eager.proofs.MessageLemmas.{AllByRecursion-push, AllByRecursion-at}
-use Rattle.nm_eager.proofs.MessageLemmas.{Lacks-below, Lacks-from_All, find-lacks}
+use Rattle.nm_eager.proofs.MessageLemmas.{Lacks-below, find-lacks}
+use Rattle.nm_eager.proofs.PlaceLemmas.{lacks_at, number_at, numbers-emptied, stands_at}
+use Rattle.nm_eager.proofs.PlaceLemmas.{put-places, put-received, put-stream}
 use Rattle.nm_eager.proofs.MessageLemmas.{map-lacks, find-at, filter-at}
 use Rattle.nm_types.proofs.NumberLemmas.{unequal, eq_true}
 
@@ -29,25 +33,6 @@ lacking-whole (m ∷ whole) h = omega (arith, sum_by-cons lacking m whole, lacki
 pub lacking-none_behind : (whole : List Incoming) → AllByRecursion (λ m. length m.bytes ≡ m.len) whole
     → sum_by lacking (whole ++ []) ≡ 0
 lacking-none_behind whole h = rw append-nil (lacking-whole whole h)
-
-some_and : (o : Option Incoming) (P : Incoming → Type 0) → IsSomeAnd o P
-    → (m : Incoming) × (o ≡ Some m) × P m
-some_and None P h = absurd h
-some_and (Some m) P h = (m, refl, h)
-
--- the place that a search found has the message
-pub place-has : (whole : List Incoming) (n k : ℕ) (o : Option ℕ) → o ≡ Some k
-    → IfSome o (λ i. IsSomeAnd (slice_get whole i) (λ m. m.n ≡ n))
-    → (m : Incoming) × (slice_get whole k ≡ Some m) × (m.n ≡ n)
-place-has whole n k o e h = some_and (slice_get whole k) (λ m. m.n ≡ n) (rw e at h)
-
--- what stands at a place is what was removed there
-pub removed-is : (whole : List Incoming) (k len : ℕ) (m : Incoming) (o : Option Incoming)
-    → slice_get whole k ≡ Some m → len ≡ length whole → ((d : Incoming) → k < len
-    → o ≡ Some (get_or whole k d)) → o ≡ Some m
-removed-is whole k len m o at l h =
-    let within = slice_get_within whole k m at in
-    h m (omega arith) ∙ sym (slice_get-get_or whole k m within) ∙ at
 
 each_whole : (count : ℕ) (whole : List Incoming) → AllByRecursion (λ m. length m.bytes ≡ m.len) whole
     → AllByRecursion (IsWholeOrLast count) whole
@@ -101,17 +86,6 @@ module _ (count : ℕ) (whole : List Incoming) (spare : ℕ) where
   }
   counts (Some m) r e = cc
 
-  -- a message that is whole is put behind the whole ones
-  pub puts_whole : (spare' : ℕ) (u : Option Incoming) (m : Incoming) → AreReceived count whole u spare
-      → u ≡ None → AreNumbered 0 m.n (whole ++ option_to_list u) → m.n + 1 ≡ count → length m.bytes ≡ m.len
-      → AreReceived count (whole ++ m ∷ []) u spare'
-  puts_whole spare' None m r e b l w = record {
-    numbered = AreNumbered-push 0 m.n count whole m (rw append-nil at b) (omega arith) (omega arith);
-    are_whole = AllByRecursion-push (λ x. length x.bytes ≡ x.len) whole m r.are_whole w;
-    last = tt;
-  }
-  puts_whole spare' (Some v) m r e b l w = cc
-
   -- where bytes are missing, a message is unfinished
   pub some-open : (u : Option Incoming) → AreReceived count whole u spare
       → 0 < sum_by lacking (whole ++ option_to_list u) → ((x : Incoming) → u ≡ Some x → ⊥) → ⊥
@@ -131,18 +105,6 @@ module _ (count : ℕ) (whole : List Incoming) (spare : ℕ) where
             (Lacks-below n 0 m.n whole (omega arith) r.last.behind),
         eq_true m.n n same,
       )
-
-  -- the same of the streams
-  pub goes_on-stream : (u u' : Option Incoming) (m m' : Incoming) (n : ℕ) (bytes : List ℕ)
-      → AreReceived count whole u spare → u ≡ Some m → u' ≡ None → m' ≡ record m { bytes = m.bytes ++ bytes }
-      → n + 1 ≡ count → record { count = count; messages = (whole ++ option_to_list u') ++ m' ∷ [] }
-      ≡ carried_on (record { count = count; messages = whole ++ option_to_list u }) n bytes
-  goes_on-stream u u' m m' n bytes r e e' changed last =
-      let here = goes_on m n bytes (rw e at r) last in
-      rw (e, e', changed, append-nil whole) (ap (λ (ms : List Incoming). record {
-        count = count;
-        messages = ms;
-      }) here)
 
   -- a whole message is found by its number
   pub finds : (u : Option Incoming) (n k : ℕ) (m : Incoming) → AreReceived count whole u spare
@@ -208,21 +170,140 @@ module _ (count : ℕ) (whole : List Incoming) (spare : ℕ) where
         unequal v.n n other,
       )
 
-  -- a search among the whole messages tells whether one is whole
-  pub whole_answer : (u : Option Incoming) (n : ℕ) (o : Option ℕ) (b : Bool)
-      → AreReceived count whole u spare → IfSome o (λ i. IsSomeAnd (slice_get whole i) (λ m. m.n ≡ n))
-      → IfNone o (All (λ m. m.n ≢ n) whole) → b ≡ is_some o → (IsTrue b
-      → IsWholeIn (record { count = count; messages = whole ++ option_to_list u }) n) ×
-      (IsWholeIn (record { count = count; messages = whole ++ option_to_list u }) n → IsTrue b)
-  whole_answer u n None b r found none e =
-      rw e ((λ no_search. cc), λ whole'. absurd (not_whole u n r (Lacks-from_All n whole none) whole'))
-  whole_answer u n (Some k) b r found none e =
-      let at = place-has whole n k (Some k) refl found in
-      rw (e, finds u n k at.0 r at.1 at.2) ((λ _. is_whole-at u k at.0 r at.1), λ _. refl)
+-- what stands at the places, of which each whole message has the one of its number
+module _ (count : ℕ) (whole : List (Option Incoming)) (places : ℕ) (u : Option Incoming)
+    (received : AreReceived count (standing whole) u places) (at : AreAtPlaces count whole u) (n : ℕ) where
+  abbrev stream : Stream
+  stream = record { count = count; messages = standing whole ++ option_to_list u }
 
-  -- a whole message is found
-  pub whole-found : (u : Option Incoming) (n : ℕ) (o : Option ℕ) → AreReceived count whole u spare
-      → IfNone o (All (λ m. m.n ≢ n) whole)
-      → IsWholeIn (record { count = count; messages = whole ++ option_to_list u }) n → IsSome o
-  whole-found u n None r none w = absurd (not_whole u n r (Lacks-from_All n whole none) w)
-  whole-found u n (Some k) r none w = refl
+  -- a message that stands at its place is whole
+  pub whole_there : (m : Incoming) → slice_get whole n ≡ Some (Some m) → IsWholeIn stream n
+  whole_there m here =
+      let j = stands_at whole n m here in
+      let number : m.n ≡ n = let is = number_at 0 whole n m at.numbers here in omega arith in
+      rw (finds count (standing whole) places u n j.0 m received j.1 number)
+      (is_whole-at count (standing whole) places u j.0 m received j.1)
+
+  -- where none stands, none is whole
+  pub none_there : ((m : Incoming) → slice_get whole n ≡ Some (Some m) → ⊥) → IsWholeIn stream n → ⊥
+  none_there none = not_whole count (standing whole) places u n received
+      (lacks_at 0 whole n n at.numbers (omega arith) none)
+
+  -- what stands at its place tells whether it is whole
+  pub whole_answer : (o : Option Incoming) (b : Bool) → slice_get whole n ≡ Some o → b ≡ is_some o
+      → (IsTrue b → IsWholeIn stream n) × (IsWholeIn stream n → IsTrue b)
+  whole_answer None b here e = rw e ((λ no. cc), λ is. absurd (none_there (λ m h. cc) is))
+  whole_answer (Some m) b here e = rw e ((λ _. whole_there m here), λ _. refl)
+
+  -- where it has no place, it is not
+  pub absent_answer : length whole ≤ n → (IsTrue false → IsWholeIn stream n) × (IsWholeIn stream n → IsTrue false)
+  absent_answer past =
+      let none : slice_get whole n ≡ None = slice_get_past whole n past in
+      ((λ no. cc), λ is. absurd (none_there (λ m h. cc) is))
+
+  -- a whole message stands at its place
+  pub stands_there : IsWholeIn stream n → (m : Incoming) × (slice_get whole n ≡ Some (Some m))
+  stands_there is = by (slice_get whole n) refl
+    where
+      by : (o : Option (Option Incoming)) → slice_get whole n ≡ o
+          → (m : Incoming) × (slice_get whole n ≡ Some (Some m))
+      by None e = absurd (none_there (λ m h. cc) is)
+      by (Some None) e = absurd (none_there (λ m h. cc) is)
+      by (Some (Some m)) e = (m, e)
+
+  -- to empty its place is to take it
+  module _ (m : Incoming) (here : slice_get whole n ≡ Some (Some m)) where
+    number : m.n ≡ n
+    number = let is = number_at 0 whole n m at.numbers here in omega arith
+
+    pub message_there : find (λ x. x.n == n) (standing whole ++ option_to_list u) ≡ Some m
+    message_there =
+        let j = stands_at whole n m here in finds count (standing whole) places u n j.0 m received j.1 number
+
+    pub emptied-stream : standing (set whole n None) ++ option_to_list u
+        ≡ filter (λ x. not (x.n == n)) (standing whole ++ option_to_list u)
+    emptied-stream =
+        let j = stands_at whole n m here in
+        rw j.2 (leaves_out count (standing whole) places u n j.0 m received j.1 number)
+
+    pub emptied-received : AreReceived count (standing (set whole n None)) u places
+    emptied-received =
+        let j = stands_at whole n m here in
+        rw j.2 (takes count (standing whole) places places u n j.0 m received j.1 number (omega arith))
+
+    pub emptied-places : AreAtPlaces count (set whole n None) u
+    emptied-places =
+        let same = length-set whole n None in
+        record {
+          numbers = numbers-emptied 0 whole n at.numbers;
+          counted = omega (arith, same, at.counted);
+          behind = behind u at.behind;
+          few = at.few;
+        }
+      where
+        behind : (o : Option Incoming) → IfSome o (λ x. length whole ≤ x.n)
+            → IfSome o (λ x. length (set whole n None) ≤ x.n)
+        behind None h = tt
+        behind (Some x) h = omega (arith, length-set whole n None)
+
+-- the unfinished message goes on, and is put
+module _ (count : ℕ) (whole new : List (Option Incoming)) (places : ℕ) (m more : Incoming) (left : Option Incoming)
+    (bytes : List ℕ) (received : AreReceived count (standing whole) (Some m) places)
+    (at : AreAtPlaces count whole (Some m)) (is : more ≡ record m { bytes = m.bytes ++ bytes })
+    (size : length bytes ≤ lacking m) (put : IsPut whole new more left) where
+  same_number : more.n ≡ m.n
+  same_number = ap (λ (x : Incoming). x.n) is
+
+  within : length more.bytes ≤ more.len
+  within = let open' = received.last.unfinished in rw is (omega (arith, length-append m.bytes bytes))
+
+  behind : length whole ≤ more.n
+  behind = let here = at.behind in rw same_number here
+
+  last : more.n + 1 ≡ count
+  last = let here = received.last.last in rw same_number here
+
+  pub carried-received : AreReceived count (standing new) left places
+  carried-received = put-received count whole new more left put within at.numbers behind last places
+      received.are_whole received.last.kept
+
+  pub carried-places : AreAtPlaces count new left
+  carried-places = put-places count whole new more left put within at.numbers behind last at.few
+
+  pub carried-stream : (n : ℕ) → n + 1 ≡ count
+      → standing new ++ option_to_list left ≡ map (with_more n bytes) (standing whole ++ m ∷ [])
+  carried-stream n e = put-stream count whole new more left put within at.numbers behind last
+      ∙ rw is (goes_on count (standing whole) places m n bytes received e)
+
+-- a message begins, and is put
+module _ (count : ℕ) (whole new : List (Option Incoming)) (m : Incoming) (left : Option Incoming) (len : ℕ)
+    (bytes : List ℕ) (numbers : AreAtNumbers 0 whole) (counted : length whole ≤ count)
+    (is : m ≡ record { n = count; len = len; bytes = bytes }) (size : length bytes ≤ len)
+    (put : IsPut whole new m left) where
+  fits : length m.bytes ≤ m.len
+  fits = rw is size
+
+  after : length whole ≤ m.n
+  after = rw is counted
+
+  next : m.n + 1 ≡ count + 1
+  next = rw is refl
+
+  pub begun-received : (places : ℕ) → AllByRecursion (λ x. length x.bytes ≡ x.len) (standing whole)
+      → count < places → AreReceived (count + 1) (standing new) left places
+  begun-received places all room =
+      put-received (count + 1) whole new m left put fits numbers after next places all (omega arith)
+
+  pub begun-places : count < MAX_PACKETS → AreAtPlaces (count + 1) new left
+  begun-places limit = put-places (count + 1) whole new m left put fits numbers after next (omega arith)
+
+  pub begun-stream : standing new ++ option_to_list left
+      ≡ standing whole ++ record { n = count; len = len; bytes = bytes } ∷ []
+  begun-stream = put-stream (count + 1) whole new m left put fits numbers after next ∙ rw is refl
+
+-- one message more is counted
+pub counts-places : (count : ℕ) (whole : List (Option Incoming)) (u : Option Incoming) → AreAtPlaces count whole u
+    → count < MAX_PACKETS → AreAtPlaces (count + 1) whole u
+counts-places count whole u at limit =
+    let counted = at.counted in
+    record { numbers = at.numbers; counted = omega arith; behind = at.behind; few = omega arith }

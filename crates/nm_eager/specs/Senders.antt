@@ -1,24 +1,26 @@
 -- What contracts see of what came from one sender.
-use Rattle.std.specs.Prelude.{◌≡◌, ℕ, ◌+◌, ◌<◌, ◌≤◌, Option, IfSome, List, length}
-use Rattle.std.specs.List.{AllByRecursion}
+use Rattle.std.specs.Prelude.{◌≡◌, ℕ, ◌+◌, ◌-◌, ◌<◌, ◌≤◌, Option, Some, None, IfSome, List, [], ◌∷◌, ◌++◌, length}
+use Rattle.std.specs.Prelude.{option_to_list, replicate}
+use Rattle.std.specs.List.{AllByRecursion, flat_map}
+use Rattle.nm_types.specs.declared.limits.TheConstants.{MAX_PACKETS}
 use Rattle.nm_types.specs.declared.packets.What.{What}
 use Rattle.nm_types.specs.declared.packets.What.TheVariants.{Head}
 use Rattle.nm_eager.specs.Streams.{Incoming, Stream, nothing_came, AreNumbered}
 
--- what came from one sender; for how many whole messages more there is room beside those that wait;
+-- what came from one sender; for how many of its messages there is a place, counted ones among them;
 -- and how many bytes the next message may have so that it needs no memory
 pub record Received : Type 0 where
   pub stream : Stream
-  pub spare : ℕ
+  pub places : ℕ
   pub room : ℕ
 
 -- nothing came, and there is no room
 abbrev pub nothing_received : Received
-nothing_received = record { stream = nothing_came; spare = 0; room = 0 }
+nothing_received = record { stream = nothing_came; places = 0; room = 0 }
 
 -- a message of this length can begin without memory
 pub record CanBegin (received : Received) (len : ℕ) : Type 0 where
-  pub kept : 0 < received.spare
+  pub kept : received.stream.count < received.places
   pub buffered : len ≤ received.room
 
 -- what a packet begins can begin without memory; what goes on needs none
@@ -29,19 +31,43 @@ IsReadyAt received _ = Unit {0}
 -- the same came, and what could begin without memory still can
 pub record SameReceived (old new : Received) : Type 0 where
   pub same : new.stream ≡ old.stream
-  pub kept : old.spare ≤ new.spare
+  pub kept : old.places ≤ new.places
   pub buffered : old.room ≤ new.room
 
--- an unfinished message is the last one counted, behind all whole ones, and there is room for it
-pub record IsLast (count : ℕ) (whole : List Incoming) (spare : ℕ) (m : Incoming) : Type 0 where
+-- the messages that stand at these places
+abbrev pub standing : List (Option Incoming) → List Incoming
+standing whole = flat_map option_to_list whole
+
+-- what stands at a place has its number, where the first of these places has this one
+abbrev pub AreAtNumbers : ℕ → List (Option Incoming) → Type 0
+AreAtNumbers first [] = Unit {0}
+AreAtNumbers first (place ∷ places) = IfSome place (λ m. m.n ≡ first) × AreAtNumbers (first + 1) places
+
+-- an unfinished message is the last one counted, behind all whole ones, and there is a place for it
+pub record IsLast (count : ℕ) (whole : List Incoming) (places : ℕ) (m : Incoming) : Type 0 where
   pub last : m.n + 1 ≡ count
   pub behind : AreNumbered 0 m.n whole
   pub unfinished : length m.bytes < m.len
-  pub kept : 0 < spare
+  pub kept : count ≤ places
 
 -- what the fields of a sender keep: whole messages by rising numbers, and perhaps an unfinished one
 pub record AreReceived (count : ℕ) (whole : List Incoming) (unfinished : Option Incoming)
-    (spare : ℕ) : Type 0 where
+    (places : ℕ) : Type 0 where
   pub numbered : AreNumbered 0 count whole
   pub are_whole : AllByRecursion (λ m. length m.bytes ≡ m.len) whole
-  pub last : IfSome unfinished (IsLast count whole spare)
+  pub last : IfSome unfinished (IsLast count whole places)
+
+-- each whole message stands at the place of its number, and those that were counted are not too many
+pub record AreAtPlaces (count : ℕ) (whole : List (Option Incoming)) (unfinished : Option Incoming) :
+    Type 0 where
+  pub numbers : AreAtNumbers 0 whole
+  pub counted : length whole ≤ count
+  pub behind : IfSome unfinished (λ m. length whole ≤ m.n)
+  pub few : count ≤ MAX_PACKETS
+
+-- a message that lacks nothing is put at its place, and an unfinished one is left
+pub record IsPut (old new : List (Option Incoming)) (m : Incoming) (left : Option Incoming) :
+    Type 0 where
+  pub finished : length m.bytes ≡ m.len → (left ≡ None)
+      × (new ≡ old ++ replicate (m.n - length old) None ++ Some m ∷ [])
+  pub unfinished : length m.bytes < m.len → (left ≡ Some m) × (new ≡ old)

@@ -1,24 +1,24 @@
 //! What came from one sender.
 
-ghost use Rattle.std.specs.Prelude.{◌≡◌, ◌+◌, ◌<◌, ◌≤◌, ℕ, ◌∷◌, [], ◌++◌, length, ◌↔◌, IsTrue};
-ghost use Rattle.std.specs.Prelude.{◌≢◌, IsOk, OnOk, IfSome, IfNone, IsSomeAnd, All, slice_get};
+ghost use Rattle.std.specs.Prelude.{◌≡◌, ◌+◌, ◌-◌, ◌<◌, ◌≤◌, ℕ, ◌++◌, length, ◌↔◌, IsTrue, None};
+ghost use Rattle.std.specs.Prelude.{IsOk, OnOk, IsSomeAnd, replicate, vec_capacity};
 ghost use Rattle.nm_types.specs.declared.limits.TheConstants.{MAX_PACKETS};
 ghost use Rattle.nm_eager.specs.Streams.{nothing_came, missing, begun, carried_on, skipped};
-ghost use Rattle.nm_eager.specs.Streams.{AreNumbered, IsStream, message_of, IsWholeIn, without};
+ghost use Rattle.nm_eager.specs.Streams.{IsStream, message_of, IsWholeIn, without};
 ghost use Rattle.nm_eager.specs.Streams.{is_eager, continues, after, joined_by};
-ghost use Rattle.nm_eager.specs.Senders.{CanBegin, IsReadyAt, SameReceived};
+ghost use Rattle.nm_eager.specs.Senders.{CanBegin, IsPut, IsReadyAt, SameReceived};
 
 use crate::messages::Message;
 use nm_types::{Bytes, Joined, Memory, What};
 use std::alloc::Global;
-use std::collections::VecDeque;
 use std::marker::Model;
 use std::mem;
 
 /// What came from one sender: the whole messages that weren't taken, and one that is unfinished.
 pub struct Sender {
     count: u64,
-    whole: VecDeque<Message>,
+    /// By number: what is whole and wasn't taken.
+    whole: Vec<Option<Message>>,
     unfinished: Option<Message>,
     /// Empty: the next message that begins gets it.
     buffer: Vec<u8>,
@@ -36,33 +36,52 @@ impl Drop for Sender {
 }
 
 impl Model for Sender {
-    ghost use Rattle.std.specs.Prelude.{◌≡◌, ◌-◌, ◌++◌, [], option_to_list, vec_capacity};
-    ghost use Rattle.std.specs.VecDeque.{deque_capacity, deque_len};
-    ghost use Rattle.nm_eager.specs.Senders.{Received, AreReceived};
+    ghost use Rattle.std.specs.Prelude.{◌≡◌, ◌++◌, [], option_to_list, vec_capacity};
+    ghost use Rattle.nm_eager.specs.Senders.{Received, AreReceived, AreAtPlaces, standing};
 
     ghost Value = { Received };
 
     ghost view = { λ a. record {
-      stream = record { count = a.count; messages = a.whole.items ++ option_to_list a.unfinished };
-      spare = deque_capacity a.whole - deque_len a.whole;
+      stream = record {
+        count = a.count;
+        messages = standing a.whole.items ++ option_to_list a.unfinished;
+      };
+      places = vec_capacity a.whole;
       room = vec_capacity a.buffer;
     } };
 
     ghost invariant = { λ a. (a.buffer.items ≡ [])
-        × AreReceived a.count a.whole.items a.unfinished
-        (deque_capacity a.whole - deque_len a.whole) };
+        × AreReceived a.count (standing a.whole.items) a.unfinished (vec_capacity a.whole)
+        × AreAtPlaces a.count a.whole.items a.unfinished };
 }
 
-/// The place of message n among messages in the order of their numbers.
-fn place_of(messages: &VecDeque<Message>, n: u64) -> Option<usize>
-    requires { (high : ℕ) × AreNumbered 0 high messages.now.items }
-    ensures found { IfSome result (λ place.
-        IsSomeAnd (slice_get messages.now.items place) (λ m. m.n ≡ n)) }
-    ensures none { IfNone result (All (λ m. m.n ≢ n) messages.now.items) }
+/// Leaves the places up to this one empty.
+fn leave_empty(whole: &mut Vec<Option<Message>>, place: usize)
+    requires behind { length whole.old.items ≤ place }
+    requires room { place ≤ vec_capacity whole.old }
+    ensures items { whole.new.items
+        ≡ whole.old.items ++ replicate (place - length whole.old.items) None }
+    ensures room { vec_capacity whole.new ≡ vec_capacity whole.old }
 {
-    messages
-        .binary_search_by_key(&n, |message| message.n())
-        .ok()
+    for _place in whole.len()..place {
+        whole.push_reserved(None);
+    }
+}
+
+/// Puts a message behind those that are whole, at the place of its number, if it is whole, too.
+/// One that is unfinished comes back.
+fn put(whole: &mut Vec<Option<Message>>, message: Message) -> Option<Message>
+    requires behind { length whole.old.items ≤ message.n }
+    requires room { message.n < vec_capacity whole.old }
+    ensures put { IsPut whole.old.items whole.new.items message result }
+    ensures room { vec_capacity whole.new ≡ vec_capacity whole.old }
+{
+    if message.lacking() > 0 {
+        return Some(message);
+    }
+    leave_empty(whole, message.n() as usize);
+    whole.push_reserved(Some(message));
+    None
 }
 
 impl Sender {
@@ -72,7 +91,7 @@ impl Sender {
     {
         Sender {
             count: 0,
-            whole: VecDeque::new(alloc),
+            whole: Vec::new(alloc),
             unfinished: None,
             buffer: Vec::new(alloc),
         }
@@ -111,7 +130,8 @@ impl Sender {
         ensures succeeds { CanBegin self.old len → IsOk result }
         ensures same { SameReceived self.old self.new }
     {
-        self.whole.reserve(1)?;
+        self.whole
+            .reserve(self.count as usize + 1 - self.whole.len())?;
         self.buffer.reserve_exact(len as usize)?;
         Ok(())
     }
@@ -155,8 +175,8 @@ impl Sender {
         let buffer = mem::replace(&mut self.buffer, Vec::new(alloc));
         let mut message = Message::new(self.count, len, buffer);
         message.extend(bytes);
+        self.unfinished = put(&mut self.whole, message);
         self.count += 1;
-        self.put(message);
     }
 
     /// Goes on with the unfinished message.
@@ -170,31 +190,17 @@ impl Sender {
             unreachable!()
         };
         message.extend(bytes);
-        self.put(message);
-    }
-
-    /// Puts the message that was counted last behind the others.
-    fn put(&mut self, message: Message)
-        requires closed { missing self.old.stream ≡ 0 }
-        requires room { 0 < self.old.spare }
-        requires last { message.n + 1 ≡ self.old.stream.count }
-        requires numbered { AreNumbered 0 message.n self.old.stream.messages }
-        requires within { length message.bytes ≤ message.len }
-        ensures { self.new.stream
-            ≡ record self.old.stream { messages = self.old.stream.messages ++ message ∷ [] } }
-    {
-        if message.lacking() == 0 {
-            self.whole.push_back_reserved(message);
-        } else {
-            self.unfinished = Some(message);
-        }
+        self.unfinished = put(&mut self.whole, message);
     }
 
     /// Whether message n is whole and wasn't taken.
     pub fn is_whole(&self, n: u64) -> bool
         ensures { IsTrue result ↔ IsWholeIn self.now.stream n }
     {
-        place_of(&self.whole, n).is_some()
+        match self.whole.get(n as usize) {
+            Some(message) => message.is_some(),
+            None => false,
+        }
     }
 
     /// Takes a whole message away.
@@ -203,7 +209,6 @@ impl Sender {
         ensures bytes { IsSomeAnd (message_of self.old.stream n) (λ m. result ≡ m.bytes) }
         ensures others { self.new.stream ≡ without self.old.stream n }
     {
-        let place = place_of(&self.whole, n).unwrap();
-        self.whole.remove(place).unwrap().into_bytes()
+        self.whole[n as usize].take().unwrap().into_bytes()
     }
 }

@@ -1,12 +1,13 @@
-use Rattle.std.proofs.Common.{◌≤◌, length, arith, sym, ◌∙◌, length-append}
-use Rattle.nm_eager.specs.Streams.{lacking}
-use Rattle.nm_eager.proofs.SenderLemmas.{some-open, lacking-open, lacking-none_behind, goes_on-stream}
+use Rattle.nm_eager.specs.Senders.{standing}
+use Rattle.std.proofs.Common.{◌≤◌, List, ap, length, arith, sym, ◌∙◌}
+use Rattle.nm_eager.specs.Streams.{Incoming, Stream, lacking}
+use Rattle.nm_eager.proofs.SenderLemmas.{some-open, lacking-open, carried-places, carried-received, carried-stream}
 use Rattle.nm_eager.proofs.senders.Sender.carry_on.Goals as goal
 
 pub unreachable-requires : goal.unreachable-requires
 unreachable-requires c =
     let s = c.self.inside in
-    some-open s.count s.whole.items _ s.unfinished c.self.invariant.1
+    some-open s.count (standing s.whole.items) _ s.unfinished c.self.invariant.1
     (rw (← c.self.view_is) at c.requires.open) (λ x is. c.in_default.not-Some x (c.take.ensures.value ∙ is))
 
 pub extend-requires : goal.extend-requires
@@ -16,32 +17,57 @@ extend-requires c =
     omega (
       arith,
       within,
-      lacking-open s.count s.whole.items _ s.unfinished c.in-Some.message
+      lacking-open s.count (standing s.whole.items) _ s.unfinished c.in-Some.message
           c.self.invariant.1 (sym c.take.ensures.value ∙ c.in-Some.is),
     )
 
-pub put-requires-clause-closed : goal.put-requires-clause-closed
-put-requires-clause-closed c =
-    rw c.take.ensures.after (lacking-none_behind c.self.inside.whole.items c.self.invariant.1.are_whole)
+pub put-requires-clause-behind : goal.put-requires-clause-behind
+put-requires-clause-behind c =
+    let open' = sym c.take.ensures.value ∙ c.in-Some.is in
+    rw c.extend.ensures (rw open' at c.self.invariant.2).behind
 
-pub put-requires-clause-within : goal.put-requires-clause-within
-put-requires-clause-within c =
+pub put-requires-clause-room : goal.put-requires-clause-room
+put-requires-clause-room c =
+    let open' = sym c.take.ensures.value ∙ c.in-Some.is in
+    let last = (rw open' at c.self.invariant.1).last in
+    rw c.extend.ensures (omega (arith, last.last, last.kept))
+
+pub invariant_of-self : goal.invariant_of-self
+invariant_of-self c =
     let s = c.self.inside in
     let m = c.in-Some.message in
     let open' = sym c.take.ensures.value ∙ c.in-Some.is in
-    let within : length c.args.bytes.now ≤ lacking m = omega (
+    let received = rw open' at c.self.invariant.1 in
+    let at = rw open' at c.self.invariant.2 in
+    let size : length c.args.bytes.now ≤ lacking m = omega (
       arith,
       rw (← c.self.view_is) at c.requires.within,
-      lacking-open s.count s.whole.items _ s.unfinished m
-          c.self.invariant.1 open',
-    ) in
-    let unfinished = (rw open' at c.self.invariant.1).last.unfinished in
-    rw c.extend.ensures (omega (arith, length-append m.bytes c.args.bytes.now))
+      lacking-open s.count (standing s.whole.items) _ s.unfinished m c.self.invariant.1 open',
+    ) in (
+      c.self.invariant.0,
+      rw c.put.ensures.room (carried-received s.count s.whole.items c.put.new.whole.items _ m
+          c.extend.new.self c.put.result c.args.bytes.now received at c.extend.ensures size
+          c.put.ensures.put),
+      carried-places s.count s.whole.items c.put.new.whole.items _ m
+          c.extend.new.self c.put.result c.args.bytes.now received at c.extend.ensures size
+          c.put.ensures.put,
+    )
 
 pub returns : goal.returns
 returns c = λ n e.
     let s = c.self.inside in
-    c.put.ensures ∙ rw (← c.self.view_is) (goes_on-stream s.count s.whole.items _ s.unfinished
-    c.take.new.self c.in-Some.message c.extend.new.self n c.args.bytes.now c.self.invariant.1
-    (sym c.take.ensures.value ∙ c.in-Some.is) c.take.ensures.after c.extend.ensures
-    (rw (← c.self.view_is) at e))
+    let m = c.in-Some.message in
+    let open' = sym c.take.ensures.value ∙ c.in-Some.is in
+    let received = rw open' at c.self.invariant.1 in
+    let at = rw open' at c.self.invariant.2 in
+    let size : length c.args.bytes.now ≤ lacking m = omega (
+      arith,
+      rw (← c.self.view_is) at c.requires.within,
+      lacking-open s.count (standing s.whole.items) _ s.unfinished m c.self.invariant.1 open',
+    ) in
+    rw (← c.self.view_is, open') (ap (λ (ms : List Incoming). let of : Stream = record {
+      count = s.count;
+      messages = ms;
+    } in of) (carried-stream s.count s.whole.items c.put.new.whole.items _ m
+    c.extend.new.self c.put.result c.args.bytes.now received at c.extend.ensures size
+    c.put.ensures.put n (rw (← c.self.view_is) at e)))

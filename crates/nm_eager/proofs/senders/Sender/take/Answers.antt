@@ -1,68 +1,56 @@
-use Rattle.std.proofs.Common.{◌≡◌, ◌≤◌, ◌-◌, List, ap, ◌∙◌, arith, deque_len}
-use Rattle.std.proofs.Common.{deque_capacity}
-use Rattle.std.proofs.lemmas.Option.{slice_get_within}
-use Rattle.nm_eager.specs.Streams.{Incoming}
-use Rattle.nm_eager.proofs.SenderLemmas.{whole-found, place-has, removed-is, takes, finds, leaves_out}
+use Rattle.std.proofs.Common.{◌≡◌, List, Some, ap, ◌∙◌, arith, refl}
+use Rattle.std.proofs.lemmas.Option.{get_or_from_slice_get, slice_get_within}
+use Rattle.nm_eager.specs.Streams.{Incoming, Stream}
+use Rattle.nm_eager.proofs.SenderLemmas.{emptied-places, emptied-received, emptied-stream, message_there, stands_there}
 use Rattle.nm_eager.proofs.senders.Sender.take.Goals as goal
 
-pub place_of-requires : goal.place_of-requires
-place_of-requires c = (c.self.inside.count, c.self.invariant.1.numbered)
-
-pub unwrap-place-requires : goal.unwrap-place-requires
-unwrap-place-requires c =
+pub index_mut-requires : goal.index_mut-requires
+index_mut-requires c =
     let s = c.self.inside in
-    whole-found s.count s.whole.items _ s.unfinished c.args.n c.place_of.result c.self.invariant.1
-    c.place_of.ensures.none (rw (← c.self.view_is) at c.requires.whole)
+    let at = stands_there s.count s.whole.items _ s.unfinished c.self.invariant.1 c.self.invariant.2 c.args.n
+    (rw (← c.self.view_is) at c.requires.whole) in
+    let within = slice_get_within s.whole.items c.args.n (Some at.0) at.1 in omega (arith, s.whole.ok.0)
 
 pub unwrap-requires : goal.unwrap-requires
 unwrap-requires c =
     let s = c.self.inside in
-    let k = c.unwrap-place.result in
-    let at = place-has s.whole.items c.args.n k c.place_of.result c.unwrap-place.ensures
-    c.place_of.ensures.found in
-    let within = slice_get_within s.whole.items k at.0 at.1 in
-    c.remove.ensures.variant.1 (omega (arith, within, s.whole.ok.0))
+    let at = stands_there s.count s.whole.items _ s.unfinished c.self.invariant.1 c.self.invariant.2 c.args.n
+    (rw (← c.self.view_is) at c.requires.whole) in
+    rw (c.take.ensures.value ∙ c.index_mut.ensures.value
+    ∙ get_or_from_slice_get s.whole.items c.args.n (Some at.0) c.index_mut.result.now at.1) refl
 
 pub invariant_of-self : goal.invariant_of-self
 invariant_of-self c =
     let s = c.self.inside in
-    let k = c.unwrap-place.result in
-    let at = place-has s.whole.items c.args.n k c.place_of.result c.unwrap-place.ensures
-    c.place_of.ensures.found in
-    let removed = removed-is s.whole.items k _ at.0 c.remove.result at.1 s.whole.ok.0
-    c.remove.ensures.succeeds in
-    let items = rw removed at c.remove.ensures.items in
-    let fewer = rw removed at c.remove.ensures.len in
-    let more : deque_capacity s.whole - deque_len s.whole ≤ deque_capacity c.remove.new.self - deque_len
-    c.remove.new.self = omega (arith, fewer, c.remove.ensures.capacity) in (
+    let at = stands_there s.count s.whole.items _ s.unfinished c.self.invariant.1 c.self.invariant.2 c.args.n
+    (rw (← c.self.view_is) at c.requires.whole) in (
       c.self.invariant.0,
-      rw items (takes s.count s.whole.items _ _ s.unfinished c.args.n k at.0
-          c.self.invariant.1 at.1 at.2 more),
+      rw c.take.ensures.after (emptied-received s.count s.whole.items _ s.unfinished c.self.invariant.1
+          c.self.invariant.2 c.args.n at.0 at.1),
+      rw c.take.ensures.after (emptied-places s.count s.whole.items _ s.unfinished c.self.invariant.1
+          c.self.invariant.2 c.args.n at.0 at.1),
     )
 
 pub returns-clause-bytes : goal.returns-clause-bytes
 returns-clause-bytes c =
     let s = c.self.inside in
-    let k = c.unwrap-place.result in
-    let at = place-has s.whole.items c.args.n k c.place_of.result c.unwrap-place.ensures
-    c.place_of.ensures.found in
-    let removed = removed-is s.whole.items k _ at.0 c.remove.result at.1 s.whole.ok.0
-    c.remove.ensures.succeeds in
-    let same : c.unwrap.result ≡ at.0 = cc (removed, c.unwrap.ensures) in
+    let at = stands_there s.count s.whole.items _ s.unfinished c.self.invariant.1 c.self.invariant.2 c.args.n
+    (rw (← c.self.view_is) at c.requires.whole) in
+    let taken : c.take.result ≡ Some at.0 = c.take.ensures.value ∙ c.index_mut.ensures.value
+    ∙ get_or_from_slice_get s.whole.items c.args.n (Some at.0) c.index_mut.result.now at.1 in
+    let same : c.unwrap.result ≡ at.0 = cc (taken, c.unwrap.ensures) in
     rw (
       ← c.self.view_is,
-      finds s.count s.whole.items _ s.unfinished c.args.n k at.0 c.self.invariant.1 at.1
-          at.2,
+      message_there s.count s.whole.items _ s.unfinished c.self.invariant.1 c.self.invariant.2 c.args.n at.0 at.1,
     ) (c.into_bytes.ensures ∙ ap (λ (m : Incoming). m.bytes) same)
 
 pub returns-clause-others : goal.returns-clause-others
 returns-clause-others c =
     let s = c.self.inside in
-    let k = c.unwrap-place.result in
-    let at = place-has s.whole.items c.args.n k c.place_of.result c.unwrap-place.ensures
-    c.place_of.ensures.found in
-    let removed = removed-is s.whole.items k _ at.0 c.remove.result at.1 s.whole.ok.0
-    c.remove.ensures.succeeds in
-    let items = rw removed at c.remove.ensures.items in
-    rw (← c.self.view_is, items) (ap (λ (ms : List Incoming). record { count = s.count; messages = ms })
-    (leaves_out s.count s.whole.items _ s.unfinished c.args.n k at.0 c.self.invariant.1 at.1 at.2))
+    let at = stands_there s.count s.whole.items _ s.unfinished c.self.invariant.1 c.self.invariant.2 c.args.n
+    (rw (← c.self.view_is) at c.requires.whole) in
+    rw (← c.self.view_is, c.take.ensures.after) (ap (λ (ms : List Incoming). let of : Stream = record {
+      count = s.count;
+      messages = ms;
+    } in of) (emptied-stream s.count s.whole.items _ s.unfinished c.self.invariant.1 c.self.invariant.2 c.args.n
+    at.0 at.1))

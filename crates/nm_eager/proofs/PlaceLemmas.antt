@@ -1,0 +1,169 @@
+-- Messages that stand at the places of their numbers.
+use Rattle.std.proofs.Common.{◌≡◌, ◌≢◌, ℕ, ◌+◌, ◌-◌, ◌<◌, ◌≤◌, List, [], ◌∷◌, ◌++◌, length, Option, Some, None}
+use Rattle.std.proofs.Common.{IfSome, IsSomeAnd, find, ◌==◌, ap, ◌∙◌, refl, sym, append_assoc, arith, slice_get, set, zero, suc, replicate}
+use Rattle.std.proofs.Common.{length-append, ◌⊎◌, inl, inr}
+use Rattle.std.specs.List.{AllByRecursion, flat_map, remove}
+use Rattle.std.specs.Option.{option_to_list}
+use Rattle.std.proofs.lemmas.Bool.{cases_lt}
+use Rattle.std.proofs.lemmas.Grind.{flat_map-append}
+use Rattle.std.proofs.lemmas.List.{append-nil, length-replicate, replicate-append-replicate}
+use Rattle.nm_types.specs.declared.limits.TheConstants.{MAX_PACKETS}
+use Rattle.nm_eager.specs.Streams.{Incoming, AreNumbered}
+use Rattle.nm_eager.specs.Senders.{AreAtNumbers, AreAtPlaces, AreReceived, IsPut, standing}
+use Rattle.nm_eager.proofs.MessageLemmas.{Lacks, Lacks-above, AreNumbered-wider, AreNumbered-push}
+use Rattle.nm_eager.proofs.MessageLemmas.{AllByRecursion-push}
+
+-- the numbers of what stands rise
+pub numbered : (first : ℕ) (whole : List (Option Incoming)) → AreAtNumbers first whole
+    → AreNumbered first (first + length whole) (standing whole)
+numbered first [] at = omega arith
+numbered first (None ∷ whole) at = AreNumbered-wider (first + 1) first (first + 1 + length whole)
+    (first + length {A = Option Incoming} (None ∷ whole)) (standing whole) (omega arith) (omega arith)
+    (numbered (first + 1) whole at.1)
+numbered first (Some m ∷ whole) at =
+    let here : m.n ≡ first = at.0 in (
+      omega arith,
+      AreNumbered-wider (first + 1) (m.n + 1) (first + 1 + length whole) (first + length (Some m ∷ whole))
+          (standing whole) (omega arith) (omega arith) (numbered (first + 1) whole at.1),
+    )
+
+-- what stands at a place has its number
+pub number_at : (first : ℕ) (whole : List (Option Incoming)) (i : ℕ) (m : Incoming) → AreAtNumbers first whole
+    → slice_get whole i ≡ Some (Some m) → m.n ≡ first + i
+number_at first [] i m at here = cc
+number_at first (place ∷ whole) zero m at here =
+    let same : place ≡ Some m = cc in
+    let number : m.n ≡ first = rw same at at.0 in omega arith
+number_at first (place ∷ whole) (suc i) m at here =
+    let later = number_at (first + 1) whole i m at.1 here in omega arith
+
+-- what stands at a place is one of the messages, and to empty the place is to remove it
+pub stands_at : (whole : List (Option Incoming)) (i : ℕ) (m : Incoming) → slice_get whole i ≡ Some (Some m)
+    → (j : ℕ) × (slice_get (standing whole) j ≡ Some m) × (standing (set whole i None) ≡ remove (standing whole) j)
+stands_at [] i m here = absurd cc
+stands_at (None ∷ whole) zero m here = absurd cc
+stands_at (Some x ∷ whole) zero m here = let same : x ≡ m = cc in (0, ap Some same, refl)
+stands_at (None ∷ whole) (suc i) m here = stands_at whole i m here
+stands_at (Some x ∷ whole) (suc i) m here =
+    let later = stands_at whole i m here in (suc later.0, later.1, ap (λ l. x ∷ l) later.2)
+
+-- a number at whose place nothing stands has no message
+pub lacks_at : (first : ℕ) (whole : List (Option Incoming)) (i n : ℕ) → AreAtNumbers first whole → n ≡ first + i
+    → ((m : Incoming) → slice_get whole i ≡ Some (Some m) → ⊥) → Lacks n (standing whole)
+lacks_at first [] i n at is none = tt
+lacks_at first (None ∷ whole) zero n at is none = Lacks-above n (first + 1) (first + 1 + length whole)
+    (standing whole) (omega arith) (numbered (first + 1) whole at.1)
+lacks_at first (Some m ∷ whole) zero n at is none = absurd (none m refl)
+lacks_at first (None ∷ whole) (suc i) n at is none = lacks_at (first + 1) whole i n at.1 (omega arith) none
+lacks_at first (Some m ∷ whole) (suc i) n at is none =
+    let here : m.n ≡ first = at.0 in
+    (omega arith, lacks_at (first + 1) whole i n at.1 (omega arith) none)
+
+-- an emptied place leaves the others at their numbers
+pub numbers-emptied : (first : ℕ) (whole : List (Option Incoming)) (i : ℕ) → AreAtNumbers first whole
+    → AreAtNumbers first (set whole i None)
+numbers-emptied first [] i at = at
+numbers-emptied first (place ∷ whole) zero at = (tt, at.1)
+numbers-emptied first (place ∷ whole) (suc i) at = (at.0, numbers-emptied (first + 1) whole i at.1)
+
+-- and so does a message at its place behind them
+numbers-put : (first : ℕ) (whole : List (Option Incoming)) (gap : ℕ) (m : Incoming) → AreAtNumbers first whole
+    → m.n ≡ first + length whole + gap → AreAtNumbers first (whole ++ replicate gap None ++ Some m ∷ [])
+numbers-put first [] zero m at is = (omega arith, tt)
+numbers-put first [] (suc gap) m at is = (tt, numbers-put (first + 1) [] gap m tt (omega arith))
+numbers-put first (place ∷ whole) gap m at is =
+    (at.0, numbers-put (first + 1) whole gap m at.1 (omega arith))
+
+standing-empty : (gap : ℕ) → standing (replicate gap None) ≡ []
+standing-empty zero = refl
+standing-empty (suc gap) = standing-empty gap
+
+-- which stands behind them then
+standing-put : (whole : List (Option Incoming)) (gap : ℕ) (m : Incoming)
+    → standing (whole ++ replicate gap None ++ Some m ∷ []) ≡ standing whole ++ m ∷ []
+standing-put whole gap m =
+    flat_map-append option_to_list (whole ++ replicate gap None) (Some m ∷ [])
+    ∙ ap (λ (l : List Incoming). l ++ m ∷ []) (flat_map-append option_to_list whole (replicate gap None)
+    ∙ ap (λ (l : List Incoming). standing whole ++ l) (standing-empty gap) ∙ append-nil (standing whole))
+
+-- empty places behind others
+module _ (xs : List (Option Incoming)) (n : ℕ) where
+  pub gap-none : n ≡ length xs → xs ≡ xs ++ replicate (n - length xs) None
+  gap-none e = let none : n - length xs ≡ 0 = omega arith in rw none (sym (append-nil xs))
+
+  module _ (ys : List (Option Incoming)) (low : length xs ≤ n) (is : ys ≡ xs ++ replicate (n - length xs) None) where
+    pub gap-more : ys ++ None ∷ [] ≡ xs ++ replicate (n + 1 - length xs) None
+    gap-more =
+        let more : n + 1 - length xs ≡ (n - length xs) + 1 = omega arith in
+        rw (more, is, append_assoc xs (replicate (n - length xs) None) (None ∷ []))
+        (ap (λ (l : List (Option Incoming)). xs ++ l) (replicate-append-replicate (n - length xs) 1 None))
+
+    pub gap-length : length ys ≡ n
+    gap-length = rw is (omega (
+      arith,
+      length-append xs (replicate (n - length xs) None),
+      length-replicate {A = Option Incoming} (n - length xs) None,
+    ))
+
+-- a message that was counted last is put
+module _ (count : ℕ) (whole new : List (Option Incoming)) (m : Incoming) (left : Option Incoming)
+    (put : IsPut whole new m left) (within : length m.bytes ≤ m.len) (numbers : AreAtNumbers 0 whole)
+    (behind : length whole ≤ m.n) (last : m.n + 1 ≡ count) where
+  below : AreNumbered 0 m.n (standing whole)
+  below = AreNumbered-wider 0 0 (0 + length whole) m.n (standing whole) (omega arith) (omega arith)
+      (numbered 0 whole numbers)
+
+  pub put-received : (places : ℕ) → AllByRecursion (λ x. length x.bytes ≡ x.len) (standing whole) → count ≤ places
+      → AreReceived count (standing new) left places
+  put-received places all room = by (cases_lt (length m.bytes) m.len)
+    where
+      by : (length m.bytes < m.len) ⊎ (m.len ≤ length m.bytes) → AreReceived count (standing new) left places
+      by (inl lacks) = let is = put.unfinished lacks in rw (is.0, is.1) (record {
+        numbered = AreNumbered-wider 0 0 m.n count (standing whole) (omega arith) (omega arith) below;
+        are_whole = all;
+        last = record { last = last; behind = below; unfinished = lacks; kept = room };
+      })
+      by (inr full) =
+          let finished : length m.bytes ≡ m.len = omega arith in
+          let is = put.finished finished in
+          rw (is.0, is.1, standing-put whole (m.n - length whole) m) (record {
+            numbered = AreNumbered-push 0 m.n count (standing whole) m below (omega arith) (omega arith);
+            are_whole = AllByRecursion-push (λ x. length x.bytes ≡ x.len) (standing whole) m all finished;
+            last = tt;
+          })
+
+  pub put-places : count ≤ MAX_PACKETS → AreAtPlaces count new left
+  put-places few = by (cases_lt (length m.bytes) m.len)
+    where
+      by : (length m.bytes < m.len) ⊎ (m.len ≤ length m.bytes) → AreAtPlaces count new left
+      by (inl lacks) = let is = put.unfinished lacks in rw (is.0, is.1) (record {
+        numbers = numbers;
+        counted = omega arith;
+        behind = behind;
+        few = few;
+      })
+      by (inr full) =
+          let finished : length m.bytes ≡ m.len = omega arith in
+          let is = put.finished finished in
+          rw (is.0, is.1) (record {
+            numbers = numbers-put 0 whole (m.n - length whole) m numbers (omega arith);
+            counted = omega (
+              arith,
+              length-append (whole ++ replicate (m.n - length whole) None) (Some m ∷ []),
+              length-append whole (replicate (m.n - length whole) None),
+              length-replicate {A = Option Incoming} (m.n - length whole) None,
+            );
+            behind = tt;
+            few = few;
+          })
+
+  pub put-stream : standing new ++ option_to_list left ≡ standing whole ++ m ∷ []
+  put-stream = by (cases_lt (length m.bytes) m.len)
+    where
+      by : (length m.bytes < m.len) ⊎ (m.len ≤ length m.bytes)
+          → standing new ++ option_to_list left ≡ standing whole ++ m ∷ []
+      by (inl lacks) = let is = put.unfinished lacks in rw (is.0, is.1) refl
+      by (inr full) =
+          let finished : length m.bytes ≡ m.len = omega arith in
+          let is = put.finished finished in
+          rw (is.0, is.1, standing-put whole (m.n - length whole) m) (append-nil (standing whole ++ m ∷ []))
