@@ -22,11 +22,11 @@ pub struct Receipt {
 pub struct Receive {
     /// How many bytes it takes at most.
     pub cap: u32,
-    /// The message that it took, if it took one.
-    pub taken: Option<Arrival>,
     pub cancelled: bool,
     /// Whether its result was given, with the bytes of its message.
     pub ended: bool,
+    /// The message that it took, if it took one.
+    pub taken: Option<Arrival>,
 }
 
 impl Receive {
