@@ -1,6 +1,7 @@
 //! Numbers of messages.
 
-ghost use Rattle.std.specs.Prelude.{◌≡◌, ◌<◌, ◌≤◌, ◌∷◌, [], ◌++◌, false, OnOk};
+ghost use Rattle.std.specs.Prelude.{◌≡◌, ◌<◌, ◌≤◌, ◌∷◌, [], ◌++◌, false, IfOk, OnOk};
+ghost use Rattle.indexmap.specs.IndexSet.{spare};
 ghost use Rattle.nm_history.specs.Continues.{has as has_lem};
 
 use indexmap::IndexSet;
@@ -11,16 +12,41 @@ use std::marker::Model;
 /// Numbers of messages, each once, in the order in which they came.
 #[derive(Drop)]
 pub struct Numbers {
-    set: IndexSet<u64>,
+    // made for the first of them
+    set: Option<Box<IndexSet<u64>>>,
+    alloc: Global,
 }
 
 impl Model for Numbers {
+    ghost use Rattle.std.specs.Prelude.{[]};
+    ghost use Rattle.std.specs.Option.{option_map_or};
     ghost use Rattle.indexmap.specs.IndexSet.{spare};
     ghost use Rattle.nm_receiving.specs.StreamViews.{Noted};
 
     ghost Value = { Noted };
 
-    ghost view = { λ a. record { numbers = a.set.keys; spare = spare a.set } };
+    ghost view = { λ a.
+        record {
+          numbers = option_map_or (λ b. b.value.keys) a.set [];
+          spare = option_map_or (λ b. spare b.value) a.set 0;
+        } };
+}
+
+/// A set without numbers, with room for one.
+fn new_set(alloc: Global) -> Result<Box<IndexSet<u64>>, Memory>
+    ensures empty { IfOk result (λ b. b.value.keys ≡ []) }
+    ensures room { IfOk result (λ b. 0 < spare b.value) }
+{
+    Ok(Box::new(alloc, IndexSet::with_capacity(alloc, 1)?)?)
+}
+
+/// Puts a new number behind those of a set.
+fn insert(set: &mut IndexSet<u64>, n: u64)
+    requires new { has_lem set.old.keys n ≡ false }
+    requires room { 0 < spare set.old }
+    ensures { set.new.keys ≡ set.old.keys ++ n ∷ [] }
+{
+    set.insert(n).unwrap();
 }
 
 impl Numbers {
@@ -28,16 +54,17 @@ impl Numbers {
     pub fn new(alloc: Global) -> Self
         ensures { result.numbers ≡ [] }
     {
-        Numbers {
-            set: IndexSet::new(alloc),
-        }
+        Numbers { set: None, alloc }
     }
 
     /// Whether the number is among them.
     pub fn has(&self, n: u64) -> bool
         ensures { result ≡ has_lem self.now.numbers n }
     {
-        self.set.contains(&n)
+        match &self.set {
+            Some(set) => set.contains(&n),
+            None => false,
+        }
     }
 
     /// Makes room for one more.
@@ -45,7 +72,10 @@ impl Numbers {
         ensures room { OnOk result (0 < self.new.spare) }
         ensures same { self.new.numbers ≡ self.old.numbers }
     {
-        self.set.reserve(1)?;
+        match &mut self.set {
+            Some(set) => set.reserve(1)?,
+            None => self.set = Some(new_set(self.alloc)?),
+        }
         Ok(())
     }
 
@@ -55,6 +85,8 @@ impl Numbers {
         requires room { 0 < self.old.spare }
         ensures { self.new.numbers ≡ self.old.numbers ++ n ∷ [] }
     {
-        self.set.insert(n).unwrap();
+        if let Some(set) = &mut self.set {
+            insert(set, n);
+        }
     }
 }
