@@ -21,7 +21,7 @@ use Rattle.nm_history.specs.Happens.{at, happened, is_arrival, is_claim, is_whol
 use Rattle.nm_history.specs.Matching.{first_message, is_claimed, is_free, is_of_message, matched_pairs}
 use Rattle.nm_history.specs.Once.{IsOfReceive}
 use Rattle.nm_history.specs.RankRun.{Always, NumberAt, is_asking}
-use Rattle.nm_history.specs.Selection.{matches}
+use Rattle.nm_history.specs.Selection.{matches, matches_source, matches_tag}
 use Rattle.nm_history.specs.Sends.{arrivals, arrival_of, is_ask, messages, message_of}
 use Rattle.nm_history.proofs.AtEachLemmas.{AtEach-push}
 use Rattle.nm_history.proofs.OnceLemmas.{find_among, messages-push, not_true}
@@ -148,6 +148,15 @@ first_takeable ranks h from tag ctx a named is =
     let free = free_means h (matched_pairs h) a.env.from a.n
     (and_right (matches from tag ctx a.env) (is_free h (matched_pairs h) a) passes) in
     record { named = found.0; sender = found.1; untaken = free.0 }
+
+-- .. which is of the source that it names
+pub first_source : (h : List Event) (from : Peer) (tag : TagPick) (ctx : ℕ) (a : Arrival)
+    → first_message h (matched_pairs h) from tag ctx ≡ Some a → matches_source from a.env.from ≡ true
+first_source h from tag ctx a is =
+    let passes = find_passes (λ a. matches from tag ctx a.env && is_free h (matched_pairs h) a) (messages h) a is in
+    let matched = and_left (matches from tag ctx a.env) (is_free h (matched_pairs h) a) passes in
+    and_right (ctx == a.env.ctx) (matches_source from a.env.from)
+    (and_left (ctx == a.env.ctx && matches_source from a.env.from) (matches_tag tag a.env.tag) matched)
 
 pub claimed_takeable : (ranks : ℕ) (h : List Event) (from n : ℕ) (a : Arrival) → Are_named ranks h
     → is_claimed h (matched_pairs h) from n ≡ true → message_of h from n ≡ Some a → IsTakeable ranks h a

@@ -22,7 +22,7 @@ use Rattle.nm_match.specs.declared.deeds.Deed.{Deed}
 use Rattle.nm_match.specs.declared.deeds.Deed.TheVariants as deed
 use Rattle.nm_match.specs.Deeds.{history_of}
 use Rattle.nm_match.proofs.StandsLemmas.{first_message-stands, is_claimed-stands, message_of-stands}
-use Rattle.nm_rndv.specs.Grants.{Granted, fresh, grant_in, is_open}
+use Rattle.nm_rndv.specs.Grants.{Granted, Granting, IsReadyFor, fresh, grant_in, is_open}
 use Rattle.nm_receiving.specs.declared.receipts.Receipt.{Receipt}
 use Rattle.nm_receiving.specs.declared.receipts.Receive.{Receive}
 use Rattle.nm_receiving.specs.Kept.{AreGrantedFor, TablesAgree, IsCleared, IsGranted, ReceivingInvariant}
@@ -326,6 +326,12 @@ module _ (v : ReceivingView) (kept : ReceivingInvariant v) (taken : Option Arriv
       (λ a is. let f = is_free v kept a (takeable a is) in
       subst (λ (gs : List (List (ℕ × Granted))). grant_in (get_or gs a.env.from []) a.n ≡ None) (sym same)
       (no_grant v kept.history kept.tables a.env.from a.n f.1.untaken))
+
+  pub may_grant-ready : (g : Granting) (selects : ℕ → Bool)
+      → ((rank : ℕ) → rank < length v.grants → selects rank ≡ true → IsReadyFor g rank)
+      → ((a : Arrival) → taken ≡ Some a → selects a.env.from ≡ true) → IfSome taken (λ a. IsReadyFor g a.env.from)
+  may_grant-ready g selects ready selected = if_each (λ (a : Arrival). IsReadyFor g a.env.from) taken
+      (λ a is. let f = is_free v kept a (takeable a is) in ready a.env.from f.1.granted (selected a is))
 
   pub may_grant-came : IfSome taken (λ a. IsSome (receipt_of v a.env.from a.n))
   may_grant-came = if_each (λ (a : Arrival). IsSome (receipt_of v a.env.from a.n)) taken

@@ -1,24 +1,39 @@
 //! The bytes of messages that receives took.
 
-ghost use Rattle.std.specs.Prelude.{◌≡◌, ◌<◌, ◌≤◌, if◌then◌else◌, nat_lt, IfSome, IsSome};
-ghost use Rattle.std.specs.Prelude.{IsSomeAnd, None, Some, length, slice_set};
+ghost use Rattle.std.specs.Prelude.{◌≡◌, ◌<◌, ◌≤◌, if◌then◌else◌, nat_lt, IfSome, IsSome, true, ℕ};
+ghost use Rattle.std.specs.Prelude.{IsSomeAnd, None, OnOk, Some, length, slice_set};
 ghost use Rattle.std.specs.List.{slice_get};
 ghost use Rattle.nm_types.specs.declared.answers.Answer.TheVariants as answer;
+ghost use Rattle.nm_history.specs.Selection.{matches_source};
 ghost use Rattle.nm_history.specs.Sends.{is_ask};
 ghost use Rattle.nm_eager.specs.Joining.{ChangesStream, stream_from};
 ghost use Rattle.nm_eager.specs.Streams.{message_of, missing, without};
-ghost use Rattle.nm_rndv.specs.Grants.{IsReady, grant_in, grants_from, taken_in};
+ghost use Rattle.nm_rndv.specs.Grants.{IsReadyFor, grant_in, grants_from, taken_in};
 ghost use Rattle.nm_receiving.specs.Steps.{IsThere, bytes_there, grants_with, rows_from, rows_with};
 
 use crate::receipts::Receipts;
 use nm_eager::Joiner;
 use nm_rndv::Grants;
-use nm_types::{Answer, Arrival, Bytes, Envelope, How};
+use nm_types::{Answer, Arrival, Bytes, Envelope, How, Memory, Peer};
+
+/// Makes room for a grant of a message that a receive from this source takes, among so many ranks.
+pub(crate) fn reserve_from(grants: &mut Grants, from: Peer, ranks: usize) -> Result<(), Memory>
+    requires { ranks ≡ length grants.old.grants }
+    ensures ready { OnOk result ((rank : ℕ) → rank < length grants.old.grants
+        → matches_source from rank ≡ true → IsReadyFor grants.new rank) }
+    ensures same { grants.new.grants ≡ grants.old.grants }
+{
+    match from {
+        Peer::Any => grants.reserve(),
+        Peer::One(source) if (source as usize) < ranks => grants.reserve_for(source),
+        Peer::One(_) => Ok(()),
+    }
+}
 
 /// What follows where a receive takes a message, if it takes one: a message that was sent by asking is
 /// granted, and one without bytes is here. There is room for the grant.
 pub(crate) fn grant_taken(grants: &mut Grants, receipts: &mut Receipts, taken: &Option<Arrival>)
-    requires ready { IsReady grants.old }
+    requires ready { IfSome taken.now (λ a. IsReadyFor grants.old a.env.from) }
     requires sender { IfSome taken.now (λ a. a.env.from < length grants.old.grants) }
     requires new { IfSome taken.now (λ a.
         grant_in (grants_from grants.old a.env.from) a.n ≡ None) }

@@ -26,7 +26,7 @@ ghost use Rattle.nm_receiving.specs.Receipts.{came_of, drawn_from, receipt_of, r
 ghost use Rattle.nm_receiving.specs.Receipts.{stream_of};
 ghost use Rattle.nm_receiving.specs.Received.{AreReceived, PreservesSender, IsOwed, Preserves, MayBeTaken};
 
-use crate::bytes::{grant_taken, shown, take_bytes};
+use crate::bytes::{grant_taken, reserve_from, shown, take_bytes};
 use crate::receipts::{Receipt, Receipts, Receive, give};
 use crate::streams::{arrival, pieces};
 use crate::telling::packets_tell;
@@ -131,7 +131,7 @@ impl Receiving {
         ensures err { OnErr result (self.new ≡ self.old) }
     {
         self.receives.reserve(1)?;
-        self.grants.reserve()?;
+        reserve_from(&mut self.grants, from, self.drawn.len())?;
         let number = self.receives.len() as u64;
         let taken = self.matcher.post(Post {
             number,
@@ -157,9 +157,10 @@ impl Receiving {
     {
         prove!(self.matcher.is_claimed(from, n));
         self.receives.reserve(1)?;
-        self.grants.reserve()?;
+        let arrival = self.receipts.get(from, n).arrival;
+        self.grants.reserve_for(arrival.env.from)?;
         let number = self.receives.len() as u64;
-        let taken = Some(self.receipts.get(from, n).arrival);
+        let taken = Some(arrival);
         self.matcher.take_claimed(number, from, n)?;
         self.receives.push_reserved(Receive::new(cap, taken));
         grant_taken(&mut self.grants, &mut self.receipts, &taken);
@@ -303,7 +304,7 @@ impl Receiving {
         let n = self.receipts.count(p.from);
         let arrival = arrival(n, p.from, tag, ctx, len, How::Ask);
         self.receipts.reserve(p.from)?;
-        self.grants.reserve()?;
+        self.grants.reserve_for(p.from)?;
         let taker = self.matcher.arrive(arrival)?;
         self.joiner.skip(p.from);
         self.receipts.push(

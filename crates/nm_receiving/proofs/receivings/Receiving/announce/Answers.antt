@@ -1,4 +1,5 @@
-use Rattle.std.proofs.Common.{◌≡◌, ◌<◌, ℕ, Bool, false, is_some, Option, None, List, [], ◌∷◌, ◌++◌, length, map}
+use Rattle.std.specs.Prelude.{IfSome}
+use Rattle.std.proofs.Common.{◌≡◌, ◌<◌, ℕ, Bool, true, false, is_some, Option, None, List, [], ◌∷◌, ◌++◌, length, map}
 use Rattle.std.proofs.Common.{refl, sym, ◌∙◌, ap, subst, arith}
 use Rattle.std.specs.Bool.{then_some}
 use Rattle.std.specs.Option.{option_map}
@@ -12,6 +13,7 @@ use Rattle.nm_types.specs.declared.packets.What.{What}
 use Rattle.nm_history.specs.Matching.{first_receive, matched_pairs}
 use Rattle.nm_match.specs.Deeds.{history_of, is_known_message}
 use Rattle.nm_match.proofs.StandsLemmas.{first_receive-stands}
+use Rattle.nm_rndv.specs.Grants.{Granting, IsReadyFor}
 use Rattle.nm_receiving.specs.StreamViews.{is_done_at_once}
 use Rattle.nm_eager.specs.Senders.{Received}
 use Rattle.nm_eager.specs.Streams.{Stream, after, missing, skipped}
@@ -76,6 +78,38 @@ give-requires c =
     taker_inside (seen c.self.inside) c.self.invariant c.arrival-arrival.result c.in_ok-taker.taker
     c.in_ok-taker.ensures.oldest
 
+pub reserve_for-requires : goal.reserve_for-requires
+reserve_for-requires c =
+    let may = subst (λ (w : ReceivingView). MayBeTakenIn w c.args.p.now) (sym c.self.view_is) c.requires.continues in
+    let sender = may.sender in
+    let grants = c.self.invariant.tables.grants in
+    omega (arith, sender, grants)
+
+-- there is room for the grant of a message, where it is taken
+ready_where : (b : Bool) (arrival : Arrival) (taken : Option Arrival) (g : Granting) → taken ≡ then_some b arrival →
+    IsReadyFor g arrival.env.from → IfSome taken (λ a. IsReadyFor g a.env.from)
+ready_where b arrival taken g is ready =
+    subst (λ (o : Option Arrival). IfSome o (λ a. IsReadyFor g a.env.from)) (sym is) (by b)
+  where
+    by : (b : Bool) → IfSome (then_some b arrival) (λ a. IsReadyFor g a.env.from)
+    by true = ready
+    by false = tt
+
+pub grant_taken-requires-clause-ready : goal.grant_taken-requires-clause-ready
+grant_taken-requires-clause-ready c =
+    let p : Packet = c.args.p.now in
+    let arr = c.arrival-arrival.ensures
+    ∙ ap (λ (n : ℕ). let a : Arrival =
+    record {
+      n = n;
+      env =
+          record { from = p.from; tag = c.args.tag; ctx = c.args.ctx; len = c.args.len; how = Ask };
+    } in a)
+    c.count-n.ensures in
+    ready_where c.is_some.result c.arrival-arrival.result c.then_some-taken.result c.reserve_for.new.self
+    c.then_some-taken.ensures
+    (subst (λ (a : Arrival). IsReadyFor c.reserve_for.new.self a.env.from) (sym arr) c.in_ok-reserve_for.ensures.ready)
+
 pub grant_taken-requires-clause-new : goal.grant_taken-requires-clause-new
 grant_taken-requires-clause-new c =
     let v : ReceivingView = seen c.self.inside in
@@ -95,7 +129,7 @@ grant_taken-requires-clause-new c =
     (subst (λ (a : Arrival). a.env.from < length v.receipts) (sym arr) (let n = c.self.invariant.tables.receipts in
     omega (arith, sender, n)))
     (subst (λ (a : Arrival). a.n ≡ length (receipts_from v a.env.from)) (sym arr) refl)
-    c.reserve-2.new.self.grants c.reserve-2.ensures.same
+    c.reserve_for.new.self.grants c.reserve_for.ensures.same
 
 pub grant_taken-requires-clause-came : goal.grant_taken-requires-clause-came
 grant_taken-requires-clause-came c =
@@ -195,7 +229,7 @@ view_is c =
     (c.then_some-taken.ensures ∙ ap (λ (b : Bool). then_some b arrival) c.is_some.ensures
     ∙ then_taken c.in_ok-taker.taker arrival)
     c.skip.ensures.step.sizes c.in_ok-taker.ensures.ok (streams_after c)
-    (c.grant_taken.ensures.grants ∙ ap (λ gs. grants_with gs taken) c.reserve-2.ensures.same)
+    (c.grant_taken.ensures.grants ∙ ap (λ gs. grants_with gs taken) c.reserve_for.ensures.same)
     (c.grant_taken.ensures.receipts
     ∙ ap (λ (rows : List (List Receipt)). rows_with rows taken)
     (c.push.ensures ∙ ap (λ (rows : List (List Receipt)). set rows p.from (rows_from rows p.from ++ r ∷ []))
@@ -232,7 +266,7 @@ returns-clause-took c =
       streams = streams;
       bytes = packet-came v (after_view c) c.self.invariant p (may_of c).sender streams
           (λ from n. ap (λ gs. asked_came (get_or gs from []) n)
-          (c.grant_taken.ensures.grants ∙ ap (λ gs. grants_with gs taken) c.reserve-2.ensures.same)
+          (c.grant_taken.ensures.grants ∙ ap (λ gs. grants_with gs taken) c.reserve_for.ensures.same)
           ∙ granted-came v.grants taken from n)
           (λ eager. absurd (true≢false (sym eager ∙ ap (λ (w : What). is_eager w) c.requires.ask)))
           (may_of c).continued;

@@ -2,6 +2,8 @@ use Rattle.std.proofs.Common.{◌≡◌, List, [], ◌∷◌, ◌++◌, length, 
 use Rattle.nm_types.specs.declared.messages.Post as post
 use Rattle.nm_history.specs.declared.events.Happened.TheVariants as event
 use Rattle.nm_match.specs.declared.deeds.Deed.TheVariants as deed
+use Rattle.nm_history.specs.Selection.{matches_source}
+use Rattle.nm_match.specs.Deeds.{history_of}
 use Rattle.nm_match.proofs.StandsLemmas.{first_message-stands}
 use Rattle.nm_receiving.specs.declared.receipts.Receive.{Receive}
 use Rattle.nm_receiving.specs.declared.receivings.Started.{Started}
@@ -12,10 +14,11 @@ use Rattle.nm_receiving.specs.Received.{AreReceived, Preserves}
 use Rattle.nm_receiving.specs.Seen.{seen}
 use Rattle.nm_receiving.specs.Steps.{grants_with}
 use Rattle.nm_receiving.proofs.CameLemmas.{same-granted}
+use Rattle.nm_receiving.proofs.Facts.{first_source}
 use Rattle.nm_receiving.proofs.Goings.{next_receive}
 use Rattle.nm_receiving.proofs.Keeping.{keeps-begun}
 use Rattle.nm_receiving.proofs.Starting.{begun_same, is_begin_post, kept-begun, may_begin_with, may_grant-came}
-use Rattle.nm_receiving.proofs.Starting.{may_grant-new, may_grant-sender}
+use Rattle.nm_receiving.proofs.Starting.{may_grant-new, may_grant-ready, may_grant-sender}
 use Rattle.nm_receiving.proofs.Starting.{post_takeable, taken_sender}
 use Rattle.nm_receiving.proofs.receivings.Receiving.post.Goals as goal
 
@@ -25,6 +28,28 @@ post-requires c =
     let next : c.len-number.result ≡ length a.receives.items =
     omega (arith, c.len-number.ensures, c.reserve.ensures.len, a.receives.ok.0) in
     record { is_new = next_receive (seen a) c.self.invariant c.len-number.result next }
+
+pub reserve_from-requires : goal.reserve_from-requires
+reserve_from-requires c =
+    let tables = c.self.invariant.tables in
+    let drawn = tables.drawn in
+    let grants = tables.grants in
+    omega (arith, c.len.ensures, c.self.inside.drawn.ok.0, drawn, grants)
+
+pub grant_taken-requires-clause-ready : goal.grant_taken-requires-clause-ready
+grant_taken-requires-clause-ready c =
+    let v = seen c.self.inside in
+    let p : post.Post = record {
+      number = c.len-number.result;
+      from = c.args.from;
+      tag = c.args.tag;
+      ctx = c.args.ctx;
+      cap = c.args.cap;
+    } in
+    let taken = c.in_ok-taken.taken in
+    may_grant-ready v c.self.invariant taken (post_takeable v c.self.invariant p taken c.in_ok-taken.ensures.oldest)
+    c.reserve_from.new.grants (matches_source c.args.from) c.in_ok-reserve_from.ensures.ready
+    (λ a is. first_source (history_of v.deeds) c.args.from c.args.tag c.args.ctx a (sym c.in_ok-taken.ensures.oldest ∙ is))
 
 pub grant_taken-requires-clause-sender : goal.grant_taken-requires-clause-sender
 grant_taken-requires-clause-sender c =
@@ -39,7 +64,7 @@ grant_taken-requires-clause-sender c =
     } in
     may_grant-sender v c.self.invariant c.in_ok-taken.taken
     (post_takeable v c.self.invariant p c.in_ok-taken.taken c.in_ok-taken.ensures.oldest)
-    c.reserve-2.new.self.grants c.reserve-2.ensures.same
+    c.reserve_from.new.grants.grants c.reserve_from.ensures.same
 
 pub grant_taken-requires-clause-new : goal.grant_taken-requires-clause-new
 grant_taken-requires-clause-new c =
@@ -54,7 +79,7 @@ grant_taken-requires-clause-new c =
     } in
     may_grant-new v c.self.invariant c.in_ok-taken.taken
     (post_takeable v c.self.invariant p c.in_ok-taken.taken c.in_ok-taken.ensures.oldest)
-    c.reserve-2.new.self.grants c.reserve-2.ensures.same
+    c.reserve_from.new.grants.grants c.reserve_from.ensures.same
 
 pub grant_taken-requires-clause-came : goal.grant_taken-requires-clause-came
 grant_taken-requires-clause-came c =
@@ -88,7 +113,7 @@ invariant_of-self-2 c =
     let same = begun_same v (deed.Post p) c.args.cap taken c.post.new.self c.grant_taken.new.grants.grants
     c.grant_taken.new.receipts.rows
     c.push_reserved.new.self.items c.in_ok-taken.ensures.ok
-    (c.grant_taken.ensures.grants ∙ ap (λ gs. grants_with gs taken) c.reserve-2.ensures.same)
+    (c.grant_taken.ensures.grants ∙ ap (λ gs. grants_with gs taken) c.reserve_from.ensures.same)
     c.grant_taken.ensures.receipts
     (c.push_reserved.ensures.items ∙ ap (λ (rs : List Receive). rs ++ c.new.result ∷ []) c.reserve.ensures.items
     ∙ ap (λ (r : Receive). a.receives.items ++ r ∷ []) c.new.ensures) in
@@ -123,7 +148,7 @@ returns-clause-started c =
     let s : Started = record { number = c.len-number.result; taken = taken } in
     let next : c.len-number.result ≡ length a.receives.items =
     omega (arith, c.len-number.ensures, c.reserve.ensures.len, a.receives.ok.0) in
-    let grants = c.grant_taken.ensures.grants ∙ ap (λ gs. grants_with gs taken) c.reserve-2.ensures.same in
+    let grants = c.grant_taken.ensures.grants ∙ ap (λ gs. grants_with gs taken) c.reserve_from.ensures.same in
     let receives = c.push_reserved.ensures.items
     ∙ ap (λ (rs : List Receive). rs ++ c.new.result ∷ []) c.reserve.ensures.items
     ∙ ap (λ (r : Receive). a.receives.items ++ r ∷ []) c.new.ensures in

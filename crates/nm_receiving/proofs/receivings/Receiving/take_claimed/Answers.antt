@@ -40,6 +40,16 @@ take_claimed-requires-clause-is_new c =
     omega (arith, c.len-number.ensures, c.reserve.ensures.len, a.receives.ok.0) in
     next_receive (seen a) c.self.invariant c.len-number.result next
 
+pub reserve_for-requires : goal.reserve_for-requires
+reserve_for-requires c =
+    let v = seen c.self.inside in
+    let taken : Option Arrival = Some c.get.result.arrival in
+    let there = claimed_message v c.self.invariant c.args.from c.args.n c.get.result c.get.ensures in
+    may_grant-sender v c.self.invariant taken
+    (match_takeable v c.self.invariant c.args.from c.args.n taken (sym c.is_claimed.ensures.value ∙ c.if-prove.false)
+    there)
+    v.grants refl
+
 pub grant_taken-requires-clause-sender : goal.grant_taken-requires-clause-sender
 grant_taken-requires-clause-sender c =
     let v = seen c.self.inside in
@@ -48,7 +58,7 @@ grant_taken-requires-clause-sender c =
     may_grant-sender v c.self.invariant taken
     (match_takeable v c.self.invariant c.args.from c.args.n taken (sym c.is_claimed.ensures.value ∙ c.if-prove.false)
     there)
-    c.reserve-2.new.self.grants c.reserve-2.ensures.same
+    c.reserve_for.new.self.grants c.reserve_for.ensures.same
 
 pub grant_taken-requires-clause-new : goal.grant_taken-requires-clause-new
 grant_taken-requires-clause-new c =
@@ -58,7 +68,7 @@ grant_taken-requires-clause-new c =
     may_grant-new v c.self.invariant taken
     (match_takeable v c.self.invariant c.args.from c.args.n taken (sym c.is_claimed.ensures.value ∙ c.if-prove.false)
     there)
-    c.reserve-2.new.self.grants c.reserve-2.ensures.same
+    c.reserve_for.new.self.grants c.reserve_for.ensures.same
 
 pub grant_taken-requires-clause-came : goal.grant_taken-requires-clause-came
 grant_taken-requires-clause-came c =
@@ -82,7 +92,7 @@ invariant_of-self-2 c =
     let same = begun_same v (deed.Match number c.args.from c.args.n) c.args.cap taken c.take_claimed.new.self
     c.grant_taken.new.grants.grants
     c.grant_taken.new.receipts.rows c.push_reserved.new.self.items c.in_ok-take_claimed.ensures.ok
-    (c.grant_taken.ensures.grants ∙ ap (λ gs. grants_with gs taken) c.reserve-2.ensures.same)
+    (c.grant_taken.ensures.grants ∙ ap (λ gs. grants_with gs taken) c.reserve_for.ensures.same)
     c.grant_taken.ensures.receipts
     (c.push_reserved.ensures.items ∙ ap (λ (rs : List Receive). rs ++ c.new.result ∷ []) c.reserve.ensures.items
     ∙ ap (λ (r : Receive). a.receives.items ++ r ∷ []) c.new.ensures) in
@@ -105,7 +115,7 @@ returns-clause-started c =
     omega (arith, c.len-number.ensures, c.reserve.ensures.len, a.receives.ok.0) in
     let claimed = sym c.is_claimed.ensures.value ∙ c.if-prove.false in
     let there = claimed_message v c.self.invariant c.args.from c.args.n c.get.result c.get.ensures in
-    let grants = c.grant_taken.ensures.grants ∙ ap (λ gs. grants_with gs taken) c.reserve-2.ensures.same in
+    let grants = c.grant_taken.ensures.grants ∙ ap (λ gs. grants_with gs taken) c.reserve_for.ensures.same in
     let receives = c.push_reserved.ensures.items
     ∙ ap (λ (rs : List Receive). rs ++ c.new.result ∷ []) c.reserve.ensures.items
     ∙ ap (λ (r : Receive). a.receives.items ++ r ∷ []) c.new.ensures in
