@@ -1,11 +1,12 @@
 -- What the tables answer: whether a piece is due, and what became of a receive.
 use Rattle.std.specs.Prelude.{IsSome, IfSome}
 use Rattle.std.proofs.Common.{◌≡◌, ℕ, ◌<◌, ◌≤◌, Bool, false, ◌||◌, is_some, nat_lt, Option, Some, None, List}
-use Rattle.std.proofs.Common.{length, refl, sym, ◌∙◌, ap}
+use Rattle.std.proofs.Common.{◌↔◌, length, refl, sym, ◌∙◌, ap, arith}
 use Rattle.std.proofs.Common.{◌⊎◌, inl, inr}
 use Rattle.std.specs.List.{slice_get}
 use Rattle.std.specs.Option.{option_and_then, option_map, option_map_or}
 use Rattle.std.proofs.lemmas.Bool.{cases_lt, le-ltb, lt-ltb}
+use Rattle.std.proofs.lemmas.Bool.Decides.{nat_tests}
 use Rattle.std.proofs.lemmas.Option.{slice_get_within}
 use Rattle.nm_types.specs.declared.messages.Arrival.{Arrival}
 use Rattle.nm_history.specs.declared.events.Event.{Event}
@@ -14,7 +15,8 @@ use Rattle.nm_history.specs.Completion.{is_complete, is_here, pair_of_receive}
 use Rattle.nm_history.specs.Completion.Request.{Receiving}
 use Rattle.nm_history.specs.Pieces.{Due, due_pieces}
 use Rattle.nm_history.specs.Matching.{pair_of_claimed as pair}
-use Rattle.nm_rndv.specs.Grants.{Granted, expected_in, first_unfinished}
+use Rattle.nm_rndv.specs.Grants.{AllWhole, Granted, expected_in, first_unfinished}
+use Rattle.nm_rndv.proofs.GrantLemmas.{none_expected}
 use Rattle.nm_receiving.specs.Pieces.{AreDue}
 use Rattle.nm_receiving.proofs.DueLemmas.{due-first}
 use Rattle.nm_receiving.proofs.PieceLemmas.{due_of_grants-first}
@@ -44,6 +46,22 @@ due_is grants h from place due =
     some_mapped _ (first_unfinished grants) ∙ sym (some_mapped _ (first_unfinished grants))
     ∙ ap (λ (o : Option Due). is_some o) (sym (due_of_grants-first grants) ∙ due-first grants h from place due)
     ∙ some_inside (due_pieces h from) place
+
+-- no piece is due exactly where every grant is whole
+pub none_due : (grants : List (ℕ × Granted)) (h : List Event) (from place : ℕ) → AreDue grants h from place
+    → AllWhole grants ↔ (length (due_pieces h from) ≤ place)
+none_due grants h from place due = (there, back)
+  where
+    there : AllWhole grants → length (due_pieces h from) ≤ place
+    there whole =
+        let is = due_is grants h from place due in
+        let expected = none_expected grants in
+        let none = expected.1 whole in grind (arith, nat_tests, is, none)
+
+    back : length (due_pieces h from) ≤ place → AllWhole grants
+    back past =
+        let expected = none_expected grants in
+        expected.0 (due_is grants h from place due ∙ le-ltb place (length (due_pieces h from)) past)
 
 -- what became of a receive
 pub complete_some : (v : ReceivingView) (h : List Event) → AreReceived v h → (number : ℕ) (r : Receive) →

@@ -20,7 +20,7 @@
 //!   eager message that it begins or continues (`TakesMessagePacket`), a piece that continues adds its bytes
 //!   to its message (`DrawsPiece`), and `finish` changes at most those of the message of its receive.
 //! - A piece of a sender is due exactly where a message of it was sent by asking, a receive took it, and
-//!   it is not whole (`is_due`).
+//!   it is not whole (`is_due`). None of any sender is due exactly where `is_any_due` is false.
 //! - `finish` gives the result of the receive, with the bytes that came of its message.
 //! - After want of memory nothing has changed (clause `err`).
 //! # What is only tested

@@ -1,6 +1,6 @@
 //! The receiving side of a rank.
 
-ghost use Rattle.std.specs.Prelude.{◌≡◌, ◌↔◌, ℕ, ◌<◌, true, false, not, [], ◌∷◌, ◌++◌, List};
+ghost use Rattle.std.specs.Prelude.{◌≡◌, ◌↔◌, ℕ, ◌<◌, ◌≤◌, true, false, not, [], ◌∷◌, ◌++◌, List};
 ghost use Rattle.std.specs.Prelude.{IfOk, IfSome, IsSome, IsTrue, MatchOption, OnErr, OnOk};
 ghost use Rattle.std.specs.Prelude.{length, map, nat_lt};
 ghost use Rattle.std.specs.List.{list_any, slice_get};
@@ -330,6 +330,15 @@ impl Receiving {
             (result ≡ true) ↔ ((n : ℕ) × IsOwed h from n) }
     {
         self.grants.next_expected(from).is_some()
+    }
+
+    /// Whether a piece of any rank is due.
+    pub fn is_any_due(&self) -> bool
+        ensures { (h : List Event) → AreReceived self.now h →
+            (result ≡ false) ↔ ((from : ℕ) → from < self.now.sizes.ranks →
+            length (due_pieces h from) ≤ drawn_from self.now from) }
+    {
+        self.grants.is_any_due()
     }
 
     /// Takes a piece. One that is not the next one that is due changes nothing.
