@@ -22,5 +22,5 @@ mod passing;
 mod processes;
 mod steps;
 
-pub use processes::Process;
+pub use processes::{Leavings, Process};
 pub use steps::{Handle, Step};

@@ -28,7 +28,8 @@ impl Process {
     pub fn into_history(self) -> History
         ensures events { result.events ≡ self.rank.events }
     {
-        self.into_rank().into_history()
+        let (history, _) = self.into_parts();
+        history
     }
 
     /// Takes the first packet away. Where it was the last one of an eager message, that one has

@@ -24,6 +24,7 @@ ghost use Rattle.nm_process.specs.Work.{IsAtWork};
 use crate::commands::request_of_name;
 use crate::{Handle, Step};
 use indexmap::IndexMap;
+use nm_history::History;
 use nm_rank::{NoSuch, Rank, Req, State};
 use nm_types::{Command, Line, Memory, Shape};
 use std::alloc::Global;
@@ -54,6 +55,29 @@ impl Drop for Process {
             at: _,
         } = self;
     }
+}
+
+/// What a process kept beside its history: nothing that can be used.
+pub struct Leavings {
+    rank: nm_rank::Leavings,
+    requests: IndexMap<u16, Req>,
+    handles: IndexMap<u16, Handle>,
+}
+
+impl Drop for Leavings {
+    fn drop(self) {
+        let Leavings {
+            rank: _,
+            requests: _,
+            handles: _,
+        } = self;
+    }
+}
+
+impl Model for Leavings {
+    ghost Value = { Unit {0} };
+
+    ghost view = { λ left. tt };
 }
 
 impl Model for Process {
@@ -106,19 +130,25 @@ fn looks(command: Option<&Command>) -> bool
 }
 
 impl Process {
-    // Its rank, when the process is used no more.
-    pub(crate) fn into_rank(self) -> Rank
-        ensures { result ≡ self.rank }
+    /// What happened, oldest first, and what the process kept beside it, when it is used no more.
+    pub fn into_parts(self) -> (History, Leavings)
+        ensures events { result.0.events ≡ self.rank.events }
     {
         let Process {
             me: _,
             rank,
-            requests: _,
-            handles: _,
+            requests,
+            handles,
             next: _,
             at: _,
         } = self;
-        rank
+        let (history, rank) = rank.into_parts();
+        let left = Leavings {
+            rank,
+            requests,
+            handles,
+        };
+        (history, left)
     }
 
     /// A process at its first command of a script, in a run of these sizes.

@@ -38,4 +38,4 @@ mod takes;
 
 pub use answers::{CancelFault, Cancelled, FinishFault, State};
 pub use nm_request::{Kind, NoSuch, Req};
-pub use ranks::Rank;
+pub use ranks::{Leavings, Rank};

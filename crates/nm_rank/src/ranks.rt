@@ -39,6 +39,31 @@ pub struct Rank {
     pub(crate) strays: u64,
 }
 
+/// What a rank kept beside its history: nothing that can be used.
+pub struct Leavings {
+    requests: Requests,
+    sending: Sending,
+    receiving: Receiving,
+    streams: Vec<Stream>,
+}
+
+impl Drop for Leavings {
+    fn drop(self) {
+        let Leavings {
+            requests: _,
+            sending: _,
+            receiving: _,
+            streams: _,
+        } = self;
+    }
+}
+
+impl Model for Leavings {
+    ghost Value = { Unit {0} };
+
+    ghost view = { λ left. tt };
+}
+
 impl Drop for Rank {
     fn drop(self) {
         let Rank {
@@ -135,23 +160,37 @@ impl Rank {
         self.journal.history()
     }
 
-    /// What happened, oldest first, when the rank is used no more.
-    pub fn into_history(self) -> History
-        ensures events { result.events ≡ self.events }
+    /// What happened, oldest first, and what the rank kept beside it, when it is used no more.
+    pub fn into_parts(self) -> (History, Leavings)
+        ensures events { result.0.events ≡ self.events }
     {
         let Rank {
             me: _,
             shape: _,
             journal,
-            requests: _,
-            sending: _,
-            receiving: _,
-            streams: _,
+            requests,
+            sending,
+            receiving,
+            streams,
             took: _,
             pulled: _,
             strays: _,
         } = self;
-        journal.into_history()
+        let left = Leavings {
+            requests,
+            sending,
+            receiving,
+            streams,
+        };
+        (journal.into_history(), left)
+    }
+
+    /// What happened, oldest first, when the rank is used no more.
+    pub fn into_history(self) -> History
+        ensures events { result.events ≡ self.events }
+    {
+        let (history, _) = self.into_parts();
+        history
     }
 
     /// How many packets to a rank have left.
