@@ -195,7 +195,7 @@ impl Rank {
         ensures err { OnErr result (self.new ≡ self.old) }
     {
         sides_stay();
-        make_room(&mut self.journal, &mut self.sending, &mut self.requests)?;
+        self.journal.reserve(self.sending.staying() as usize + 2)?;
         self.journal.add(Happened::Ran { line, answer });
         Ok(())
     }

@@ -101,6 +101,6 @@ impl Journal {
     {
         self.clock += 1;
         let stamp = self.clock;
-        self.history.push(Event { stamp, what }).unwrap();
+        self.history.push_reserved(Event { stamp, what });
     }
 }
