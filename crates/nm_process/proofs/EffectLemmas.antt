@@ -31,7 +31,7 @@ use Rattle.nm_rank.specs.Calls.{Starts}
 use Rattle.nm_rank.specs.Ranks.{RankView, request_of}
 use Rattle.nm_rank.proofs.ResultLemmas.{finished_as}
 use Rattle.nm_process.specs.Names.{handled, message_with, named, request_named}
-use Rattle.nm_process.specs.Places.{IsNextLine, IsPlaceFrom}
+use Rattle.nm_process.specs.Places.{IsNextLine}
 use Rattle.nm_process.specs.Processes.{ProcessView}
 use Rattle.nm_process.specs.Starts.{Ends, HasAnswered, HasEnded}
 use Rattle.nm_process.specs.Starts.{HasStarted, IsBusy}
@@ -42,6 +42,7 @@ use Rattle.nm_process.proofs.MidLemmas.{Mid, ended_names}
 use Rattle.nm_process.proofs.MidLemmas.{kept_handles, kept_names, mid_none}
 use Rattle.nm_process.proofs.MidLemmas.{mid_start, request_start, started_names, works}
 use Rattle.nm_process.proofs.PacketLemmas.{are_of_packets}
+use Rattle.nm_process.proofs.PlaceLemmas.{MovesOn}
 use Rattle.nm_history.proofs.ResultLemmas.{result_is_result, bytes_no_matter}
 
 pub and_false : (b : Bool) → (b && false) ≡ false
@@ -65,7 +66,7 @@ busy_is None some = cc
 
 module _ (shape : Sizes) (lines : List Line) (a b : ProcessView) (place : ℕ) (l : Line)
     (work : IsAtWork shape lines a) (is : IsNextLine lines a.rank.me a.next place l)
-    (at : b.at ≡ a.at + 1) (next : IsPlaceFrom lines a.rank.me (place + 1) b.next) where
+    (at : b.at ≡ a.at + 1) (next : MovesOn lines a b place) where
   abbrev commands : List Numbered
   commands = commands_of a.rank.me lines
 

@@ -27,7 +27,7 @@ use Rattle.nm_history.proofs.AnswerLemmas.{live_ended, live_kept, live_same, liv
 use Rattle.nm_history.specs.Clock.{stamped}
 use Rattle.nm_rank.specs.Ranks.{RankView}
 use Rattle.nm_process.specs.Names.{handled, named, request_named}
-use Rattle.nm_process.specs.Places.{IsNextLine, IsOwnLine, IsPlaceFrom}
+use Rattle.nm_process.specs.Places.{ArePlaces, IsNextLine, IsOwnLine}
 use Rattle.nm_process.specs.Processes.{ProcessView}
 use Rattle.nm_process.specs.Starts.{HasAnswered, SetsHandle, SetsName}
 use Rattle.nm_process.specs.Work.{IsAtWork, are_below, line_of}
@@ -37,7 +37,7 @@ use Rattle.nm_process.proofs.LineLemmas.{below-more, below-push, below_packets, 
 use Rattle.nm_process.proofs.LineLemmas.{handle_packets, live_at_line, live_packets, request_made}
 use Rattle.nm_process.proofs.LineLemmas.{request_packets}
 use Rattle.nm_process.proofs.PacketLemmas.{are_of_packets, stamped_of_packets}
-use Rattle.nm_process.proofs.PlaceLemmas.{next_command, next_counted, next_found}
+use Rattle.nm_process.proofs.PlaceLemmas.{MovesOn, next_command, next_counted, next_found}
 
 -- a process at work, by its parts
 pub record Working (shape : Sizes) (lines : List Line) (sizes : Sizes) (me at next : ℕ) (h : List Event)
@@ -50,15 +50,16 @@ pub record Working (shape : Sizes) (lines : List Line) (sizes : Sizes) (me at ne
   pub requests : (q : ℕ) → names q ≡ live (commands_of me lines) h q
   pub handles : (m : ℕ) → messages m ≡ live_message (commands_of me lines) h m
 
-pub whole : (shape : Sizes) (lines : List Line) (v : ProcessView) →
+pub whole : (shape : Sizes) (lines : List Line) (v : ProcessView) → ArePlaces lines v.rank.me v.own →
     Working shape lines v.rank.sizes v.rank.me v.at v.next v.rank.events (named v) (handled v) →
     IsAtWork shape lines v
-whole shape lines v work = record {
+whole shape lines v places work = record {
   sizes = work.same;
   answers = work.done.answers;
   starts = work.done.starts;
   cancels = work.done.cancels;
   claims = work.done.claims;
+  places = places;
   past = work.past;
   counted = work.counted;
   own = work.own;
@@ -84,7 +85,7 @@ pub work_packets : (shape : Sizes) (lines : List Line) (v : ProcessView) (w : Ra
 work_packets shape lines v w start ws me sizes requests events all work =
     let more : List Event = stamped start ws in
     let packets = stamped_of_packets start ws all in
-    whole shape lines (record v { rank = w })
+    whole shape lines (record v { rank = w }) (subst (λ (i : ℕ). ArePlaces lines i v.own) (sym me) work.places)
     (subst (λ (i : ℕ). Working shape lines w.sizes i v.at v.next w.events
     (λ q. request_named w.requests v.names q) (handled v)) (sym me)
     (subst (λ (k : List Event). Working shape lines w.sizes v.rank.me v.at v.next k
@@ -219,7 +220,7 @@ module _ (shape : Sizes) (lines : List Line) (a : ProcessView) (place : ℕ) (l 
       (s c : List Happened) (ls : List ℕ) → l.command ≡ command →
       mid.rank.me ≡ a.rank.me → mid.rank.sizes ≡ a.rank.sizes → mid.rank.events ≡ h →
       HasAnswered mid (record b { at = a.at; next = a.next }) (place + 2) x → b.at ≡ a.at + 1 →
-      IsPlaceFrom lines a.rank.me (place + 1) b.next →
+      MovesOn lines a b place →
       Mid shape lines a place h s c ls → answer_of (commands_of a.rank.me lines) h (place + 2) command
       ≡ Some (without_bytes x) →
       map without_number s ≡ (if is_started x then start_of shape.eager (commands_of a.rank.me lines) h
@@ -230,7 +231,7 @@ module _ (shape : Sizes) (lines : List Line) (a : ProcessView) (place : ℕ) (l 
       ((m : ℕ) → handled b m ≡ live_message (commands_of a.rank.me lines)
       (h ++ record { stamp = mid.rank.clock + 1; what = Ran (place + 2) x } ∷ []) m) →
       IsAtWork shape lines b
-  works mid b command h x s c ls same me sizes events has at next now right made off claimed names
+  works mid b command h x s c ls same me sizes events has at on now right made off claimed names
       messages =
       let e : Event = record { stamp = mid.rank.clock + 1; what = Ran (place + 2) x } in
       let n : Numbered = record { line = place + 2; command = command } in
@@ -241,7 +242,8 @@ module _ (shape : Sizes) (lines : List Line) (a : ProcessView) (place : ℕ) (l 
       let events_are : b.rank.events ≡ h ++ e ∷ [] = has.records.noted.events
       ∙ ap (λ (k : List Event). k ++ e ∷ []) events in
       let me_is : b.rank.me ≡ a.rank.me = has.records.takes.me ∙ me in
-      whole shape lines b
+      whole shape lines b (subst (λ (own : List ℕ). ArePlaces lines b.rank.me own) (sym on.own)
+      (subst (λ (i : ℕ). ArePlaces lines i a.own) (sym me_is) work.places))
       (subst (λ (i : ℕ). Working shape lines b.rank.sizes i b.at b.next b.rank.events (named b)
       (handled b)) (sym me_is)
       (subst (λ (k : List Event). Working shape lines b.rank.sizes a.rank.me b.at b.next k (named b)
@@ -250,10 +252,10 @@ module _ (shape : Sizes) (lines : List Line) (a : ProcessView) (place : ℕ) (l 
       (handled b)) (sym at) (record {
         same = has.records.takes.sizes ∙ sizes ∙ work.sizes;
         done = done;
-        past = below-more (place + 1 + 2) (b.next + 2) (h ++ e ∷ []) (omega (arith, next.past))
+        past = below-more (place + 1 + 2) (b.next + 2) (h ++ e ∷ []) (omega (arith, on.next.past))
             (below-push (place + 1 + 2) h e now.below (line_below (place + 2) refl));
-        counted = next.first ∙ next_counted lines a.rank.me a.next place a.at l is work.counted;
-        own = next.own;
+        counted = on.next.first ∙ next_counted lines a.rank.me a.next place a.at l is work.counted;
+        own = on.next.own;
         requests = λ q. ap (λ r. request_named r b.names q) has.records.requests
             ∙ ap (λ (v : ProcessView). request_named mid.rank.requests v.names q) has.others ∙ names q;
         handles = messages;

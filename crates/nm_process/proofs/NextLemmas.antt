@@ -12,12 +12,12 @@ use Rattle.nm_history.specs.Completion.{Request, is_complete}
 use Rattle.nm_history.specs.Rules.{AreRight}
 use Rattle.nm_process.specs.declared.steps.Step.{Step}
 use Rattle.nm_process.specs.declared.steps.Step.TheVariants.{Waits, Ran as Took}
-use Rattle.nm_process.specs.Places.{IsNextLine, IsPlaceFrom, NoneBetween}
+use Rattle.nm_process.specs.Places.{IsNextLine, NoneBetween, place_at}
 use Rattle.nm_process.specs.Processes.{ProcessView}
 use Rattle.nm_process.specs.Starts.{HasTried}
 use Rattle.nm_process.specs.Steps.{HasStepped, can_go_on_by, goes_on}
 use Rattle.nm_process.specs.Work.{IsAtWork}
-use Rattle.nm_process.proofs.PlaceLemmas.{next_command, none_is_next}
+use Rattle.nm_process.proofs.PlaceLemmas.{moves_on, next_command, none_is_next}
 use Rattle.nm_process.proofs.StepLemmas.{ran}
 
 -- the next command can't go on
@@ -82,26 +82,28 @@ tried_counted a v c line s at next tried =
 -- what a step that is no waiting came to
 pub stepped : (lines : List Line) (a b : ProcessView) (place : ℕ) (l : Line) (s : Step) →
     IsNextLine lines a.rank.me a.next place l → (s ≡ Waits → ⊥) → b.at ≡ a.at + 1 →
-    IsPlaceFrom lines a.rank.me (place + 1) b.next →
+    b.own ≡ a.own → b.next ≡ place_at a.own lines (a.at + 1) →
     HasTried a (record b { at = a.at; next = a.next }) l.command (place + 2) s → HasStepped lines a b s
-stepped lines a b place l Waits is moves at next tried = absurd (moves refl)
-stepped lines a b place l Took is moves at next tried = record {
+stepped lines a b place l Waits is moves at own next tried = absurd (moves refl)
+stepped lines a b place l Took is moves at own next tried = record {
   place = place;
   line = l;
   is = is;
   tried =
       tried;
   at = at;
+  own = own;
   next = next;
 }
 
 pub ran_step : (shape : Sizes) (lines : List Line) (a b : ProcessView) (place : ℕ) (l : Line) (s : Step) →
     IsAtWork shape lines a → IsNextLine lines a.rank.me a.next place l → (s ≡ Waits → ⊥) →
-    b.at ≡ a.at + 1 → IsPlaceFrom lines a.rank.me (place + 1) b.next → AreRight b.rank.sizes.ranks [] b.rank.events →
+    b.at ≡ a.at + 1 → b.own ≡ a.own → b.next ≡ place_at a.own lines (a.at + 1) →
+    AreRight b.rank.sizes.ranks [] b.rank.events →
     HasTried a (record b { at = a.at; next = a.next }) l.command (place + 2) s → IsAtWork shape lines b
-ran_step shape lines a b place l Waits work is moves at next right tried = absurd (moves refl)
-ran_step shape lines a b place l Took work is moves at next right tried =
-    ran shape lines a b place l work is at next right tried
+ran_step shape lines a b place l Waits work is moves at own next right tried = absurd (moves refl)
+ran_step shape lines a b place l Took work is moves at own next right tried =
+    ran shape lines a b place l work is at (moves_on lines a b place l work.places is work.counted own next) right tried
 
 -- a process that waits is as it was
 pub waits_same : (a b : ProcessView) (c : Command) (line : ℕ) → HasTried a b c line Waits → b ≡ a

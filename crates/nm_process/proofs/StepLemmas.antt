@@ -25,8 +25,7 @@ use Rattle.nm_history.specs.declared.events.Happened.TheVariants.{Send, Post, Ca
 use Rattle.nm_history.specs.declared.events.Happened.TheVariants.{Match, Ran}
 use Rattle.nm_history.specs.declared.plain.Pair.{Pair}
 use Rattle.nm_history.specs.Answers.{Message, arrival_claimed, cancel_answer}
-use Rattle.nm_history.specs.Answers.{claim_at, is_claim_for, is_question_of}
-use Rattle.nm_history.specs.Answers.{is_started, live, live_message, seen}
+use Rattle.nm_history.specs.Answers.{claim_at, is_claim_for, is_question_of, is_started, live, live_message, seen}
 use Rattle.nm_history.specs.Answers.{without_bytes}
 use Rattle.nm_history.specs.AtEach.{AtEach}
 use Rattle.nm_history.specs.Completion.{Request, is_complete, is_here, pair_of_receive, result_of, shown}
@@ -50,7 +49,7 @@ use Rattle.nm_rank.specs.Sends.{next_send}
 use Rattle.nm_rank.specs.Steps.{StartsMatched, StartsReceive, StartsSend}
 use Rattle.nm_process.specs.declared.steps.Step.TheVariants.{Ran as Took}
 use Rattle.nm_process.specs.Names.{handled, named}
-use Rattle.nm_process.specs.Places.{IsNextLine, IsPlaceFrom}
+use Rattle.nm_process.specs.Places.{IsNextLine}
 use Rattle.nm_process.specs.Processes.{ProcessView}
 use Rattle.nm_process.specs.Starts.{HasAnswered, HasAwaited, HasCancelled, HasClaimed, HasEnded}
 use Rattle.nm_process.specs.Starts.{HasFoundNone, HasMatched, HasProbed, HasStarted, HasTried, IsBusy}
@@ -64,6 +63,7 @@ use Rattle.nm_process.proofs.MessageLemmas.{first_is_message}
 use Rattle.nm_process.proofs.MidLemmas.{Mid, below_line, claimed_handles, found}
 use Rattle.nm_process.proofs.MidLemmas.{kept_handles, kept_names, mid_line, mid_none, mid_other}
 use Rattle.nm_process.proofs.MidLemmas.{received_handles, works}
+use Rattle.nm_process.proofs.PlaceLemmas.{MovesOn}
 use Rattle.nm_process.proofs.PacketLemmas.{after_parts, are_of_packets, whole_of_packets}
 use Rattle.nm_history.proofs.Right.{right-numbers}
 use Rattle.nm_history.proofs.AppendLemmas.{happened-push}
@@ -105,7 +105,7 @@ right_front ranks h e f k is right =
 
 module _ (shape : Sizes) (lines : List Line) (a b : ProcessView) (place : ℕ) (l : Line)
     (work : IsAtWork shape lines a) (is : IsNextLine lines a.rank.me a.next place l)
-    (at : b.at ≡ a.at + 1) (next : IsPlaceFrom lines a.rank.me (place + 1) b.next) where
+    (at : b.at ≡ a.at + 1) (next : MovesOn lines a b place) where
   sends_one : (q to tag ctx : ℕ) (body : Body) (sync : Bool) →
       l.command ≡ command.Send q to tag ctx body sync →
       HasTriedSend a (record b { at = a.at; next = a.next }) q to tag ctx body sync (place + 2) →

@@ -7,23 +7,41 @@ use Rattle.nm_history.specs.declared.events.Event.{Event}
 use Rattle.nm_history.specs.AtEach.{AtEach}
 use Rattle.nm_history.specs.RankRun.{Answers, Cancels, Claims, Starts}
 use Rattle.nm_request.specs.declared.Req.{Req}
+use Rattle.nm_request.specs.Requests.{Live}
 use Rattle.nm_rank.specs.Ranks.{RankView}
 use Rattle.nm_process.specs.declared.steps.Handle.{Handle}
-use Rattle.nm_process.specs.Places.{IsPlaceFrom}
+use Rattle.nm_process.specs.Names.{AreHeld, AreLive}
+use Rattle.nm_process.specs.Places.{ArePlaces, place_at}
 use Rattle.nm_process.specs.Work.{IsAtWork}
+use Rattle.nm_process.proofs.PlaceLemmas.{IsPlaceFrom, place_from}
+
+-- where there is no name, each stands for a live request, and where there is no handle, each for a message
+pub none_live : (requests : Live) (names : List (ℕ × Req)) → names ≡ [] → AreLive requests names
+none_live requests names none = subst (λ (ns : List (ℕ × Req)). AreLive requests ns) (sym none) (record {
+  live = λ q. tt;
+  one_name = λ q p r one two. cc;
+})
+
+pub none_held : (h : List Event) (handles : List (ℕ × Handle)) → handles ≡ [] → AreHeld h handles
+none_held h handles none = subst (λ (hs : List (ℕ × Handle)). AreHeld h hs) (sym none) (record {
+  held = λ m. tt;
+  one_handle = λ m k x one two. cc;
+})
 
 -- a process that begins
-pub begins : (shape : Sizes) (lines : List Line) (v : RankView) (next : ℕ) (names : List (ℕ × Req))
-    (handles : List (ℕ × Handle)) → IsPlaceFrom lines v.me 0 next → v.sizes ≡ shape → v.events ≡ [] →
-    names ≡ [] → handles ≡ [] →
-    IsAtWork shape lines (record { rank = v; at = 0; next = next; names = names; handles = handles })
+pub begins : (shape : Sizes) (lines : List Line) (v : RankView) (own : List ℕ) (next : ℕ) (names : List (ℕ × Req))
+    (handles : List (ℕ × Handle)) → ArePlaces lines v.me own → next ≡ place_at own lines 0 →
+    v.sizes ≡ shape → v.events ≡ [] → names ≡ [] → handles ≡ [] →
+    IsAtWork shape lines (record { rank = v; own = own; at = 0; next = next; names = names; handles = handles })
 unfolding AtEach
-begins shape lines v next names handles place sizes none no_names no_handles =
+begins shape lines v own next names handles are stands sizes none no_names no_handles =
     let commands : List Numbered = commands_of v.me lines in
+    let place : IsPlaceFrom lines v.me 0 next = subst (λ (k : ℕ). IsPlaceFrom lines v.me 0 k) (sym stands)
+    (place_from lines v.me 0 0 own are (omega arith) refl) in
     subst (λ (ns : List (ℕ × Req)). IsAtWork shape lines
-    (record { rank = v; at = 0; next = next; names = ns; handles = handles })) (sym no_names)
+    (record { rank = v; own = own; at = 0; next = next; names = ns; handles = handles })) (sym no_names)
     (subst (λ (hs : List (ℕ × Handle)). IsAtWork shape lines
-    (record { rank = v; at = 0; next = next; names = []; handles = hs })) (sym no_handles)
+    (record { rank = v; own = own; at = 0; next = next; names = []; handles = hs })) (sym no_handles)
     (let is = none in record {
       sizes = sizes;
       answers = subst (λ (h : List Event). Answers commands 0 h) (sym is)
@@ -34,6 +52,7 @@ begins shape lines v next names handles place sizes none no_names no_handles =
           (record { made = tt; no_others = refl });
       claims = subst (λ (h : List Event). Claims commands h) (sym is)
           (record { made = tt; no_others = refl });
+      places = are;
       past = rw is refl;
       counted = place.first;
       own = place.own;

@@ -12,7 +12,7 @@ use Rattle.nm_history.specs.Matching.{first_message, matched_pairs}
 use Rattle.nm_process.specs.declared.steps.Step.{Step}
 use Rattle.nm_process.specs.declared.steps.Step.TheVariants.{Waits, Ran as Took}
 use Rattle.nm_process.specs.Names.{named}
-use Rattle.nm_process.specs.Places.{IsNextLine, IsPlaceFrom}
+use Rattle.nm_process.specs.Places.{IsNextLine, place_at}
 use Rattle.nm_process.specs.Processes.{ProcessView}
 use Rattle.nm_process.specs.Starts.{HasTried}
 
@@ -47,7 +47,8 @@ pub record HasRun (lines : List Line) (a b : ProcessView) : Type 0 where
   pub is : IsNextLine lines a.rank.me a.next place line
   pub tried : HasTried a (record b { at = a.at; next = a.next }) line.command (place + 2) Took
   pub at : b.at ≡ a.at + 1
-  pub next : IsPlaceFrom lines a.rank.me (place + 1) b.next
+  pub own : b.own ≡ a.own
+  pub next : b.next ≡ place_at a.own lines (a.at + 1)
 
 -- what the process's next command came to
 abbrev pub HasStepped : List Line → ProcessView → ProcessView → Step → Type 0

@@ -10,7 +10,7 @@ use Rattle.nm_history.specs.declared.events.Happened.TheVariants.{Send, Post, Cl
 use Rattle.nm_history.specs.Answers.{live, live_message}
 use Rattle.nm_history.specs.RankRun.{Answers, Cancels, Claims, Starts}
 use Rattle.nm_process.specs.Names.{handled, named}
-use Rattle.nm_process.specs.Places.{IsOwnLine}
+use Rattle.nm_process.specs.Places.{ArePlaces, IsOwnLine}
 use Rattle.nm_process.specs.Processes.{ProcessView}
 
 -- the line of a start, of a claim or of an answer, 0 for other events
@@ -27,14 +27,16 @@ abbrev pub are_below : ℕ → List Event → Bool
 are_below line h = list_all (λ e. nat_lt (line_of e.what) line) h
 
 -- The history is that of a rank that ran its commands before the place `next` of the script, `at` in
--- number, and no event is of a later line. At that place stands its next command, or no line. Each name
--- stands for its live request, and each handle for its live message.
+-- number, and no event is of a later line. At that place stands its next command, or no line. The places
+-- of its commands are those of its lines. Each name stands for its live request, and each handle for its
+-- live message.
 pub record IsAtWork (shape : Sizes) (lines : List Line) (v : ProcessView) : Type 0 where
   pub sizes : v.rank.sizes ≡ shape
   pub answers : Answers (commands_of v.rank.me lines) v.at v.rank.events
   pub starts : Starts shape.eager (commands_of v.rank.me lines) v.rank.events
   pub cancels : Cancels (commands_of v.rank.me lines) v.rank.events
   pub claims : Claims (commands_of v.rank.me lines) v.rank.events
+  pub places : ArePlaces lines v.rank.me v.own
   pub past : are_below (v.next + 2) v.rank.events ≡ true
   pub counted : length (commands_of v.rank.me (take v.next lines)) ≡ v.at
   pub own : IsOwnLine lines v.rank.me v.next

@@ -96,7 +96,8 @@ impl Process {
         requires tag { tag ≤ MAX_TAG }
         requires short { body_len body.now ≤ MAX_BODY }
         requires fresh { IsFresh self.old.rank }
-        ensures places { (self.new.next ≡ self.old.next) × (self.new.at ≡ self.old.at) }
+        ensures places { (self.new.next ≡ self.old.next) × (self.new.at ≡ self.old.at)
+            × (self.new.own ≡ self.old.own) }
         ensures ran { IfOk result (λ step. step ≡ step_is.Ran) }
         ensures tried { OnOk result
             (HasTriedSend self.old self.new q to tag ctx body.now sync line) }
@@ -120,7 +121,8 @@ impl Process {
         line: u32,
     ) -> Result<Step, Memory>
         requires fresh { IsFresh self.old.rank }
-        ensures places { (self.new.next ≡ self.old.next) × (self.new.at ≡ self.old.at) }
+        ensures places { (self.new.next ≡ self.old.next) × (self.new.at ≡ self.old.at)
+            × (self.new.own ≡ self.old.own) }
         ensures ran { IfOk result (λ step. step ≡ step_is.Ran) }
         ensures tried { OnOk result
             (HasTriedReceive self.old self.new q from tag ctx cap line) }
@@ -136,7 +138,8 @@ impl Process {
     // Gives the result of the request of this name, which then ends, if it is complete.
     pub(crate) fn wait(&mut self, q: u16, line: u32) -> Result<Step, Memory>
         requires fresh { IsFresh self.old.rank }
-        ensures places { (self.new.next ≡ self.old.next) × (self.new.at ≡ self.old.at) }
+        ensures places { (self.new.next ≡ self.old.next) × (self.new.at ≡ self.old.at)
+            × (self.new.own ≡ self.old.own) }
         ensures tried { IfOk result (HasTriedWait self.old self.new q line) }
     {
         let Some(request) = request_of_name(&self.requests, q) else {
@@ -151,7 +154,8 @@ impl Process {
     // Gives that result, or answers that there is none yet.
     pub(crate) fn test(&mut self, q: u16, line: u32) -> Result<Step, Memory>
         requires fresh { IsFresh self.old.rank }
-        ensures places { (self.new.next ≡ self.old.next) × (self.new.at ≡ self.old.at) }
+        ensures places { (self.new.next ≡ self.old.next) × (self.new.at ≡ self.old.at)
+            × (self.new.own ≡ self.old.own) }
         ensures ran { IfOk result (λ step. step ≡ step_is.Ran) }
         ensures tried { OnOk result (HasTriedTest self.old self.new q line) }
     {
@@ -173,7 +177,8 @@ impl Process {
         line: u32,
     ) -> Result<Step, Memory>
         requires fresh { IsFresh self.old.rank }
-        ensures places { (self.new.next ≡ self.old.next) × (self.new.at ≡ self.old.at) }
+        ensures places { (self.new.next ≡ self.old.next) × (self.new.at ≡ self.old.at)
+            × (self.new.own ≡ self.old.own) }
         ensures ran { IfOk result (λ step. step ≡ step_is.Ran) }
         ensures tried { OnOk result (HasProbed self.old self.new from tag ctx line) }
     {
@@ -192,7 +197,8 @@ impl Process {
         line: u32,
     ) -> Result<Step, Memory>
         requires fresh { IsFresh self.old.rank }
-        ensures places { (self.new.next ≡ self.old.next) × (self.new.at ≡ self.old.at) }
+        ensures places { (self.new.next ≡ self.old.next) × (self.new.at ≡ self.old.at)
+            × (self.new.own ≡ self.old.own) }
         ensures tried { IfOk result (HasTriedAwait self.old self.new from tag ctx line) }
     {
         match self.rank.probe(from, tag, ctx) {
@@ -204,7 +210,8 @@ impl Process {
     // Cancels the request of this name.
     pub(crate) fn cancel(&mut self, q: u16, line: u32) -> Result<Step, Memory>
         requires fresh { IsFresh self.old.rank }
-        ensures places { (self.new.next ≡ self.old.next) × (self.new.at ≡ self.old.at) }
+        ensures places { (self.new.next ≡ self.old.next) × (self.new.at ≡ self.old.at)
+            × (self.new.own ≡ self.old.own) }
         ensures ran { IfOk result (λ step. step ≡ step_is.Ran) }
         ensures tried { OnOk result
             (IsNull self.old self.new q line ⊎ HasCancelled self.old self.new q line) }
@@ -229,7 +236,8 @@ impl Process {
         line: u32,
     ) -> Result<Step, Memory>
         requires fresh { IsFresh self.old.rank }
-        ensures places { (self.new.next ≡ self.old.next) × (self.new.at ≡ self.old.at) }
+        ensures places { (self.new.next ≡ self.old.next) × (self.new.at ≡ self.old.at)
+            × (self.new.own ≡ self.old.own) }
         ensures ran { IfOk result (λ step. step ≡ step_is.Ran) }
         ensures tried { OnOk result (HasTriedMprobe self.old self.new m from tag ctx line) }
     {
@@ -256,7 +264,8 @@ impl Process {
         line: u32,
     ) -> Result<Step, Memory>
         requires fresh { IsFresh self.old.rank }
-        ensures places { (self.new.next ≡ self.old.next) × (self.new.at ≡ self.old.at) }
+        ensures places { (self.new.next ≡ self.old.next) × (self.new.at ≡ self.old.at)
+            × (self.new.own ≡ self.old.own) }
         ensures ran { IfOk result (λ step. step ≡ step_is.Ran) }
         ensures tried { OnOk result (HasTriedMrecv self.old self.new q m cap line) }
     {
@@ -275,7 +284,8 @@ impl Process {
     // Records the answer of a line's command.
     fn answer(&mut self, line: u32, answer: Answer) -> Result<Step, Memory>
         requires in_time { self.old.rank.clock < MAX_STAMP }
-        ensures places { (self.new.next ≡ self.old.next) × (self.new.at ≡ self.old.at) }
+        ensures places { (self.new.next ≡ self.old.next) × (self.new.at ≡ self.old.at)
+            × (self.new.own ≡ self.old.own) }
         ensures ran { IfOk result (λ step. step ≡ step_is.Ran) }
         ensures answered { OnOk result (HasAnswered self.old self.new line answer) }
     {
@@ -287,7 +297,8 @@ impl Process {
     fn name(&mut self, q: u16, request: Req) -> Result<(), Memory>
         requires live { IsOlder self.old.rank.requests request }
         requires unnamed { (k : ℕ) → lookup (nat_eq k) self.old.names ≢ Some request }
-        ensures places { (self.new.next ≡ self.old.next) × (self.new.at ≡ self.old.at) }
+        ensures places { (self.new.next ≡ self.old.next) × (self.new.at ≡ self.old.at)
+            × (self.new.own ≡ self.old.own) }
         ensures same { (self.new.rank ≡ self.old.rank) × (self.new.handles ≡ self.old.handles) }
         ensures named { OnOk result ((k : ℕ) → lookup (nat_eq k) self.new.names
             ≡ (if nat_eq q k then Some request else lookup (nat_eq k) self.old.names)) }

@@ -7,8 +7,8 @@
 //! cancels).
 //!
 //! # What a contract sees
-//! A `ProcessView`: the view of the rank, how many commands ran, the place of the next one in the
-//! script, and what each name and each handle stands for.
+//! A `ProcessView`: the view of the rank, the places of its commands in the script, how many of them
+//! ran, the place of the next one, and what each name and each handle stands for.
 //! # What is proved
 //! - The history is that of the commands that ran so far (`IsAtWork`), whatever packets and pieces
 //!   come and whenever: clauses `begins` of `new` and `work` of each call.

@@ -12,7 +12,7 @@ ghost use Rattle.nm_request.specs.declared.Req.{Req};
 ghost use Rattle.nm_rank.specs.New.{IsNew};
 ghost use Rattle.nm_rank.specs.Ranks.{IsFresh};
 ghost use Rattle.nm_process.specs.Lines.{AreLines};
-ghost use Rattle.nm_process.specs.Places.{IsNextLine, IsPlaceFrom, NoneBetween};
+ghost use Rattle.nm_process.specs.Places.{ArePlaces, IsNextLine, NoneBetween, place_at as place_at_lem};
 ghost use Rattle.nm_process.specs.Starts.{HasTried};
 ghost use Rattle.nm_process.specs.Steps.{HasStepped, can_go_on_by, goes_on, is_look, looks_on};
 ghost use Rattle.nm_process.specs.Names.{named};
@@ -38,7 +38,9 @@ pub struct Process {
     pub(crate) requests: IndexMap<u16, Req>,
     // by name of a handle
     pub(crate) handles: IndexMap<u16, Handle>,
-    // where its next command stands in the script, past all lines if there is none
+    // where its commands stand in the script, in order
+    own: Vec<u32>,
+    // where its next command stands there, past all lines if there is none
     pub(crate) next: usize,
     // how many of its commands ran
     pub(crate) at: u32,
@@ -51,6 +53,7 @@ impl Drop for Process {
             rank: _,
             requests: _,
             handles: _,
+            own: _,
             next: _,
             at: _,
         } = self;
@@ -62,6 +65,7 @@ pub struct Leavings {
     rank: nm_rank::Leavings,
     requests: IndexMap<u16, Req>,
     handles: IndexMap<u16, Handle>,
+    own: Vec<u32>,
 }
 
 impl Drop for Leavings {
@@ -70,6 +74,7 @@ impl Drop for Leavings {
             rank: _,
             requests: _,
             handles: _,
+            own: _,
         } = self;
     }
 }
@@ -83,6 +88,7 @@ impl Model for Leavings {
 impl Model for Process {
     ghost use Rattle.std.specs.Prelude.{◌≡◌, ◌≤◌};
     ghost use Rattle.nm_process.specs.Names.{AreHeld, AreLive};
+    ghost use Rattle.nm_process.specs.Places.{AreAhead};
     ghost use Rattle.nm_process.specs.Processes.{ProcessView};
 
     ghost Value = { ProcessView };
@@ -90,6 +96,7 @@ impl Model for Process {
     ghost view = { λ p.
         record {
           rank = p.rank;
+          own = p.own.items;
           at = p.at;
           next = p.next;
           names = p.requests.entries;
@@ -99,21 +106,17 @@ impl Model for Process {
     ghost invariant = { λ p.
         AreLive p.rank.requests p.requests.entries
         × AreHeld p.rank.events p.handles.entries
-        × (p.me ≡ p.rank.me) × (p.at ≤ p.next) };
+        × (p.me ≡ p.rank.me) × (p.at ≤ p.next) × AreAhead p.own.items };
 }
 
-// The place of a rank's next command in the script, from a place on. Where there is none it is past
-// all lines.
-fn place_from(me: u8, lines: &[Line], from: usize) -> usize
-    requires { from ≤ length lines.now }
-    ensures { IsPlaceFrom lines.now me from result }
+// The place of the command of this number, past all lines where there is none.
+fn place_at(own: &[u32], lines: &[Line], at: u32) -> usize
+    ensures { result ≡ place_at_lem own.now lines.now at }
 {
-    for place in from..lines.len() {
-        if lines[place].rank == me {
-            return place;
-        }
+    match own.get(at as usize) {
+        Some(place) => *place as usize,
+        None => lines.len(),
     }
-    lines.len()
 }
 
 // Whether it is a command that looks at what came: a test, a probe, an await or a matched probe.
@@ -139,6 +142,7 @@ impl Process {
             rank,
             requests,
             handles,
+            own,
             next: _,
             at: _,
         } = self;
@@ -147,22 +151,33 @@ impl Process {
             rank,
             requests,
             handles,
+            own,
         };
         (history, left)
     }
 
-    /// A process at its first command of a script, in a run of these sizes.
-    pub fn new(alloc: Global, shape: Shape, me: u8, lines: &[Line]) -> Result<Process, Memory>
-        requires { me < shape.ranks }
+    /// A process at its first command of a script, whose commands stand at these places, in a run of
+    /// these sizes.
+    pub fn new(
+        alloc: Global,
+        shape: Shape,
+        me: u8,
+        own: Vec<u32>,
+        lines: &[Line],
+    ) -> Result<Process, Memory>
+        requires rank { me < shape.ranks }
+        requires places { ArePlaces lines.now me own.items }
         ensures new { IfOk result (λ p. IsNew shape me p.rank) }
         ensures begins { IfOk result (λ p. (p.at ≡ 0) × IsAtWork shape lines.now p) }
     {
+        let next = place_at(&own, lines, 0);
         Ok(Process {
             me,
             rank: Rank::new(alloc, shape, me)?,
             requests: IndexMap::new(alloc),
             handles: IndexMap::new(alloc),
-            next: place_from(me, lines, 0),
+            own,
+            next,
             at: 0,
         })
     }
@@ -282,7 +297,6 @@ impl Process {
         if self.rank.is_worn() {
             return Ok(Step::Waits);
         }
-        let me = self.me();
         let Some(place) = self.next_place(lines) else {
             return Ok(Step::Waits);
         };
@@ -290,8 +304,8 @@ impl Process {
         if let Step::Waits = step {
             return Ok(Step::Waits);
         }
-        self.next = place_from(me, lines, place + 1);
         self.at += 1;
+        self.next = place_at(&self.own, lines, self.at);
         // no step: it tells that the history keeps its rules
         self.rank.history();
         Ok(step)
@@ -301,7 +315,8 @@ impl Process {
     fn run_command(&mut self, command: &Command, line: u32) -> Result<Step, Memory>
         requires fresh { IsFresh self.old.rank }
         requires in_range { is_in_range self.old.rank.sizes.ranks command.now ≡ true }
-        ensures places { (self.new.next ≡ self.old.next) × (self.new.at ≡ self.old.at) }
+        ensures places { (self.new.next ≡ self.old.next) × (self.new.at ≡ self.old.at)
+            × (self.new.own ≡ self.old.own) }
         ensures tried { IfOk result (HasTried self.old self.new command.now line) }
     {
         match command {

@@ -17,4 +17,5 @@ invariant_of-self-2 c =
           (held_after x p.rank.events _ (tt, tt) held)) i.1,
       i.2 ∙ sym records.takes.me,
       i.3,
+      i.4,
     )

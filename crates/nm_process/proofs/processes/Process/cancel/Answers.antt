@@ -28,6 +28,7 @@ invariant_of-self c =
           (held_after x v.events _ (cancel_leaves x v.events v.clock is.kind) held)) i.1,
       i.2 ∙ sym is.takes.me,
       i.3,
+      i.4,
     )
 
 pub answer-requires-in-Ok : goal.answer-requires-in-Ok
@@ -56,6 +57,7 @@ returns-in-Ok-clause-tried c =
     let is = c.in-Ok.ensures.cancels in
     let a : ProcessView = record {
       rank = v;
+      own = p.own.items;
       at = p.at;
       next = p.next;
       names =

@@ -28,6 +28,7 @@ invariant_of-self-in_err-insert c =
       subst (λ (es : List (ℕ × Handle)). AreHeld w.events es) (sym c.in_err-insert.ensures.err) held,
       i.2 ∙ sym claims.takes.me,
       i.3,
+      i.4,
     )
 
 pub invariant_of-self-2 : goal.invariant_of-self-2
@@ -54,4 +55,5 @@ invariant_of-self-2 c =
           c.in_ok-insert.ensures.updates.0,
       i.2 ∙ sym claims.takes.me,
       i.3,
+      i.4,
     )

@@ -31,6 +31,7 @@ invariant_of-self c =
           (sym (ap (λ (v : RankView). v.events) finished.same)) i.1,
       i.2 ∙ sym (ap (λ (v : RankView). v.me) finished.same),
       i.3,
+      i.4,
     )
 
 pub returns-in-Ok-clause-some : goal.returns-in-Ok-clause-some
@@ -44,6 +45,7 @@ returns-in-Ok-clause-some c =
     let sets = c.swap_remove.ensures.updates.0 in
     let a : ProcessView = record {
       rank = p.rank;
+      own = p.own.items;
       at = p.at;
       next = p.next;
       names =
@@ -52,6 +54,7 @@ returns-in-Ok-clause-some c =
     } in
     let b : ProcessView = record {
       rank = w;
+      own = p.own.items;
       at = p.at;
       next = p.next;
       names =
@@ -86,6 +89,7 @@ returns-in-Err-NotComplete-clause-none c =
     let q = c.args.q in
     let a : ProcessView = record {
       rank = p.rank;
+      own = p.own.items;
       at = p.at;
       next = p.next;
       names =

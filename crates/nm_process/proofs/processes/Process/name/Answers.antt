@@ -20,4 +20,5 @@ invariant_of-self-2 c =
       i.1,
       i.2,
       i.3,
+      i.4,
     )

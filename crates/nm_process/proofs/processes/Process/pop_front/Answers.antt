@@ -23,6 +23,7 @@ invariant_of-self c =
           (outs_of_packets (ended_by (slice_get v.sending.outbox.letters 0))) i.1,
       i.2 ∙ sym c.pop_front.ensures.takes.me,
       i.3,
+      i.4,
     )
 
 pub returns-clause-work : goal.returns-clause-work
@@ -32,6 +33,7 @@ returns-clause-work c shape lines work =
     let w = c.pop_front.new.self in
     let a : ProcessView = record {
       rank = v;
+      own = p.own.items;
       at = p.at;
       next = p.next;
       names =

@@ -25,6 +25,7 @@ invariant_of-self c =
           (first_leaving v.sending.offers))) i.1,
       i.2 ∙ sym c.pop_piece.ensures.takes.me,
       i.3,
+      i.4,
     )
 
 pub returns-clause-work : goal.returns-clause-work
@@ -34,6 +35,7 @@ returns-clause-work c shape lines work =
     let w = c.pop_piece.new.self in
     let a : ProcessView = record {
       rank = v;
+      own = p.own.items;
       at = p.at;
       next = p.next;
       names =

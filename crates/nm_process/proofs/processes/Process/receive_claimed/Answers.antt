@@ -36,6 +36,7 @@ invariant_of-self-2 c =
           c.swap_remove.ensures.updates.0,
       i.2 ∙ sym starts.takes.me,
       i.3,
+      i.4,
     )
 
 pub name-requires-clause-live : goal.name-requires-clause-live
@@ -66,6 +67,7 @@ returns-clause-tried c =
     let x = c.in-Some.handle in
     let a : ProcessView = record {
       rank = p.rank;
+      own = p.own.items;
       at = p.at;
       next = p.next;
       names =

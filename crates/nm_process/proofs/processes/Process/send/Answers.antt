@@ -25,6 +25,7 @@ invariant_of-self-2 c =
           (λ x. (tt, tt)) i.1,
       i.2 ∙ sym starts.takes.me,
       i.3,
+      i.4,
     )
 
 pub name-requires-clause-live : goal.name-requires-clause-live
@@ -52,6 +53,7 @@ returns-clause-tried c =
     let g = c.args in
     let a : ProcessView = record {
       rank = p.rank;
+      own = p.own.items;
       at = p.at;
       next = p.next;
       names =

@@ -24,6 +24,7 @@ invariant_of-self-2 c =
           (packet_of_packets (known_from v.known c.args.p.now.from) v.events (taken_of v c.args.p.now)) i.1,
       i.2 ∙ sym taken.me,
       i.3,
+      i.4,
     )
 
 pub returns-clause-work : goal.returns-clause-work
@@ -34,6 +35,7 @@ returns-clause-work c shape lines work =
     let taken = c.in_ok-take_packet.ensures.taken in
     let a : ProcessView = record {
       rank = v;
+      own = p.own.items;
       at = p.at;
       next = p.next;
       names =

@@ -23,6 +23,7 @@ invariant_of-self-2 c =
           (piece_of_packets c.args.p.now.from (next_due v c.args.p.now.from) c.args.p.now) i.1,
       i.2 ∙ sym taken.me,
       i.3,
+      i.4,
     )
 
 pub returns-clause-work : goal.returns-clause-work
@@ -33,6 +34,7 @@ returns-clause-work c shape lines work =
     let taken = c.in_ok-take_piece.ensures.taken in
     let a : ProcessView = record {
       rank = v;
+      own = p.own.items;
       at = p.at;
       next = p.next;
       names =
