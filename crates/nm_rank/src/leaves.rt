@@ -1,6 +1,6 @@
 //! Packets and pieces that leave.
 
-ghost use Rattle.std.specs.Prelude.{◌≡◌, ◌<◌, ◌↔◌, ℕ, true, false, None, Some, length, slice_get};
+ghost use Rattle.std.specs.Prelude.{◌≡◌, ◌<◌, ◌≤◌, ◌↔◌, ℕ, true, false, None, Some, length, slice_get};
 ghost use Rattle.std.specs.Prelude.{nat_lt, option_map, IfSome, IfNone, IsNone, IsSome, IsSomeAnd, MatchOption};
 ghost use Rattle.nm_history.specs.Clearance.{pushed_out, to_push};
 ghost use Rattle.nm_history.specs.Pieces.{due_pieces};
@@ -119,6 +119,17 @@ impl Rank {
         if let Some((to, n)) = self.sending.pop_piece() {
             self.journal.add(Happened::Out { to, n });
         }
+    }
+
+    /// Whether a message of any rank was cleared and is not whole.
+    pub fn is_any_piece_due(&self) -> bool
+        ensures none { result ≡ false → (from : ℕ) → from < self.now.sizes.ranks →
+            length (due_pieces self.now.events from) ≤ drawn_from self.now.receiving from }
+        ensures some { ((from : ℕ) → from < self.now.sizes.ranks →
+            length (due_pieces self.now.events from) ≤ drawn_from self.now.receiving from) →
+            result ≡ false }
+    {
+        self.receiving.is_any_due()
     }
 
     /// Whether a message of a rank was cleared and is not whole.
