@@ -223,6 +223,7 @@ impl Actor {
         a_poll_carries::<Packet, Packet>();
         a_packet_is_taken();
         self.process.take_packet(&letter.item)?;
+        self.places.count(letter.item.payload.as_slice().len());
         self.places.call(letter.from);
         self.places.keep_letter(Some(letter));
         Ok(true)
@@ -284,6 +285,7 @@ impl Actor {
         // no step: the law of a piece that comes
         a_piece_is_taken();
         self.process.take_piece(&piece)?;
+        self.places.count(piece.bytes.as_slice().len());
         self.places.keep(Some(piece));
         self.places.call(sender);
         Ok(true)
@@ -310,7 +312,10 @@ impl Actor {
         rank.history();
         a_command_runs();
         match self.process.run_next(lines)? {
-            Step::Ran => Ok(true),
+            Step::Ran => {
+                self.places.count(0);
+                Ok(true)
+            }
             Step::Waits => Ok(false),
         }
     }

@@ -22,6 +22,8 @@ pub(crate) struct Places {
     calls: u64,
     // the places of its crew's bell that may have something to do
     due: u64,
+    // how many bytes came since memory was last asked for ahead
+    came: usize,
     alloc: Global,
 }
 
@@ -32,6 +34,7 @@ impl Drop for Places {
             spare: _,
             calls: _,
             due: _,
+            came: _,
             alloc: _,
         } = self;
     }
@@ -41,6 +44,17 @@ impl Model for Places {
     ghost Value = { Unit {0} };
 
     ghost view = { λ _. tt };
+}
+
+// How many bytes are asked for ahead.
+const AHEAD: usize = 98304;
+
+// How many bytes of memory stand for whatever comes, beside its body.
+const EACH: usize = 256;
+
+// A block of as many bytes as are asked for ahead.
+fn block(alloc: Global) -> Result<Vec<u8>, Memory> {
+    Ok(Vec::with_capacity(alloc, AHEAD)?)
 }
 
 // A box with nothing of use in it.
@@ -88,6 +102,7 @@ impl Places {
             spare: None,
             calls: 0,
             due: 0,
+            came: 0,
             alloc,
         }
     }
@@ -126,6 +141,17 @@ impl Places {
     /// Keeps a box as the spare one.
     pub(crate) fn keep(&mut self, spare: Option<Box<Piece>>) {
         self.spare = spare;
+    }
+
+    /// Counts what came with so many bytes. For each 96 KB of it a block of as many is asked for and given
+    /// back at once, so that the allocator takes memory from the system by blocks and not page by page.
+    /// Where there is no such block, nothing is lost.
+    pub(crate) fn count(&mut self, bytes: usize) {
+        self.came = self.came.saturating_add(bytes).saturating_add(EACH);
+        if self.came >= AHEAD {
+            self.came = 0;
+            let _ = block(self.alloc);
+        }
     }
 
     /// Notes that a rank may have something to do.
