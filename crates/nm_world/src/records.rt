@@ -11,34 +11,34 @@ ghost use Rattle.nm_world.specs.Records.{AreToTell, counts_of, counts_to, ended_
 use crate::Actor;
 use nm_copyring::RingPort;
 use nm_port::Port;
-use nm_process::Process;
+use nm_process::{Leavings, Process};
 use nm_report::{Accounts, PairCount, Pairs, RankAccount};
 use nm_types::{Line, Memory, Packet};
 use std::alloc::Global;
 
-/// The ports of the actors of a run, and what there is to tell of them.
+/// The ports of the actors of a run, what there is to tell of them, and what their processes kept beside
+/// that.
 #[derive(Drop)]
 pub(crate) struct Parts {
     pub ports: Vec<Port<Packet>>,
     pub rings: Vec<RingPort>,
     pub ranks: Accounts,
     pub pairs: Pairs,
+    pub left: Vec<Leavings>,
     pub done: bool,
 }
 
-// What became of a rank.
-fn account(process: Process, lines: &[Line]) -> RankAccount
+// What became of a rank, and what its process kept beside that.
+fn account(process: Process, lines: &[Line]) -> (RankAccount, Leavings)
     requires { length lines.now < MAX_LINES }
     ensures { (shape : Sizes) → IsAtWork shape lines.now process →
-        ends_of (result ∷ []) ≡ ended_of lines.now process ∷ [] }
+        ends_of (result.0 ∷ []) ≡ ended_of lines.now process ∷ [] }
 {
     let at = process.at();
     let waits = process.next_line(lines);
-    RankAccount {
-        at,
-        history: process.into_history(),
-        waits,
-    }
+    let (history, left) = process.into_parts();
+    let account = RankAccount { at, history, waits };
+    (account, left)
 }
 
 // The packets that a port sent to each of so many ranks, where there are some.
@@ -90,8 +90,9 @@ fn tell(parts: &mut Parts, actor: Actor, lines: &[Line], ranks: u8) -> Result<()
         ring,
         places: _,
     } = actor;
-    let account = account(process, lines);
+    let (account, left) = account(process, lines);
     parts.done = parts.done & account.waits.is_none();
+    add(&mut parts.left, left)?;
     add(&mut parts.ports, port)?;
     add(&mut parts.rings, ring)?;
     parts.ranks.push(account)?;
@@ -119,6 +120,7 @@ pub(crate) fn parts_of(
         rings: Vec::new(alloc),
         ranks: Accounts::new(alloc),
         pairs: Pairs::new(alloc),
+        left: Vec::new(alloc),
         done: true,
     };
     for actor in actors {

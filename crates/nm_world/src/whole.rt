@@ -29,21 +29,28 @@ use crate::rounds::{crews_for, round_in};
 use nm_copyring::{RingAccount, RingPort, Rings};
 use nm_outside::Gate;
 use nm_port::{Closed, Fabric, Port};
+use nm_process::Leavings;
 use nm_report::RunRecord;
 use nm_types::{Line, Memory, Packet, Script, Shape};
 use std::alloc::Global;
 use std::sync::Wait;
 use std::thread::Threads;
 
-/// What the closed fabric and the closed rings keep.
+/// What the closed fabric and the closed rings keep, and what the processes kept beside their histories,
+/// so that a program that ends at once lets none of it go piece by piece.
 pub struct Ways {
     pub cells: Closed<Packet>,
     pub rings: RingAccount,
+    left: Vec<Leavings>,
 }
 
 impl Drop for Ways {
     fn drop(self) {
-        let Ways { cells: _, rings: _ } = self;
+        let Ways {
+            cells: _,
+            rings: _,
+            left: _,
+        } = self;
     }
 }
 
@@ -200,6 +207,7 @@ fn run_lines<R: Threads + Wait + Sync, G: Gate + Sync>(
         rings: ring_ports,
         ranks,
         pairs,
+        left,
         done,
     } = parts;
     // no step: the laws of the end of a run
@@ -220,6 +228,7 @@ fn run_lines<R: Threads + Wait + Sync, G: Gate + Sync>(
         Ways {
             cells: closed,
             rings,
+            left,
         },
     ))
 }
