@@ -408,7 +408,7 @@ impl Actor {
         Ok(true)
     }
 
-    // Takes pieces of each rank. It answers whether any was taken.
+    // Takes pieces of each rank, where one of any rank is due. It answers whether any was taken.
     fn pull_all<L: Ledger>(
         &mut self,
         f: &Fabric<Packet>,
@@ -424,6 +424,9 @@ impl Actor {
             (i : ℕ) → i < f.now.ranks → NoPiece self.old self.new i) }
         ensures bound { steps.new ≤ steps.old + f.now.ranks * 12 }
     {
+        if !self.process.rank().is_any_piece_due() {
+            return Ok(false);
+        }
         let mut moved = false;
         for sender in 0..f.ranks() {
             let one = self.pull_some(r, sender, steps)?;

@@ -8,6 +8,20 @@ use Rattle.nm_world.proofs.Loops.{spent_all, spent_last, spent_more}
 use Rattle.nm_world.proofs.actors.Actor.pull_all.Goals as goal
 use Rattle.nm_types.proofs.TruthLemmas.{neither}
 
+pub returns-then-not-is_any_piece_due : goal.returns-then-not-is_any_piece_due
+returns-then-not-is_any_piece_due g c =
+    let a = c.args.self.now in
+    let cells = c.requires.1.1.is.ranks.0 in
+    let ranks = c.requires.1.0 in
+    record {
+      moves = moves_none (record g.here { rings = c.args.r.now }) a c.requires.1.1;
+      none = λ none fresh i low due.
+          let past = (rw c.rank.ensures at c.is_any_piece_due.ensures.none)
+          (c.if-not-is_any_piece_due.true) i (omega (arith, low, ranks, cells)) in
+          absurd (omega (arith, past, due));
+      bound = omega arith;
+    }
+
 pub loop-sender-init : goal.loop-sender-init
 loop-sender-init g c = record {
   moves = moves_none (record g.here { rings = c.args.r.now }) c.args.self.now c.requires.1.1;
