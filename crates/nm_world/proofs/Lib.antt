@@ -34,3 +34,5 @@ mod Steps
 mod Leaves
 -- a whole turn
 mod Turn
+-- where the commands of each rank stand
+pub mod ByRank

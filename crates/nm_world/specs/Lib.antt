@@ -6,3 +6,4 @@ pub mod Rest
 pub mod Runs
 pub mod Sweeps
 pub mod Parcels
+pub mod ByRank

@@ -11,6 +11,7 @@ ghost use Rattle.nm_copyring.specs.declared.port.Rings.{Rings};
 ghost use Rattle.nm_copyring.specs.Ports as ring_port;
 ghost use Rattle.nm_rank.specs.Ranks.{IsFresh};
 ghost use Rattle.nm_process.specs.Lines.{AreLines};
+ghost use Rattle.nm_process.specs.Places.{ArePlaces};
 ghost use Rattle.nm_process.specs.Steps.{HasRun, goes_on};
 ghost use Rattle.nm_process.specs.Work.{IsAtWork};
 ghost use Rattle.nm_world.specs.Actors.{Grew, Continues, Environment, ActorInvariant, did, seat_of};
@@ -52,7 +53,8 @@ pub struct Actor {
 }
 
 impl Actor {
-    /// The actor of a port's rank at its first command of a script, in a run of these sizes.
+    /// The actor of a port's rank at its first command of a script, in a run of these sizes. It is given
+    /// the places of the rank's commands in the script.
     ///
     /// With ports as `Fabric::build` and `Rings::build` give them for one rank, it can make turns on
     /// these lines, if they are a script's of as many ranks.
@@ -61,9 +63,11 @@ impl Actor {
         shape: Shape,
         port: Port<Packet>,
         ring: RingPort,
+        own: Vec<u32>,
         lines: &[Line],
     ) -> Result<Actor, Memory>
         requires rank { port.rank < shape.ranks }
+        requires places { ArePlaces lines.now port.rank own.items }
         ensures stands { IfOk result (λ a. (f : Fabric Packet) (r : Rings) →
             AreLines shape.ranks lines.now → (f.ranks ≡ shape.ranks) × (r.ranks ≡ shape.ranks) →
             IsNew f port port.rank → ring_port.IsNew r ring port.rank →
@@ -73,7 +77,7 @@ impl Actor {
         ensures begins { IfOk result (λ a. (a.process.rank.me ≡ port.rank)
             × (a.process.rank.events ≡ []) × (a.process.at ≡ 0)) }
     {
-        let process = Process::new(alloc, shape, port.rank(), lines)?;
+        let process = Process::new(alloc, shape, port.rank(), own, lines)?;
         // no step: the law of a process at its start
         a_process_begins();
         Ok(Actor {

@@ -24,6 +24,7 @@
 
 mod actors;
 mod bells;
+mod by_rank;
 pub mod laws;
 mod places;
 mod records;
@@ -31,5 +32,6 @@ mod rounds;
 mod whole;
 
 pub use actors::Actor;
+pub use by_rank::places_by_rank;
 pub use rounds::round;
 pub use whole::{Ways, run};

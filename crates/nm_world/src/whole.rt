@@ -3,7 +3,7 @@
 ghost use Rattle.nm_types.specs.declared.packets.Packet.{Packet};
 ghost use Rattle.std.specs.Prelude.{◌≡◌, ◌<◌, ℕ, true, List, length};
 ghost use Rattle.std.specs.Prelude.{slice_get, Some, IfOk};
-ghost use Rattle.std.specs.List.{All};
+ghost use Rattle.std.specs.List.{All, AllZip};
 ghost use Rattle.nm_types.specs.Limits.{IsScript};
 ghost use Rattle.nm_types.specs.declared.scripts.Line.{Line};
 ghost use Rattle.nm_report.specs.Cells.{AllCellsFree};
@@ -15,6 +15,7 @@ ghost use Rattle.nm_copyring.specs.declared.port.RingPort.{RingPort};
 ghost use Rattle.nm_copyring.specs.declared.port.Rings.{Rings};
 ghost use Rattle.nm_copyring.specs.Ports as ring_port;
 ghost use Rattle.nm_process.specs.Lines.{AreLines};
+ghost use Rattle.nm_process.specs.Places.{ArePlaces};
 ghost use Rattle.nm_world.specs.Actors.{AllContinue, ActorInvariant, seat_of};
 ghost use Rattle.nm_world.specs.Rest.{EachActor};
 ghost use Rattle.nm_world.specs.declared.actors.Actor.{Actor};
@@ -23,6 +24,7 @@ ghost use Rattle.nm_world.specs.Runs.{IsStillAt, IsWhole, NewInOrder, PairAgrees
 
 use crate::Actor;
 use crate::bells::Crews;
+use crate::by_rank::places_by_rank;
 use crate::laws::{a_still_actor_ends, actors_at_rest_make_a_run};
 use crate::records::{Parts, add, parts_of};
 use crate::rounds::{crews_for, round_in};
@@ -160,10 +162,13 @@ fn cast(
     shape: Shape,
     ports: Vec<Port<Packet>>,
     rings: Vec<RingPort>,
+    places: Vec<Vec<u32>>,
     lines: &[Line],
 ) -> Result<Vec<Actor>, Memory>
     requires ranks { All (λ p. p.rank < shape.ranks) ports.items }
     requires pairs { length rings.items ≡ length ports.items }
+    requires owns { length places.items ≡ length ports.items }
+    requires places { AllZip (λ p own. ArePlaces lines.now p.rank own.items) ports.items places.items }
     ensures place { IfOk result (λ v. (f : Fabric Packet) (r : Rings) →
         AreLines shape.ranks lines.now → (f.ranks ≡ shape.ranks) × (r.ranks ≡ shape.ranks) →
         NewInOrder f r 0 ports.items rings.items → InPlace shape lines.now f r 0 v.items) }
@@ -171,11 +176,15 @@ fn cast(
 {
     let mut actors = Vec::new(alloc);
     let mut rings = rings.into_iter();
+    let mut places = places.into_iter();
     for port in ports {
         let Some(ring) = rings.next() else {
             unreachable!()
         };
-        let actor = Actor::new(alloc, shape, port, ring, lines)?;
+        let Some(own) = places.next() else {
+            unreachable!()
+        };
+        let actor = Actor::new(alloc, shape, port, ring, own, lines)?;
         add(&mut actors, actor)?;
     }
     Ok(actors)
@@ -197,9 +206,11 @@ fn run_lines<R: Threads + Wait + Sync, G: Gate + Sync>(
     ensures account { IfOk result (λ x. x.0.cells ≡ x.1.cells.cells) }
     ensures done { IfOk result (λ x. x.0.done ≡ are_done (ends_of x.0.ranks)) }
 {
+    let ranks = shape.ranks();
+    let places = places_by_rank(alloc, ranks, lines)?;
     let (fabric, ports) = Fabric::<Packet>::build(alloc, shape)?;
     let (rings, ring_ports) = Rings::build(alloc, shape)?;
-    let mut actors = cast(alloc, shape, ports, ring_ports, lines)?;
+    let mut actors = cast(alloc, shape, ports, ring_ports, places, lines)?;
     settle_all(rt, &mut actors, lines, &fabric, &rings, gate)?;
     let parts = parts_of(alloc, actors, lines, fabric.ranks())?;
     let Parts {

@@ -4,8 +4,11 @@ ghost use Rattle.nm_copyring.specs.declared.port.RingPort.{RingPort};
 ghost use Rattle.nm_cells.specs.declared.port.Port.{Port};
 ghost use Rattle.nm_cells.specs.Ports.{IsNew};
 ghost use Rattle.nm_copyring.specs.Ports as ring_port;
+ghost use Rattle.nm_types.specs.Limits.{IsScript};
 ghost use Rattle.nm_process.specs.Lines.{AreLines};
+ghost use Rattle.nm_process.specs.Places.{ArePlaces};
 ghost use Rattle.nm_world.specs.Actors.{ActorInvariant};
+ghost use Rattle.nm_world.specs.ByRank.{AreByRank};
 
 use nm_chain::seats::Steps;
 use nm_copyring::{RingPort, Rings};
@@ -13,7 +16,7 @@ use nm_history::{Event, Happened, History};
 use nm_outside::OpenGate;
 use nm_port::{Fabric, Port};
 use nm_types::{Answer, Line, Memory, Packet, Script, Seen, Shape};
-use nm_world::Actor;
+use nm_world::{Actor, places_by_rank};
 use std::alloc::{AllocError, Global};
 use std::marker::Brand;
 use std::sync::ledger::{Blank, Ledger};
@@ -104,13 +107,15 @@ fn sender_at(
     r: &Rings,
     port: Port<Packet>,
     ring: RingPort,
+    own: Vec<u32>,
 ) -> Result<[bool; 3], Memory>
     requires lines { AreLines shape.ranks lines.now }
+    requires places { ArePlaces lines.now 0 own.items }
     requires ranks { (f.now.ranks ≡ shape.ranks) × (r.now.ranks ≡ shape.ranks) }
     requires two { shape.ranks ≡ 2 }
     requires new { IsNew f.now port 0 × ring_port.IsNew r.now ring 0 }
 {
-    let mut sender = Actor::new(alloc, shape, port, ring, lines)?;
+    let mut sender = Actor::new(alloc, shape, port, ring, own, lines)?;
     three_turns::<Brand>(&mut sender, lines, f, r, Blank::new(1))
 }
 
@@ -123,13 +128,15 @@ fn receiver_at(
     r: &Rings,
     port: Port<Packet>,
     ring: RingPort,
+    own: Vec<u32>,
 ) -> Result<bool, Memory>
     requires lines { AreLines shape.ranks lines.now }
+    requires places { ArePlaces lines.now 1 own.items }
     requires ranks { (f.now.ranks ≡ shape.ranks) × (r.now.ranks ≡ shape.ranks) }
     requires two { shape.ranks ≡ 2 }
     requires new { IsNew f.now port 1 × ring_port.IsNew r.now ring 1 }
 {
-    let mut receiver = Actor::new(alloc, shape, port, ring, lines)?;
+    let mut receiver = Actor::new(alloc, shape, port, ring, own, lines)?;
     one_turn::<Brand>(&mut receiver, lines, f, r, Blank::new(1))
 }
 
@@ -142,19 +149,23 @@ fn turns_at(
     r: &Rings,
     ports: Vec<Port<Packet>>,
     rings: Vec<RingPort>,
+    places: Vec<Vec<u32>>,
 ) -> Result<Turns, Memory>
     requires lines { AreLines shape.ranks lines.now }
     requires ranks { (f.now.ranks ≡ shape.ranks) × (r.now.ranks ≡ shape.ranks) }
     requires two { shape.ranks ≡ 2 }
-    requires count { (length ports.items ≡ 2) × (length rings.items ≡ 2) }
+    requires count { (length ports.items ≡ 2) × (length rings.items ≡ 2)
+        × (length places.items ≡ 2) }
+    requires places { AreByRank lines.now places.items }
     requires ports { (k : ℕ) (p : Port Packet) → slice_get ports.items k ≡ Some p → IsNew f.now p k }
     requires rings { (k : ℕ) (p : RingPort) →
         slice_get rings.items k ≡ Some p → ring_port.IsNew r.now p k }
 {
     let (port, other_port) = both(ports);
     let (ring, other_ring) = both(rings);
-    let sent = sender_at(alloc, shape, lines, f, r, port, ring);
-    let seen = receiver_at(alloc, shape, lines, f, r, other_port, other_ring);
+    let (own, other_own) = both(places);
+    let sent = sender_at(alloc, shape, lines, f, r, port, ring, own);
+    let seen = receiver_at(alloc, shape, lines, f, r, other_port, other_ring, other_own);
     Ok(Turns {
         sent: sent?,
         seen: seen?,
@@ -168,24 +179,28 @@ fn turns_in(
     lines: &[Line],
     f: &Fabric<Packet>,
     ports: Vec<Port<Packet>>,
+    places: Vec<Vec<u32>>,
 ) -> Result<Turns, Memory>
     requires lines { AreLines shape.ranks lines.now }
     requires ranks { f.now.ranks ≡ shape.ranks }
     requires two { shape.ranks ≡ 2 }
-    requires count { length ports.items ≡ 2 }
+    requires count { (length ports.items ≡ 2) × (length places.items ≡ 2) }
+    requires places { AreByRank lines.now places.items }
     requires ports { (k : ℕ) (p : Port Packet) → slice_get ports.items k ≡ Some p → IsNew f.now p k }
 {
     let (rings, ring_ports) = Rings::build(alloc, shape)?;
-    turns_at(alloc, shape, lines, f, &rings, ports, ring_ports)
+    turns_at(alloc, shape, lines, f, &rings, ports, ring_ports, places)
 }
 
 // The turns of two ranks with 64 cells each, and an eager limit of 1,024 bytes.
 fn turns_of(alloc: Global, lines: &[Line]) -> Result<Turns, Memory>
-    requires { AreLines 2 lines.now }
+    requires lines { AreLines 2 lines.now }
+    requires script { IsScript 2 lines.now }
 {
     let shape = Shape::new(2, 64, 1024).unwrap();
+    let places = places_by_rank(alloc, 2, lines)?;
     let (fabric, ports) = Fabric::<Packet>::build(alloc, shape)?;
-    turns_in(alloc, shape, lines, &fabric, ports)
+    turns_in(alloc, shape, lines, &fabric, ports, places)
 }
 
 // A text of 65 sends of rank 0, and one probe of rank 1 for the last of them.

@@ -19,6 +19,9 @@ use Rattle.nm_report.specs.Ends.{ends_of, packets_of}
 use Rattle.nm_world.specs.Runs.{AreCarried}
 use Rattle.nm_world.proofs.Accounts.{to_tell, told_run}
 use Rattle.nm_world.proofs.AtRest.{all_taken_of, carried_of, closed_many, each_ends}
+use Rattle.nm_types.specs.Limits.{IsScript}
+use Rattle.nm_process.specs.Places.{ArePlaces}
+use Rattle.nm_world.proofs.ByRank.{at_rank, of_ports}
 use Rattle.nm_world.proofs.Counted.{carried_counts}
 use Rattle.nm_world.proofs.Runs.{in_place_at, in_place_kept, in_place_stands, kept_many}
 use Rattle.nm_world.proofs.Runs.{placed_new}
@@ -26,19 +29,33 @@ use Rattle.nm_world.proofs.whole.run_lines.Goals as goal
 use Rattle.nm_types.proofs.ListLemmas.{get_from_map}
 use Rattle.nm_types.specs.declared.packets.Packet.{Packet}
 
+-- the places of the commands of each rank
+pub places_by_rank-requires-clause-script : goal.places_by_rank-requires-clause-script
+places_by_rank-requires-clause-script g c =
+    subst (λ (n : ℕ). IsScript n c.args.lines.now) (sym c.ranks-ranks.ensures.value) c.requires.script
+
 -- the actors at the start, and at the end
 pub cast-requires : goal.cast-requires
 cast-requires g c =
     let fabric = c.in_ok-fabric.ensures in
     let ranks = fabric.fabric.0 in
     let many = fabric.fabric.2 in
+    let owned = c.in_ok-places.ensures.many ∙ c.ranks-ranks.ensures.value ∙ sym many in
     record {
       ranks = λ k d low.
           let ports = c.in_ok-fabric.ports.items in
           let own = (fabric.ports k (get_or ports k d) (slice_get-get_or ports k d low)).1 in
           omega (arith, own, low, ranks, many);
       pairs = c.in_ok-rings.ensures.rings.1 ∙ sym many;
+      owns = owned;
+      places = of_ports c.args.lines.now 0 c.in_ok-fabric.ports.items c.in_ok-places.places.items owned
+          (λ k p at. (fabric.ports k p at).1 ∙ begins k)
+          (λ k own at. subst (λ (n : ℕ). ArePlaces c.args.lines.now n own.items) (begins k)
+          (at_rank c.args.lines.now c.in_ok-places.places.items k own c.in_ok-places.ensures.places at));
     }
+  where
+    begins : (k : ℕ) → k ≡ 0 + k
+    begins k = omega arith
 
 pub settle_all-requires-clause-stands : goal.settle_all-requires-clause-stands
 settle_all-requires-clause-stands g c lifetimes outlive =

@@ -1,0 +1,44 @@
+//! Where the commands of each rank stand in a script.
+
+ghost use Rattle.std.specs.Prelude.{◌≡◌, ◌<◌, [], IfOk, OnOk, length};
+ghost use Rattle.nm_types.specs.Limits.{IsScript};
+ghost use Rattle.nm_world.specs.ByRank.{AreByRank, Notes};
+
+use crate::records::add;
+use nm_types::{Line, Memory};
+use std::alloc::Global;
+
+// For each rank a list without a place.
+fn no_places(alloc: Global, ranks: u8) -> Result<Vec<Vec<u32>>, Memory>
+    ensures places { IfOk result (λ all. AreByRank [] all.items) }
+    ensures many { IfOk result (λ all. length all.items ≡ ranks) }
+{
+    let mut all = Vec::new(alloc);
+    for _ in 0..ranks {
+        add(&mut all, Vec::new(alloc))?;
+    }
+    Ok(all)
+}
+
+// Puts a place behind those of its rank.
+fn note(all: &mut Vec<Vec<u32>>, rank: u8, place: u32) -> Result<(), Memory>
+    requires { rank < length all.old.items }
+    ensures { OnOk result (Notes rank place all.old.items all.new.items) }
+{
+    all[rank as usize].push(place)?;
+    Ok(())
+}
+
+/// By rank, where the commands of each of so many ranks stand in a script, in order. The script is gone
+/// through once for all of them.
+pub fn places_by_rank(alloc: Global, ranks: u8, lines: &[Line]) -> Result<Vec<Vec<u32>>, Memory>
+    requires script { IsScript ranks lines.now }
+    ensures places { IfOk result (λ all. AreByRank lines.now all.items) }
+    ensures many { IfOk result (λ all. length all.items ≡ ranks) }
+{
+    let mut all = no_places(alloc, ranks)?;
+    for (place, line) in lines.iter().enumerate() {
+        note(&mut all, line.rank, place as u32)?;
+    }
+    Ok(all)
+}
