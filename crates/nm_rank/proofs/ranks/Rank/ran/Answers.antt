@@ -1,4 +1,4 @@
-use Rattle.std.proofs.Common.{refl, arith}
+use Rattle.std.proofs.Common.{ℕ, ◌+◌, ◌≤◌, refl, subst, arith}
 use Rattle.nm_rank.proofs.LeaveLemmas.{fields-ran}
 use Rattle.nm_rank.proofs.RoomLemmas.{fields-room}
 use Rattle.nm_rank.proofs.ranks.Rank.ran.Goals as goal
@@ -17,4 +17,5 @@ invariant_of-self-2 c =
     (record { requests = refl; room = omega arith }) c.self.invariant in
     fields-ran a.me a.shape c.reserve.new.self c.add.new.self a.sending a.receiving _ a.requests a.took.items
     a.pulled.items c.args.line c.args.answer roomy c.add.ensures.events c.add.ensures.clock c.add.ensures.room
-    c.in_ok-reserve.ensures.ok c.sides_stay.ensures.sent c.sides_stay.ensures.received
+    (subst (λ (n : ℕ). n + 2 ≤ c.reserve.new.self.spare) c.staying.ensures c.in_ok-reserve.ensures.ok)
+    c.sides_stay.ensures.sent c.sides_stay.ensures.received
