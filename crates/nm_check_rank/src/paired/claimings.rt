@@ -6,6 +6,7 @@ ghost use Rattle.nm_types.specs.Commands.{commands_of};
 ghost use Rattle.nm_history.specs.declared.events.Event as event;
 ghost use Rattle.nm_history.specs.declared.events.Happened.TheVariants.{Claim};
 ghost use Rattle.nm_history.specs.RankRun.{claims_since};
+ghost use Rattle.nm_match.specs.Names.{id_of_arrival};
 ghost use Rattle.nm_lookups.specs.Pairings.{Tells};
 ghost use Rattle.nm_check_rank.specs.Claimings as spec;
 ghost use Rattle.nm_check_rank.specs.Tabled.{AreRankTables};
@@ -22,7 +23,7 @@ use nm_types::{Arrival, Line};
 
 /// The message that was found, where a matched probe found it.
 fn message_probed(mprobe: bool, found: Option<Arrival>) -> Option<Message>
-    ensures { result ≡ (if mprobe then option_map spec.named found else None) }
+    ensures { result ≡ (if mprobe then option_map id_of_arrival found else None) }
 {
     if !mprobe {
         return None;
