@@ -3,7 +3,7 @@ use Rattle.std.specs.Prelude.{IsSomeAnd}
 use Rattle.std.proofs.Common.{◌≡◌, ◌≢◌, ℕ, ◌<◌, Bool, true, false, cond, nat_eq, Option, Some, None, List, ◌++◌}
 use Rattle.std.proofs.Common.{length, get_or, refl, sym, ◌∙◌, ap, subst, ◌⊎◌, inl, inr, arith}
 use Rattle.std.specs.List.{All, IsDistinct}
-use Rattle.std.specs.Map.{keys_of}
+use Rattle.std.specs.Map.{keys_of, lookup}
 use Rattle.std.specs.Option.{option_map}
 use Rattle.std.proofs.lemmas.Bool.{cases_eq, true≢false}
 use Rattle.std.proofs.lemmas.Option.{same_Some}
@@ -30,14 +30,37 @@ use Rattle.nm_receiving.proofs.Grants.{all_set, grant_set, open_still, self}
 use Rattle.nm_receiving.proofs.Lists.{row-other, row-same}
 use Rattle.nm_receiving.proofs.Tables.{bytes_along}
 use Rattle.nm_receiving.proofs.TablesMark.{MayMark}
-use Rattle.std.proofs.Common.{nat_lt}
+use Rattle.std.proofs.Common.{nat_lt, slice_get}
 use Rattle.std.specs.List.{position_or_len}
 use Rattle.std.proofs.lemmas.Bool.Decides.{nat_tests}
 use Rattle.nm_rndv.specs.Grants.{expected_in, is_unfinished}
-use Rattle.nm_rndv.proofs.GrantLemmas.{expected_is_open}
+use Rattle.nm_rndv.proofs.GrantLemmas.{expected_in-none, expected_in-some, open_there}
 use Rattle.nm_rndv.proofs.StateLemmas.{equal}
 use Rattle.nm_types.proofs.OptionLemmas.{some_and}
 use Rattle.nm_types.proofs.NumberLemmas.{nat_unequal as differs}
+
+module _ (es : List (ℕ × Granted)) (i : ℕ) (first : i ≡ position_or_len is_unfinished es) where
+  -- an expected message has an unfinished grant
+  expected_is_open : IsDistinct nat_eq (keys_of es) → (n : ℕ) →
+      option_map (λ at. at.0) (expected_in es) ≡ Some n →
+      (g : Granted) × (lookup (nat_eq n) es ≡ Some g) × (is_open g ≡ true)
+  expected_is_open distinct n h = by (slice_get es i) refl
+    where
+      by : (o : Option (ℕ × Granted)) → slice_get es i ≡ o →
+          (g : Granted) × (lookup (nat_eq n) es ≡ Some g) × (is_open g ≡ true)
+      by None at =
+          let none : Some n ≡ None =
+          sym h ∙ ap (λ o. option_map (λ (e : ℕ × ℕ). e.0) o) (expected_in-none es i first at) in
+          absurd cc
+      by (Some e) at =
+          let named : Some e.0 ≡ Some n =
+          sym (ap (λ o. option_map (λ (e : ℕ × ℕ). e.0) o) (expected_in-some es i first e at)) ∙ h in
+          let is : e.0 ≡ n = cc in (
+            e.1,
+            subst (λ k. lookup (nat_eq k) es ≡ Some e.1) is
+                (lookup_from_place nat_eq_equiv es i e.0 e.1 distinct at),
+            open_there es i first e at,
+          )
 
 -- an open grant has bytes
 open_bytes : (g : Granted) → is_open g ≡ true → (bytes : List ℕ) × (g.bytes ≡ Some bytes) × (length bytes < g.len)
