@@ -30,9 +30,10 @@ use Rattle.nm_types.proofs.ListLemmas.{get_from_map}
 use Rattle.nm_types.specs.declared.packets.Packet.{Packet}
 
 -- the places of the commands of each rank
-pub places_by_rank-requires-clause-script : goal.places_by_rank-requires-clause-script
-places_by_rank-requires-clause-script g c =
-    subst (λ (n : ℕ). IsScript n c.args.lines.now) (sym c.ranks-ranks.ensures.value) c.requires.script
+pub places_by_rank-requires : goal.places_by_rank-requires
+places_by_rank-requires g c = record {
+  script = subst (λ (n : ℕ). IsScript n c.args.lines.now) (sym c.ranks-ranks.ensures.value) c.requires.script;
+}
 
 -- the actors at the start, and at the end
 pub cast-requires : goal.cast-requires
