@@ -312,6 +312,7 @@ impl Process {
         requires named { lookup (nat_eq q) self.old.names ≡ Some request }
         ensures some { IfSome result (Ends self.old self.new q) }
         ensures none { IfNone result (IsPending self.old q × (self.new ≡ self.old)) }
+        ensures places { self.new.own ≡ self.old.own }
     {
         match self.rank.finish(request) {
             Ok(answer) => {
