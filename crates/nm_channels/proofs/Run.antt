@@ -63,7 +63,7 @@ to_in_range ranks to line commands each sends = by_found (find (λ (c : Numbered
     below x y h = grind (arith, nat_tests)
 
     by_command : (c : Command) → is_in_range ranks c ≡ true → SendsTo to c → to < ranks
-    by_command (command.Send q to' tag ctx body sync) right sends = subst (λ (k : ℕ). k < ranks) sends
+    by_command (command.Send to' q tag ctx sync body) right sends = subst (λ (k : ℕ). k < ranks) sends
         (below to' ranks (and_right _ _ (and_left _ _ (and_left _ _ (and_left _ _ right)))))
     by_command c right sends = absurd sends
 

@@ -72,7 +72,7 @@ answer_here commands h line c source tag body pair answered asked = cc
 
 -- a command sends to this rank
 abbrev pub SendsTo : ℕ → Command → Type 0
-SendsTo to (command.Send q to' tag ctx body sync) = to' ≡ to
+SendsTo to (command.Send to' q tag ctx sync body) = to' ≡ to
 SendsTo to _ = ⊥
 
 -- a send has its command
@@ -123,8 +123,8 @@ no_start commands (w ∷ ws) same = cc
 started : (eager : ℕ) (commands : List Numbered) (before : List Event) (line : ℕ) (ws : List Happened) (c : Command) →
     command_at commands line ≡ Some c → map without_number ws ≡ start_of eager commands before line c →
     AllByRecursion (IsCommanded commands) ws
-started eager commands before line ws (command.Send q to tag ctx body sync) at same =
-    one_start commands ws line to tag ctx _ _ (command.Send q to tag ctx body sync) at refl same
+started eager commands before line ws (command.Send to q tag ctx sync body) at same =
+    one_start commands ws line to tag ctx _ _ (command.Send to q tag ctx sync body) at refl same
 started eager commands before line ws (command.Recv q from tag ctx cap) at same = other_start commands ws _ refl same
 started eager commands before line ws (command.Mrecv q m cap) at same = by_message (live_message commands before m)
     same where

@@ -20,12 +20,12 @@ abbrev pub script : List Line
 script =
     rank_line 0 (command.Recv 0 (peer.One 1) (pick.One 9) 0 0)
     ∷ rank_line 0 (command.Wait 0)
-    ∷ rank_line 0 (command.Send 1 1 7 0 (Hex (171 ∷ [])) false)
+    ∷ rank_line 0 (command.Send 1 1 7 0 false (Hex (171 ∷ [])))
     ∷ rank_line 0 (command.Wait 1)
     ∷ rank_line 1 (command.Recv 0 (peer.One 0) (pick.One 7) 0 4)
     ∷ rank_line 1 (command.Cancel 0)
     ∷ rank_line 1 (command.Wait 0)
-    ∷ rank_line 1 (command.Send 1 0 9 0 (Hex []) false)
+    ∷ rank_line 1 (command.Send 0 1 9 0 false (Hex []))
     ∷ rank_line 1 (command.Wait 1)
     ∷ rank_line 1 (command.Recv 2 (peer.One 0) (pick.One 7) 0 4)
     ∷ rank_line 1 (command.Wait 2) ∷ []

@@ -18,7 +18,7 @@ use Rattle.nm_channels.specs.SmallLogs.{run_on, packet, acts, takes}
 -- the script
 abbrev pub script : List Line
 script =
-    rank_line 0 (command.Send 0 1 0 0 (Hex (1 ∷ [])) false)
+    rank_line 0 (command.Send 1 0 0 0 false (Hex (1 ∷ [])))
     ∷ rank_line 0 (command.Cancel 0)
     ∷ rank_line 0 (command.Wait 0) ∷ []
 

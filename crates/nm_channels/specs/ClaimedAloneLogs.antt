@@ -19,7 +19,7 @@ use Rattle.nm_channels.specs.SmallLogs.{run_on, packet, acts, takes}
 -- the script
 abbrev pub script : List Line
 script =
-    rank_line 0 (command.Send 0 1 0 0 (Hex (7 ∷ [])) true)
+    rank_line 0 (command.Send 1 0 0 0 true (Hex (7 ∷ [])))
     ∷ rank_line 0 (command.Wait 0)
     ∷ rank_line 1 (command.Mprobe 3 peer.Any pick.Any 0) ∷ []
 

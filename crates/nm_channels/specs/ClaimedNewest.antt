@@ -17,8 +17,8 @@ use Rattle.nm_channels.specs.Small.{run_on}
 -- the script
 abbrev pub script : List Line
 script =
-    rank_line 0 (command.Send 0 0 4 0 (Hex (10 ∷ [])) false)
-    ∷ rank_line 0 (command.Send 1 0 4 0 (Hex (11 ∷ [])) false)
+    rank_line 0 (command.Send 0 0 4 0 false (Hex (10 ∷ [])))
+    ∷ rank_line 0 (command.Send 0 1 4 0 false (Hex (11 ∷ [])))
     ∷ rank_line 0 (command.Mprobe 3 peer.Any pick.Any 0) ∷ []
 
 -- the first rank

@@ -19,7 +19,7 @@ use Rattle.nm_channels.specs.Small.{run_on}
 -- the script
 abbrev pub script : List Line
 script =
-    rank_line 0 (command.Send 0 0 2 0 (Hex (5 ∷ [])) false)
+    rank_line 0 (command.Send 0 0 2 0 false (Hex (5 ∷ [])))
     ∷ rank_line 0 (command.Await (peer.One 0) (pick.One 2) 0)
     ∷ rank_line 0 (command.Recv 1 (peer.One 0) (pick.One 2) 0 1)
     ∷ rank_line 0 (command.Cancel 1)

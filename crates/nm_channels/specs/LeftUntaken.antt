@@ -16,7 +16,7 @@ use Rattle.nm_history.specs.Happens.{at}
 -- the script
 abbrev pub script : List Line
 script =
-    rank_line 0 (command.Send 0 1 0 0 (Hex []) true)
+    rank_line 0 (command.Send 1 0 0 0 true (Hex []))
     ∷ rank_line 0 (command.Wait 0)
     ∷ rank_line 1 (command.Recv 0 (peer.One 0) (pick.One 0) 0 0)
     ∷ rank_line 1 (command.Wait 0) ∷ []

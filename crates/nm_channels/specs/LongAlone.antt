@@ -16,7 +16,7 @@ use Rattle.nm_channels.specs.Small.{run_on}
 -- the script
 abbrev pub script : List Line
 script =
-    rank_line 0 (command.Send 0 1 0 0 (Gen 1025) false)
+    rank_line 0 (command.Send 1 0 0 0 false (Gen 1025))
     ∷ rank_line 0 (command.Wait 0) ∷ []
 
 -- the first rank

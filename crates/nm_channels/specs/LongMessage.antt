@@ -26,7 +26,7 @@ body = 7 ∷ 38 ∷ 69 ∷ 100 ∷ 131 ∷ 162 ∷ 193 ∷ 224 ∷ 4 ∷ []
 -- the script
 abbrev pub script : List Line
 script =
-    rank_line 0 (command.Send 0 1 0 0 (Gen 9) false)
+    rank_line 0 (command.Send 1 0 0 0 false (Gen 9))
     ∷ rank_line 0 (command.Wait 0)
     ∷ rank_line 1 (command.Recv 0 peer.Any pick.Any 0 9)
     ∷ rank_line 1 (command.Wait 0) ∷ []

@@ -16,8 +16,8 @@ use Rattle.nm_history.specs.Happens.{at}
 -- the script
 abbrev pub script : List Line
 script =
-    rank_line 0 (command.Send 0 1 5 0 (Hex (0 ∷ [])) false)
-    ∷ rank_line 0 (command.Send 1 1 5 0 (Hex (1 ∷ [])) false)
+    rank_line 0 (command.Send 1 0 5 0 false (Hex (0 ∷ [])))
+    ∷ rank_line 0 (command.Send 1 1 5 0 false (Hex (1 ∷ [])))
     ∷ rank_line 0 (command.Wait 0)
     ∷ rank_line 0 (command.Wait 1)
     ∷ rank_line 1 (command.Recv 0 peer.Any (pick.One 5) 0 1)

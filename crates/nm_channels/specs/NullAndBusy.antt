@@ -19,8 +19,8 @@ use Rattle.nm_channels.specs.Small.{run_on}
 abbrev pub script : List Line
 script =
     rank_line 0 (command.Wait 9)
-    ∷ rank_line 0 (command.Send 0 1 7 0 (Hex (1 ∷ [])) false)
-    ∷ rank_line 0 (command.Send 0 1 7 0 (Hex (2 ∷ [])) false)
+    ∷ rank_line 0 (command.Send 1 0 7 0 false (Hex (1 ∷ [])))
+    ∷ rank_line 0 (command.Send 1 0 7 0 false (Hex (2 ∷ [])))
     ∷ rank_line 0 (command.Wait 0)
     ∷ rank_line 1 (command.Recv 0 (peer.One 0) (pick.One 7) 0 4)
     ∷ rank_line 1 (command.Wait 0)

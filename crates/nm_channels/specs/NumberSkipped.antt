@@ -15,8 +15,8 @@ use Rattle.nm_channels.specs.Small.{run_on}
 -- the script
 abbrev pub script : List Line
 script =
-    rank_line 0 (command.Send 0 1 7 0 (Hex (1 ∷ [])) false)
-    ∷ rank_line 0 (command.Send 1 1 7 0 (Hex (2 ∷ [])) false) ∷ []
+    rank_line 0 (command.Send 1 0 7 0 false (Hex (1 ∷ [])))
+    ∷ rank_line 0 (command.Send 1 1 7 0 false (Hex (2 ∷ []))) ∷ []
 
 -- the first rank
 abbrev pub first : List Event

@@ -18,8 +18,8 @@ use Rattle.nm_channels.specs.Small.{run_on}
 -- the script
 abbrev pub script : List Line
 script =
-    rank_line 0 (command.Send 0 1 5 0 (Hex (65 ∷ [])) false)
-    ∷ rank_line 0 (command.Send 1 1 5 0 (Hex (66 ∷ [])) false)
+    rank_line 0 (command.Send 1 0 5 0 false (Hex (65 ∷ [])))
+    ∷ rank_line 0 (command.Send 1 1 5 0 false (Hex (66 ∷ [])))
     ∷ rank_line 0 (command.Wait 0)
     ∷ rank_line 0 (command.Wait 1)
     ∷ rank_line 1 (command.Recv 0 peer.Any (pick.One 5) 0 1)

@@ -18,7 +18,7 @@ use Rattle.nm_channels.specs.Small.{run_on}
 -- the script
 abbrev pub script : List Line
 script =
-    rank_line 0 (command.Send 0 1 6 2 (Hex (190 ∷ 239 ∷ [])) false)
+    rank_line 0 (command.Send 1 0 6 2 false (Hex (190 ∷ 239 ∷ [])))
     ∷ rank_line 0 (command.Wait 0)
     ∷ rank_line 1 (command.Await peer.Any pick.Any 2)
     ∷ rank_line 1 (command.Probe (peer.One 0) (pick.One 6) 2)

@@ -17,7 +17,7 @@ use Rattle.nm_channels.specs.Small.{run_on}
 -- the script
 abbrev pub script : List Line
 script =
-    rank_line 0 (command.Send 0 0 4 0 (Hex (10 ∷ [])) false)
+    rank_line 0 (command.Send 0 0 4 0 false (Hex (10 ∷ [])))
     ∷ rank_line 0 (command.Mprobe 3 peer.Any pick.Any 0)
     ∷ rank_line 0 (command.Recv 1 (peer.One 0) (pick.One 4) 0 1)
     ∷ rank_line 0 (command.Wait 1) ∷ []

@@ -18,7 +18,7 @@ use Rattle.nm_channels.specs.Small.{run_on}
 -- the script
 abbrev pub script : List Line
 script =
-    rank_line 0 (command.Send 0 0 0 0 (Hex []) false)
+    rank_line 0 (command.Send 0 0 0 0 false (Hex []))
     ∷ rank_line 0 (command.Recv 1 (peer.One 0) (pick.One 0) 0 0)
     ∷ rank_line 0 (command.Wait 0)
     ∷ rank_line 0 (command.Wait 1) ∷ []

@@ -18,7 +18,7 @@ use Rattle.nm_channels.specs.Small.{run_on}
 -- the script
 abbrev pub script : List Line
 script =
-    rank_line 0 (command.Send 0 1 0 0 (Hex (5 ∷ [])) true)
+    rank_line 0 (command.Send 1 0 0 0 true (Hex (5 ∷ [])))
     ∷ rank_line 0 (command.Wait 0)
     ∷ rank_line 1 (command.Recv 0 peer.Any pick.Any 0 8)
     ∷ rank_line 1 (command.Wait 0) ∷ []

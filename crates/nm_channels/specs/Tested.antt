@@ -20,7 +20,7 @@ abbrev pub script : List Line
 script =
     rank_line 0 (command.Recv 0 (peer.One 0) (pick.One 3) 0 4)
     ∷ rank_line 0 (command.Test 0)
-    ∷ rank_line 0 (command.Send 1 0 3 0 (Gen 4) false)
+    ∷ rank_line 0 (command.Send 0 1 3 0 false (Gen 4))
     ∷ rank_line 0 (command.Wait 0)
     ∷ rank_line 0 (command.Test 0)
     ∷ rank_line 0 (command.Wait 1) ∷ []

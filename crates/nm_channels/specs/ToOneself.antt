@@ -21,7 +21,7 @@ use Rattle.nm_channels.specs.SmallLogs.{run_on, packet, piece, acts, takes, draw
 abbrev pub script : List Line
 script =
     rank_line 0 (command.Recv 1 (peer.One 0) (pick.One 0) 0 1)
-    ∷ rank_line 0 (command.Send 0 0 0 0 (Hex (7 ∷ [])) true)
+    ∷ rank_line 0 (command.Send 0 0 0 0 true (Hex (7 ∷ [])))
     ∷ rank_line 0 (command.Wait 0)
     ∷ rank_line 0 (command.Wait 1) ∷ []
 

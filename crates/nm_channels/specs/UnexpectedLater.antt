@@ -18,8 +18,8 @@ use Rattle.nm_channels.specs.Small.{run_on}
 -- the script
 abbrev pub script : List Line
 script =
-    rank_line 0 (command.Send 0 1 1 0 (Hex (161 ∷ [])) false)
-    ∷ rank_line 0 (command.Send 1 1 2 0 (Hex (162 ∷ [])) false)
+    rank_line 0 (command.Send 1 0 1 0 false (Hex (161 ∷ [])))
+    ∷ rank_line 0 (command.Send 1 1 2 0 false (Hex (162 ∷ [])))
     ∷ rank_line 0 (command.Wait 0)
     ∷ rank_line 0 (command.Wait 1)
     ∷ rank_line 1 (command.Recv 0 (peer.One 0) (pick.One 2) 0 8)

@@ -16,7 +16,7 @@ use Rattle.nm_history.specs.Happens.{at}
 -- the script
 abbrev pub script : List Line
 script =
-    rank_line 0 (command.Send 0 1 7 0 (Hex (104 ∷ [])) false)
+    rank_line 0 (command.Send 1 0 7 0 false (Hex (104 ∷ [])))
     ∷ rank_line 0 (command.Wait 0)
     ∷ rank_line 1 (command.Recv 0 (peer.One 0) (pick.One 7) 0 16)
     ∷ rank_line 1 (command.Wait 0) ∷ []

@@ -18,7 +18,7 @@ use Rattle.nm_channels.specs.Small.{run_on}
 -- the script
 abbrev pub script : List Line
 script =
-    rank_line 0 (command.Send 0 0 4 0 (Hex (10 ∷ [])) true)
+    rank_line 0 (command.Send 0 0 4 0 true (Hex (10 ∷ [])))
     ∷ rank_line 0 (command.Await (peer.One 0) (pick.One 4) 0)
     ∷ rank_line 0 (command.Mprobe 0 (peer.One 0) (pick.One 4) 0)
     ∷ rank_line 0 (command.Cancel 0)

@@ -13,7 +13,7 @@ use Rattle.nm_history.specs.Happens.{at}
 
 -- the script
 abbrev pub script : List Line
-script = rank_line 0 (command.Send 0 1 7 0 (Hex (1 ∷ [])) false) ∷ []
+script = rank_line 0 (command.Send 1 0 7 0 false (Hex (1 ∷ []))) ∷ []
 
 -- the first rank
 abbrev pub first : List Event

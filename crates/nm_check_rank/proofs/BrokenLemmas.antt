@@ -191,7 +191,7 @@ limit_kept limit len true false none = absurd (not_none _ none)
 limit_kept limit len false true none = absurd (not_none _ none)
 
 how_kept : (limit q to tag ctx : ℕ) (body : Body) (sync : Bool) (how : How) →
-    sent_due limit how (command.Send q to tag ctx body sync) ≡ None → how ≡ how_of limit sync (body_len body)
+    sent_due limit how (command.Send to q tag ctx sync body) ≡ None → how ≡ how_of limit sync (body_len body)
 how_kept limit q to tag ctx body true Ask none = refl
 how_kept limit q to tag ctx body true Eager none = absurd (not_none _ none)
 how_kept limit q to tag ctx body false how none =
@@ -260,13 +260,13 @@ module _ (limit : ℕ) (commands : List Numbered) (before : List Event) (line : 
   -- one start with these arguments that is sent as it is to be
   start_kept : (c : Command) (w v : Happened) → start_of limit commands before line c ≡ w ∷ [] → is_start v ≡ true →
       arguments w ≡ arguments v → one_due limit c v ≡ None → without_number v ≡ w
-  start_kept (command.Send q to tag ctx body sync) w v is kind same none =
+  start_kept (command.Send to q tag ctx sync body) w v is kind same none =
       let len = body_len body in
       let how = how_of limit sync len in
       let called : what.Send to 0 tag ctx len how line ≡ w = same_head is in
       let found = send_same to tag ctx len line how v (ap arguments called ∙ same) in
       let sent : found.1 ≡ how = how_kept limit q to tag ctx body sync found.1
-      (sym (ap (λ (x : Happened). one_due limit (command.Send q to tag ctx body sync) x) found.2) ∙ none) in
+      (sym (ap (λ (x : Happened). one_due limit (command.Send to q tag ctx sync body) x) found.2) ∙ none) in
       ap without_number found.2 ∙ (λ i. what.Send to 0 tag ctx len (sent i) line) ∙ called
   start_kept (command.Recv q from tag ctx cap) w v is kind same none =
       let p : Post = record { number = 0; from = from; tag = tag; ctx = ctx; cap = cap } in

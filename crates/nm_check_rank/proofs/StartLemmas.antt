@@ -39,7 +39,7 @@ one_at_most (Some m) cap line = omega arith
 
 few_started : (eager : ℕ) (commands : List Numbered) (before : List Event) (line : ℕ) (c : Command) →
     length (start_of eager commands before line c) ≤ 1
-few_started eager commands before line (command.Send q to tag ctx body sync) = omega arith
+few_started eager commands before line (command.Send to q tag ctx sync body) = omega arith
 few_started eager commands before line (command.Recv q from tag ctx cap) = omega arith
 few_started eager commands before line (command.Mrecv q m cap) = one_at_most (live_message commands before m) cap line
 few_started eager commands before line (command.Wait q) = omega arith

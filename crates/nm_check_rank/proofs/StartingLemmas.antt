@@ -98,10 +98,10 @@ received_of l o cap line w held is =
 -- no other command starts something
 module _ (limit : ℕ) (commands : List Numbered) (before : List Event) (line : ℕ) where
   pub starts_nothing : (c : Command) →
-      ((q to tag ctx : ℕ) (body : Body) (sync : Bool) → c ≡ command.Send q to tag ctx body sync → ⊥) →
+      ((to q tag ctx : ℕ) (sync : Bool) (body : Body) → c ≡ command.Send to q tag ctx sync body → ⊥) →
       ((q : ℕ) (from : Peer) (tag : TagPick) (ctx cap : ℕ) → c ≡ command.Recv q from tag ctx cap → ⊥) →
       ((q m cap : ℕ) → c ≡ command.Mrecv q m cap → ⊥) → start_of limit commands before line c ≡ []
-  starts_nothing (command.Send q to tag ctx body sync) s r m = absurd (s q to tag ctx body sync refl)
+  starts_nothing (command.Send to q tag ctx sync body) s r m = absurd (s to q tag ctx sync body refl)
   starts_nothing (command.Recv q from tag ctx cap) s r m = absurd (r q from tag ctx cap refl)
   starts_nothing (command.Mrecv q h cap) s r m = absurd (m q h cap refl)
   starts_nothing c s r m = refl

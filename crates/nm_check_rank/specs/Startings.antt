@@ -30,9 +30,9 @@ limit_due limit len called asks = Some (due.Eager limit len asks)
 
 -- a synchronous send is to ask, and a standard one exactly where it is longer than the eager limit
 abbrev pub sent_due : ℕ → How → Command → Option Due
-sent_due limit how (command.Send q to tag ctx body true) =
+sent_due limit how (command.Send to q tag ctx true body) =
     if is_ask how then None else Some (due.Against against.Asking)
-sent_due limit how (command.Send q to tag ctx body false) =
+sent_due limit how (command.Send to q tag ctx false body) =
     limit_due limit (body_len body) (nat_lt limit (body_len body)) (is_ask how)
 sent_due limit how c = None
 

@@ -62,7 +62,7 @@ home_is run shape shaped home =
 -- a flood is plain
 pub flood_is_plain : (key ranks messages : ℕ) →
     ((key ranks messages : ℕ) (test : Command → Bool) →
-    ((q to tag ctx : ℕ) (body : Body) (sync : Bool) → test (Send q to tag ctx body sync) ≡ true) →
+    ((q to tag ctx : ℕ) (body : Body) (sync : Bool) → test (Send to q tag ctx sync body) ≡ true) →
     ((q from tag ctx cap : ℕ) → test (Recv q (peer.One from) (pick.One tag) ctx cap) ≡ true) →
     ((q : ℕ) → test (Wait q) ≡ true) →
     IsTrue (list_all (λ line. test line.command) (flood_lines key ranks messages))) →

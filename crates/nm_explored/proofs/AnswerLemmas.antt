@@ -392,8 +392,8 @@ module _ (shape : Sizes) (lines : List Line) (log : List Step) (v : ℕ → Opti
   no_starts false starts = nothing_mapped (starts_since h) starts
 
   pub answered : (line : ℕ) (c : Command) (a : Answer) → Rules line c a → Answered line c a
-  answered line (command.Send q to tag ctx body sync) a rules =
-      by_reply line (command.Send q to tag ctx body sync) a
+  answered line (command.Send to q tag ctx sync body) a rules =
+      by_reply line (command.Send to q tag ctx sync body) a
       (started q a _ rules.may rules.starts rules.cancels rules.claims)
   answered line (command.Recv q from tag ctx cap) a rules =
       by_reply line (command.Recv q from tag ctx cap) a

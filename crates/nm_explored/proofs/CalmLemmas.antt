@@ -84,7 +84,7 @@ module _ (eager : ℕ) (lines : List Line) (v : ℕ → Option Spot) (i : ℕ) (
   calm_as e same calm = subst (λ (z : Deed). is_cancelling_by z ≡ false) (same_some e d same) calm
 
   calm_start : (c : Command) → not (is_canceller c) ≡ true → start_in eager lines i x line c ≡ Some d → IsCalm
-  calm_start (command.Send q to tag ctx body sync) other starts = calm_as _ starts refl
+  calm_start (command.Send to q tag ctx sync body) other starts = calm_as _ starts refl
   calm_start (command.Recv q from tag ctx cap) other starts = calm_as _ starts refl
   calm_start (command.Mrecv q m cap) other starts = by_message (message_in lines i x.deeds m) starts
     where

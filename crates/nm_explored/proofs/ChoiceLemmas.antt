@@ -83,7 +83,7 @@ last_of_five false b c d e is = absurd (false≢true is)
 
 -- what a command in range sends is short
 pub sends_short : (ranks : ℕ) (c : Command) → is_in_range ranks c ≡ true → sent_len c < 2 ^ 32
-sends_short ranks (command.Send q to tag ctx body sync) fine =
+sends_short ranks (command.Send to q tag ctx sync body) fine =
     let x : body_len body ≤ MAX_BODY = le_true (body_len body) MAX_BODY
     (last_of_five (nat_le q MAX_NAME) (nat_lt to ranks) (nat_le tag MAX_TAG) (nat_le ctx MAX_CONTEXT)
     (nat_le (body_len body) MAX_BODY) fine) in
@@ -183,7 +183,7 @@ module _ (shape : Sizes) (lines : List Line) (log : List Step) (v : ℕ → Opti
       by_command : (c : Command) → due.command.command ≡ c →
           event.Send to 0 tag ctx len how line ∷ [] ≡ start_of shape.eager mine h due.command.line c →
           Chosen stamp (event.Send to n tag ctx len how line)
-      by_command (command.Send q to' tag' ctx' body sync) is start =
+      by_command (command.Send to' q tag' ctx' sync body) is start =
           let a : to ≡ to' = cc in
           let b : tag ≡ tag' = cc in
           let x : ctx ≡ ctx' = cc in
@@ -241,7 +241,7 @@ module _ (shape : Sizes) (lines : List Line) (log : List Step) (v : ℕ → Opti
           (begins due.command due.next due.command.line (deed.Post r due.command.line)
           (ap (λ (c : Command). start_in shape.eager lines i spot due.command.line c) is)
           (start_free lines h spot at.is due.first))
-      by_command (command.Send q to tag ctx body sync) is start = absurd (grind arith)
+      by_command (command.Send to q tag ctx sync body) is start = absurd (grind arith)
       by_command (command.Mrecv q m cap) is start = absurd (by_message (live_message mine h m) start)
         where
           by_message : (o : Option Message) → event.Post (record p { number = 0 }) line ∷ []
@@ -322,7 +322,7 @@ module _ (shape : Sizes) (lines : List Line) (log : List Step) (v : ℕ → Opti
           (first_said lines h spot at.is peer tag ctx)
           ∙ by_found peer tag ctx (first_message h (matched_pairs h) peer tag ctx) refl same)
           (claim_free lines h spot at.is first))
-      by_command (command.Send q to tag ctx body sync) is same = absurd (grind arith)
+      by_command (command.Send to q tag ctx sync body) is same = absurd (grind arith)
       by_command (command.Recv q peer tag ctx cap) is same = absurd (grind arith)
       by_command (command.Wait q) is same = absurd (grind arith)
       by_command (command.Test q) is same = absurd (grind arith)

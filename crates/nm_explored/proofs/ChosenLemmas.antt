@@ -82,7 +82,7 @@ module _ (eager ranks : ℕ) (lines : List Line) (v w : ℕ → Option Spot) (se
     }
       where
         by_command : (c : Command) → IsSettledBy v lines i x is.line c → IsSettledBy w lines i y is.line c
-        by_command (command.Send q to tag ctx body sync) settled = tt
+        by_command (command.Send to q tag ctx sync body) settled = tt
         by_command (command.Wait q) settled = (settled.0, wait_kept v w seen i lines x y later q settled.0 settled.1)
         by_command (command.Recv q from tag ctx cap) settled = settled
         by_command (command.Test q) settled = absurd settled
@@ -100,11 +100,11 @@ module _ (eager ranks : ℕ) (lines : List Line) (v w : ℕ → Option Spot) (se
       plain_as e plain same = subst (λ (z : Deed). IsBehind x z) same (λ a new. arrive_behind x a e plain)
 
       send_before : (q to tag ctx : ℕ) (body : Body) (sync : Bool) →
-          IsDeedOf eager lines w i y is.line (command.Send q to tag ctx body sync) d →
-          IsBefore (command.Send q to tag ctx body sync)
+          IsDeedOf eager lines w i y is.line (command.Send to q tag ctx sync body) d →
+          IsBefore (command.Send to q tag ctx sync body)
       send_before q to tag ctx body sync does = (
         subst (λ (ds : List Deed). IsDeedOf eager lines v i (record y { deeds = ds }) is.line
-            (command.Send q to tag ctx body sync) d) later.deeds does,
+            (command.Send to q tag ctx sync body) d) later.deeds does,
         by_kind does,
       )
         where
@@ -118,11 +118,11 @@ module _ (eager ranks : ℕ) (lines : List Line) (v w : ℕ → Option Spot) (se
           by_held e true begins plain = plain_as e plain (same_some e d begins)
           by_held e false begins plain = absurd (no_some d begins)
 
-          by_kind : IsDeedOf eager lines w i y is.line (command.Send q to tag ctx body sync) d → IsBehind x d
+          by_kind : IsDeedOf eager lines w i y is.line (command.Send to q tag ctx sync body) d → IsBehind x d
           by_kind (inl begins) = by_held sent (may_begin y.deeds sent) begins.1 refl
           by_kind (inr (inl says)) =
               let r = mapped_some (λ (r : Reply). deed.Ran is.line r)
-              (answer_in w lines i y is.line (command.Send q to tag ctx body sync)) d says in
+              (answer_in w lines i y is.line (command.Send to q tag ctx sync body)) d says in
               plain_as (deed.Ran is.line r.0) refl r.2
           by_kind (inr (inr denies)) = absurd (no_some d denies)
 
@@ -181,7 +181,7 @@ module _ (eager ranks : ℕ) (lines : List Line) (v w : ℕ → Option Spot) (se
 
           by_command : (c : Command) → IsSettledBy v lines i x is.line c → IsDeedOf eager lines w i y is.line c d →
               IsBefore c
-          by_command (command.Send q to tag ctx body sync) settled does = send_before q to tag ctx body sync does
+          by_command (command.Send to q tag ctx sync body) settled does = send_before q to tag ctx body sync does
           by_command (command.Wait q) settled does = wait_before q settled does
           by_command (command.Recv q from tag ctx cap) settled does = recv_before q from tag ctx cap settled does
           by_command (command.Test q) settled does = absurd settled
@@ -339,7 +339,7 @@ module _ (eager ranks : ℕ) (lines : List Line) (i : ℕ) (s : List Spot) (at :
       by_command : (c : Command) → IsSettledBy (λ k. slice_get s k) lines i at.spot at.settled.line c →
           is_waiting c ≡ true → answer_in (λ k. slice_get s k) lines i at.spot at.settled.line c ≡ None → ⊥
       by_command (command.Wait q) settled waits none = no_some settled.0 (sym none ∙ settled.1)
-      by_command (command.Send q to tag ctx body sync) settled waits none = false≢true waits
+      by_command (command.Send to q tag ctx sync body) settled waits none = false≢true waits
       by_command (command.Recv q from tag ctx cap) settled waits none = false≢true waits
       by_command (command.Test q) settled waits none = settled
       by_command (command.Probe from tag ctx) settled waits none = settled

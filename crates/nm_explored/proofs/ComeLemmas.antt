@@ -367,7 +367,7 @@ act_behind eager lines v w seen i x y later free d act none claims = record {
 
     by_command : (c : Command) → not (is_canceller c) ≡ true → not (is_claiming c) ≡ true →
         IsDeedOf eager lines v i x act.line c d → IsDeedOf eager lines w i (record y { deeds = x.deeds }) act.line c d
-    by_command (command.Send q to tag ctx body sync) none claims does = does
+    by_command (command.Send to q tag ctx sync body) none claims does = does
     by_command (command.Recv q from tag ctx cap) none claims does = does
     by_command (command.Wait q) none claims (inl begins) = inl begins
     by_command (command.Wait q) none claims (inr (inl says)) = inr (inl (waits q says))

@@ -344,7 +344,7 @@ module _ (eager : ℕ) (lines : List Line) (v : ℕ → Option Spot) (i : ℕ) (
 
   common_start : (c : Command) → not (is_canceller c) ≡ true → not (is_claiming c) ≡ true →
       start_in eager lines i x line c ≡ Some d → IsCommon d
-  common_start (command.Send q to tag ctx body sync) none claims starts = common_as _ starts (refl, tt)
+  common_start (command.Send to q tag ctx sync body) none claims starts = common_as _ starts (refl, tt)
   common_start (command.Recv q from tag ctx cap) none claims starts = common_as _ starts (refl, refl)
   common_start (command.Mrecv q m cap) none claims starts = absurd (false≢true claims)
   common_start (command.Cancel q) none claims starts = absurd (false≢true none)

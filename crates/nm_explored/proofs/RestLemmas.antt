@@ -143,7 +143,7 @@ module _ (shape : Sizes) (lines : List Line) (log : List Step) (v : ℕ → Opti
         refl,
         ap (λ (o : Option Arrival). option_map seen_at o) (found_said lines h spot at.is from tag ctx ∙ up),
       )
-      by_command (command.Send q to tag ctx body sync) up = absurd up
+      by_command (command.Send to q tag ctx sync body) up = absurd up
       by_command (command.Recv q from tag ctx cap) up = absurd up
       by_command (command.Test q) up = absurd up
       by_command (command.Probe from tag ctx) up = absurd up

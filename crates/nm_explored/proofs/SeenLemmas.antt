@@ -368,7 +368,7 @@ module _ (v w : ℕ → Option Spot) (seen : AreSeen v w) (i : ℕ) where
           option_map (λ r. deed.Ran act.line r) (answer_in w lines i x act.line c) ≡ Some d
       by_command (command.Wait q) says = by_reply q says
       by_command (command.Test q) says = by_reply q says
-      by_command (command.Send q to tag ctx body sync) says = says
+      by_command (command.Send to q tag ctx sync body) says = says
       by_command (command.Recv q from tag ctx cap) says = says
       by_command (command.Probe from tag ctx) says = says
       by_command (command.Await from tag ctx) says = says

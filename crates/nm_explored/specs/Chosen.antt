@@ -37,7 +37,7 @@ AreCalm s = (i : ℕ) (spot : Spot) → slice_get s i ≡ Some spot → list_any
 -- move of another rank, and no message that comes, changes what it does or answers, nor is it in their way;
 -- of a receive this is said where no message is claimed.
 abbrev pub IsSettledBy : (ℕ → Option Spot) → List Line → ℕ → Spot → ℕ → Command → Type 0
-IsSettledBy v lines i spot line (command.Send q to tag ctx body sync) = Unit {0}
+IsSettledBy v lines i spot line (command.Send to q tag ctx sync body) = Unit {0}
 IsSettledBy v lines i spot line (command.Wait q) =
     (r : Reply) × (answer_in v lines i spot line (command.Wait q) ≡ Some r)
 IsSettledBy v lines i spot line (command.Recv q from tag ctx cap) = HasNoClaim lines

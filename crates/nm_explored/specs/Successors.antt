@@ -48,7 +48,7 @@ match_at spot cap line m =
 
 -- what the command of a line does before its answer
 abbrev pub start_in : ℕ → List Line → ℕ → Spot → ℕ → Command → Option Deed
-start_in eager lines i spot line (command.Send q to tag ctx body sync) =
+start_in eager lines i spot line (command.Send to q tag ctx sync body) =
     Some
     (deed.Send to (count_by (is_send_by to) spot.deeds) tag ctx (body_len body)
     (how_of eager sync (body_len body)) line)
@@ -140,7 +140,7 @@ received_at idle None None = if idle then Some reply.Null else None
 -- the answer that the command of a line can have by now, but for that of a test that its request is
 -- not complete
 abbrev pub answer_in : (ℕ → Option Spot) → List Line → ℕ → Spot → ℕ → Command → Option Reply
-answer_in w lines i spot line (command.Send q to tag ctx body sync) =
+answer_in w lines i spot line (command.Send to q tag ctx sync body) =
     started_at (is_idle_at spot) (live_in lines i spot.deeds q)
 answer_in w lines i spot line (command.Recv q from tag ctx cap) =
     started_at (is_idle_at spot) (live_in lines i spot.deeds q)

@@ -191,7 +191,7 @@ module _ (shape : Sizes) (lines : List Line) (commands : AreCommands shape.ranks
 
       by_command : (line : ℕ) (c : Command) → Begins shape.eager mine h line c b.last →
           start_in shape.eager lines i spot line c ≡ Some d → ⊥
-      by_command line (command.Send q to tag ctx body sync) begun start =
+      by_command line (command.Send to q tag ctx sync body) begun start =
           held d last.0 last.1
           (subst (λ (d : Deed). is_held_by last.0 d ≡ true) (same_some _ d start) (starts_held begun.kind)) may
       by_command line (command.Recv q from tag ctx cap) begun start =
@@ -254,14 +254,14 @@ module _ (shape : Sizes) (lines : List Line) (commands : AreCommands shape.ranks
         (starts_more h t what quiet ∙ ap (λ (b : Bool). starts_since h ++ cond b (what ∷ []) []) start
         ∙ ap (λ (ws : List Happened). ws ++ what ∷ []) idle.starts)
 
-    sends_now : (q to tag ctx : ℕ) (body : Body) (sync : Bool) → x.command ≡ command.Send q to tag ctx body sync →
+    sends_now : (q to tag ctx : ℕ) (body : Body) (sync : Bool) → x.command ≡ command.Send to q tag ctx sync body →
         Later (deed.Send to (count_by (is_send_by to) spot.deeds) tag ctx (body_len body)
         (how_of shape.eager sync (body_len body)) x.line)
     sends_now q to tag ctx body sync is =
         let n : ℕ = count_by (is_send_by to) spot.deeds in
         let how : How = how_of shape.eager sync (body_len body) in
         let what : Happened = event.Send to n tag ctx (body_len body) how x.line in
-        let c : Command = command.Send q to tag ctx body sync in
+        let c : Command = command.Send to q tag ctx sync body in
         acts_now shape lines commands script log states reached i low spot here
         (deed.Send to n tag ctx (body_len body) how x.line) refl refl
         (record {
@@ -314,7 +314,7 @@ module _ (shape : Sizes) (lines : List Line) (commands : AreCommands shape.ranks
                 × (to' < shape.ranks)
             by_place (inl was) = steady.sent to' k s was
             by_place (inr last) =
-                let c : Command = command.Send q to tag ctx body sync in
+                let c : Command = command.Send to q tag ctx sync body in
                 let stands_so : command_at mine x.line ≡ Some c = stands ∙ ap (λ (c : Command). Some c) is in (
                   c,
                   ap (λ (s : Sent). command_at mine s.line) (sym last.1) ∙ stands_so,
@@ -578,7 +578,7 @@ module _ (shape : Sizes) (lines : List Line) (commands : AreCommands shape.ranks
     begins_now d start = by_command x.command refl start
       where
         by_command : (c : Command) → x.command ≡ c → start_in shape.eager lines i spot x.line c ≡ Some d → Later d
-        by_command (command.Send q to tag ctx body sync) is start =
+        by_command (command.Send to q tag ctx sync body) is start =
             subst Later (same_some _ d start) (sends_now q to tag ctx body sync is)
         by_command (command.Recv q from tag ctx cap) is start =
             subst Later (same_some _ d start) (posts_now q from tag ctx cap is)

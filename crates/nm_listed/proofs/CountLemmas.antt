@@ -44,7 +44,7 @@ one_start : (eager : ℕ) (commands : List Numbered) (h : List Event) (line : �
     length (if b then option_map_or (start_of eager commands h line) o [] else []) ≤ 1
 one_start eager commands h line false o = omega arith
 one_start eager commands h line true None = omega arith
-one_start eager commands h line true (Some (command.Send q to tag ctx body sync)) = omega arith
+one_start eager commands h line true (Some (command.Send to q tag ctx sync body)) = omega arith
 one_start eager commands h line true (Some (command.Recv q from tag ctx cap)) = omega arith
 one_start eager commands h line true (Some (command.Mrecv q m cap)) = by_message (live_message commands h m)
   where

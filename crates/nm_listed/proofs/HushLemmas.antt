@@ -459,7 +459,7 @@ module _ (shape : Sizes) (lines : List Line) (i : ℕ) (h : List Event) (stamp :
       started_not : (c : Command) → is_question_of q c ≡ true → (p : ℕ) → is_start_of p c ≡ false
       started_not (command.Wait q') is p = refl
       started_not (command.Test q') is p = refl
-      started_not (command.Send q' to tag ctx body sync) is p = absurd (false≢true is)
+      started_not (command.Send to q' tag ctx sync body) is p = absurd (false≢true is)
       started_not (command.Recv q' from tag ctx cap) is p = absurd (false≢true is)
       started_not (command.Mrecv q' m cap) is p = absurd (false≢true is)
       started_not (command.Probe from tag ctx) is p = absurd (false≢true is)
@@ -473,7 +473,7 @@ module _ (shape : Sizes) (lines : List Line) (i : ℕ) (h : List Event) (stamp :
           (started_not c.command (and_left (is_question_of q c.command) (is_result a) ends) p)
 
       one_name : (c : Command) (p : ℕ) → is_start_of q c ≡ true → is_start_of p c ≡ true → q ≡ p
-      one_name (command.Send q' to tag ctx body sync) p x y = sym (same_number q' q x) ∙ same_number q' p y
+      one_name (command.Send to q' tag ctx sync body) p x y = sym (same_number q' q x) ∙ same_number q' p y
       one_name (command.Recv q' from tag ctx cap) p x y = sym (same_number q' q x) ∙ same_number q' p y
       one_name (command.Mrecv q' m cap) p x y = sym (same_number q' q x) ∙ same_number q' p y
       one_name (command.Wait q') p x y = absurd (false≢true x)

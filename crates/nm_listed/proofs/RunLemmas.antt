@@ -381,7 +381,7 @@ module _ (shape : Sizes) (lines : List Line) (commands : AreCommands shape.ranks
             Begins shape.eager (mine i) (hist i) line c last → ⊥
         never (command.Wait q) line last waits begun = begun
         never (command.Await from tag ctx) line last waits begun = begun
-        never (command.Send q to tag ctx body sync) line last waits begun = false≢true waits
+        never (command.Send to q tag ctx sync body) line last waits begun = false≢true waits
         never (command.Recv q from tag ctx cap) line last waits begun = false≢true waits
         never (command.Test q) line last waits begun = begun
         never (command.Probe from tag ctx) line last waits begun = begun
@@ -499,7 +499,7 @@ module _ (shape : Sizes) (lines : List Line) (commands : AreCommands shape.ranks
         waits_on (command.Await from tag ctx) line waits none =
             ap (λ (o : Option Arrival). is_some o)
             (sym (first_said lines (hist i) spot at.is from tag ctx) ∙ mapped_none seen_at _ none)
-        waits_on (command.Send q to tag ctx body sync) line waits none = absurd (false≢true waits)
+        waits_on (command.Send to q tag ctx sync body) line waits none = absurd (false≢true waits)
         waits_on (command.Recv q from tag ctx cap) line waits none = absurd (false≢true waits)
         waits_on (command.Test q) line waits none = absurd (false≢true waits)
         waits_on (command.Probe from tag ctx) line waits none = absurd (false≢true waits)
@@ -646,7 +646,7 @@ module _ (shape : Sizes) (lines : List Line) (commands : AreCommands shape.ranks
       omega (arith, short, same, long)
     where
       sent_long : (c : Command) → length (sent_bytes c) ≡ sent_len c
-      sent_long (command.Send q to tag ctx body sync) = lengths body
+      sent_long (command.Send to q tag ctx sync body) = lengths body
       sent_long c = refl
 
   -- what became of the ranks can be counted

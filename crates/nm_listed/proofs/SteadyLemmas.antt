@@ -297,8 +297,8 @@ pub record HasClaimed (h : List Event) (line : ℕ) (last : Happened) : Type 0 w
 
 -- the next command has done what it does before its answer, which is the last that was done
 abbrev pub Begins : ℕ → List Numbered → List Event → ℕ → Command → Happened → Type 0
-Begins eager commands h line (command.Send q to tag ctx body sync) last =
-    HasStarted eager commands h line (command.Send q to tag ctx body sync) last
+Begins eager commands h line (command.Send to q tag ctx sync body) last =
+    HasStarted eager commands h line (command.Send to q tag ctx sync body) last
 Begins eager commands h line (command.Recv q from tag ctx cap) last =
     HasStarted eager commands h line (command.Recv q from tag ctx cap) last
 Begins eager commands h line (command.Mrecv q m cap) last = HasMatched commands h line m cap last
@@ -417,7 +417,7 @@ module _ (shape : Sizes) (commands : List Numbered) (h : List Event) (stamp : �
 
   begins_still : (line : ℕ) (c : Command) (last : Happened) → Begins shape.eager commands h line c last →
       Begins shape.eager commands after line c last
-  begins_still line (command.Send q to tag ctx body sync) last was = record {
+  begins_still line (command.Send to q tag ctx sync body) last was = record {
     starts = ap (λ (ws : List Happened). map without_number ws) starts_are ∙ was.starts;
     cancels = cancels_are ∙ was.cancels;
     claims = claims_are ∙ was.claims;

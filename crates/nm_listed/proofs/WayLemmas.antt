@@ -118,15 +118,15 @@ module _ (shape : Sizes) (lines : List Line) (commands : AreCommands shape.ranks
         where
           by_command : (c : Command) → x.command ≡ c → answer_in v lines i spot x.line c ≡ Some r →
               Later (deed.Ran x.line r)
-          by_command (command.Send q to tag ctx body sync) is so =
-              plain (command.Send q to tag ctx body sync) is refl r
+          by_command (command.Send to q tag ctx sync body) is so =
+              plain (command.Send to q tag ctx sync body) is refl r
               (started shape lines commands script states i low spot here log reached x next q
-              (command.Send q to tag ctx body sync) is (λ g. refl) (λ none. none) refl (by_stage steady.stage) r so)
+              (command.Send to q tag ctx sync body) is (λ g. refl) (λ none. none) refl (by_stage steady.stage) r so)
             where
-              by_stage : IsIdle h ⊎ IsBegun shape.eager mine h → Stage (command.Send q to tag ctx body sync)
+              by_stage : IsIdle h ⊎ IsBegun shape.eager mine h → Stage (command.Send to q tag ctx sync body)
               by_stage (inl idle) = inl idle
               by_stage (inr b) =
-                  let begun = begun_as (command.Send q to tag ctx body sync) is b in
+                  let begun = begun_as (command.Send to q tag ctx sync body) is b in
                   inr (
                     busy_start shape lines commands script states i low spot here log reached x next b begun.kind,
                     begun.starts,
@@ -186,7 +186,7 @@ module _ (shape : Sizes) (lines : List Line) (commands : AreCommands shape.ranks
               by_test true may so =
                   subst (λ (d : Deed). Later d) (same_some (deed.Ran x.line reply.No) d so)
                   (no_now shape lines commands script states i low spot here x q (inr is) log reached next is may)
-          by_command (command.Send q to tag ctx body sync) is so = absurd (no_some d so)
+          by_command (command.Send to q tag ctx sync body) is so = absurd (no_some d so)
           by_command (command.Recv q from tag ctx cap) is so = absurd (no_some d so)
           by_command (command.Wait q) is so = absurd (no_some d so)
           by_command (command.Probe peer tag ctx) is so = absurd (no_some d so)

@@ -64,12 +64,12 @@ module _ (starts asks : ℕ → Command → Bool) (begun ended : Answer → Bool
 
 -- a command that neither starts a request nor asks for a result
 pub no_name : (x : ℕ) (c : Command) →
-    ((q to tag ctx : ℕ) (body : Body) (sync : Bool) → c ≡ command.Send q to tag ctx body sync → ⊥) →
+    ((to q tag ctx : ℕ) (sync : Bool) (body : Body) → c ≡ command.Send to q tag ctx sync body → ⊥) →
     ((q : ℕ) (from : Peer) (tag : TagPick) (ctx cap : ℕ) → c ≡ command.Recv q from tag ctx cap → ⊥) →
     ((q m cap : ℕ) → c ≡ command.Mrecv q m cap → ⊥) →
     ((q : ℕ) → c ≡ command.Wait q → ⊥) → ((q : ℕ) → c ≡ command.Test q → ⊥) →
     (is_start_of x c ≡ false) × (is_question_of x c ≡ false)
-no_name x (command.Send q to tag ctx body sync) s r m w t = absurd (s q to tag ctx body sync refl)
+no_name x (command.Send to q tag ctx sync body) s r m w t = absurd (s to q tag ctx sync body refl)
 no_name x (command.Recv q from tag ctx cap) s r m w t = absurd (r q from tag ctx cap refl)
 no_name x (command.Mrecv q h cap) s r m w t = absurd (m q h cap refl)
 no_name x (command.Wait q) s r m w t = absurd (w q refl)

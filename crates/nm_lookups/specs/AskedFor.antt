@@ -30,7 +30,7 @@ message_meant m = record { from = m.rank; n = m.n }
 
 -- the name of a command's request
 abbrev pub name_of : Command → Option ℕ
-name_of (command.Send q to tag ctx body sync) = Some q
+name_of (command.Send to q tag ctx sync body) = Some q
 name_of (command.Recv q from tag ctx cap) = Some q
 name_of (command.Wait q) = Some q
 name_of (command.Test q) = Some q

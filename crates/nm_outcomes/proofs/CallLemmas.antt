@@ -280,7 +280,7 @@ module _ (shape : Sizes) (commands : List Numbered) (at : ℕ) (h : List Event) 
       by_command (command.Mrecv q m cap') is same =
           by_message q m cap' is (live_message commands
           (before ++ record { stamp = stamp; what = event.Match number from n cap line } ∷ next.mid) m) refl same
-      by_command (command.Send q to tag ctx body sync) is same = absurd (grind arith)
+      by_command (command.Send to q tag ctx sync body) is same = absurd (grind arith)
       by_command (command.Recv q from' tag ctx cap') is same = absurd (grind arith)
       by_command (command.Wait q) is same = absurd (grind arith)
       by_command (command.Test q) is same = absurd (grind arith)

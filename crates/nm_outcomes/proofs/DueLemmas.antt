@@ -60,7 +60,7 @@ one_only (v ∷ pre) mid w ys (inr one) same =
 
 pub few_starts : (eager l : ℕ) (commands : List Numbered) (h : List Event) (c : Command) →
     AtMostOne (start_of eager commands h l c)
-few_starts eager l commands h (command.Send q to tag ctx body sync) = inr (_, refl)
+few_starts eager l commands h (command.Send to q tag ctx sync body) = inr (_, refl)
 few_starts eager l commands h (command.Recv q from tag ctx cap) = inr (_, refl)
 few_starts eager l commands h (command.Mrecv q m cap) = by_message (live_message commands h m)
   where
@@ -89,7 +89,7 @@ start_fresh eager l commands h before (command.Mrecv q m cap) w posting same =
     by_message (Some message) same =
         let other : without_number w ≡ event.Match 0 message.from message.n cap l = cc in
         false≢true (ap is_posting (sym other) ∙ posting)
-start_fresh eager l commands h before (command.Send q to tag ctx body sync) w posting same = same
+start_fresh eager l commands h before (command.Send to q tag ctx sync body) w posting same = same
 start_fresh eager l commands h before (command.Recv q from tag ctx cap) w posting same = same
 start_fresh eager l commands h before (command.Wait q) w posting same = same
 start_fresh eager l commands h before (command.Test q) w posting same = same

@@ -63,7 +63,7 @@ found_of_all {X} P test (y ∷ ys) x all found =
     by_test false found later = later found
 
 sends_within : (ranks : ℕ) (c : Command) → is_in_range ranks c ≡ true → IsAddressed ranks c
-sends_within ranks (command.Send q to tag ctx body sync) fine =
+sends_within ranks (command.Send to q tag ctx sync body) fine =
     is_below to ranks
     (second_of_five (nat_le q MAX_NAME) (nat_lt to ranks) (nat_le tag MAX_TAG) (nat_le ctx MAX_CONTEXT)
     (nat_le (body_len body) MAX_BODY) fine)

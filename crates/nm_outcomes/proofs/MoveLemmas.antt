@@ -113,7 +113,7 @@ module _ (me : ℕ) (commands : List Numbered) (h : List Event) (place : RankPoi
     answer_is : (line : ℕ) (c : Command) → is_question c ≡ false → answer_in place line c ≡ answer_of commands h line c
     answer_is line (command.Wait q) none = absurd (false≢true (sym none))
     answer_is line (command.Test q) none = absurd (false≢true (sym none))
-    answer_is line (command.Send q to tag ctx body sync) none =
+    answer_is line (command.Send to q tag ctx sync body) none =
         ap (λ (o : Option Request). Some (if is_some o then answer.Busy else answer.Started)) (request_is q)
     answer_is line (command.Recv q from tag ctx cap) none =
         ap (λ (o : Option Request). Some (if is_some o then answer.Busy else answer.Started)) (request_is q)
@@ -242,8 +242,8 @@ module _ (shape : Sizes) (lines : List Line) (log : List Step) (w : ℕ → Rank
             MatchOption o (a ≡ answer.Null) (λ request. (a ≡ answer.No) ⊎ (may_show w i request ≡ Some a))
         by_request None here right = sym right
         by_request (Some request) here right = by_result request here (result_of h request) refl right
-    may_answer line (command.Send q to tag ctx body sync) a right =
-        answer_is i commands h (w i) (are i) line (command.Send q to tag ctx body sync) refl ∙ right
+    may_answer line (command.Send to q tag ctx sync body) a right =
+        answer_is i commands h (w i) (are i) line (command.Send to q tag ctx sync body) refl ∙ right
     may_answer line (command.Recv q from tag ctx cap) a right =
         answer_is i commands h (w i) (are i) line (command.Recv q from tag ctx cap) refl ∙ right
     may_answer line (command.Probe from tag ctx) a right =

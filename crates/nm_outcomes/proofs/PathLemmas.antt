@@ -87,7 +87,7 @@ claimed_came commands i n h each =
             (came_known h a.0 (find_contains (λ (x : Arrival). matches from' tag ctx x.env && is_free h
             (matched_pairs h) x)
             (messages h) a.0 a.1)))
-        by_command (Some (command.Send q to tag ctx body sync)) same = absurd (grind arith)
+        by_command (Some (command.Send to q tag ctx sync body)) same = absurd (grind arith)
         by_command (Some (command.Recv q from' tag ctx cap)) same = absurd (grind arith)
         by_command (Some (command.Wait q)) same = absurd (grind arith)
         by_command (Some (command.Test q)) same = absurd (grind arith)
@@ -190,7 +190,7 @@ module _ (ranks eager : ℕ) (commands : List Numbered) (stand : AreAtLines comm
     -- the start of a command, if it is a send, is to the rank that the command says
     sent_to : (l : ℕ) (h : List Event) (c : Command) (start : List Happened) → start ≡ start_of eager commands h l c →
         IsAddressed ranks c → AreAddressed ranks start
-    sent_to l h (command.Send q to tag ctx body sync) start same inside =
+    sent_to l h (command.Send to q tag ctx sync body) start same inside =
         subst (λ (ws : List Happened). AreAddressed ranks ws) (sym same) inside
     sent_to l h (command.Recv q from tag ctx cap) start same inside =
         subst (λ (ws : List Happened). AreAddressed ranks ws) (sym same) tt

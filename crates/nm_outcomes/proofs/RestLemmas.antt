@@ -351,7 +351,7 @@ module _ (shape : Sizes) (lines : List Line) (ranks : List Ended) (packets : Lis
         by_found : (o : Option Arrival) → is_some o ≡ false → o ≡ None
         by_found None none = refl
         by_found (Some a) none = absurd (false≢true (sym none))
-    held_up i (command.Send q to tag ctx body sync) low stuck = false≢true (sym stuck)
+    held_up i (command.Send to q tag ctx sync body) low stuck = false≢true (sym stuck)
     held_up i (command.Recv q from tag ctx cap) low stuck = false≢true (sym stuck)
     held_up i (command.Test q) low stuck = false≢true (sym stuck)
     held_up i (command.Probe from tag ctx) low stuck = false≢true (sym stuck)

@@ -64,7 +64,7 @@ cancel_in place (Sending to n) = answer.Asked
 
 -- the answer of a command that is no wait and no test
 abbrev pub answer_in : RankPoint → ℕ → Command → Option Answer
-answer_in place line (command.Send q to tag ctx body sync) =
+answer_in place line (command.Send to q tag ctx sync body) =
     Some (if is_some (request_now place q) then answer.Busy else answer.Started)
 answer_in place line (command.Recv q from tag ctx cap) =
     Some (if is_some (request_now place q) then answer.Busy else answer.Started)

@@ -57,7 +57,7 @@ AreMoves shape lines w (step ∷ steps) =
 
 -- a command sends to a rank of the run, if it sends
 abbrev pub IsAddressed : ℕ → Command → Type 0
-IsAddressed ranks (command.Send q to tag ctx body sync) = to < ranks
+IsAddressed ranks (command.Send to q tag ctx sync body) = to < ranks
 IsAddressed ranks _ = Unit {0}
 
 -- the commands of each rank stand at their lines, and send to ranks of the run

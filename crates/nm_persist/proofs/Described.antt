@@ -247,7 +247,7 @@ own_rank owner lines k made = by_request (request_at lines owner) made
 
 both_none : (q from tag ctx : ℕ) (c : Command) → is_named c ≡ true → starts_one c ≡ false →
     (is_start_of q c ≡ false) × (receives_it from tag ctx c ≡ false) × (sends_it from tag ctx c ≡ false)
-both_none q from tag ctx (command.Send q' to t x body sync) named none = absurd (false≢true (sym none))
+both_none q from tag ctx (command.Send to q' t x sync body) named none = absurd (false≢true (sym none))
 both_none q from tag ctx (command.Recv q' source tags context cap) named none = absurd (false≢true (sym none))
 both_none q from tag ctx (command.Mrecv q' m cap) named none = absurd (false≢true named)
 both_none q from tag ctx c named none = (refl, refl, refl)

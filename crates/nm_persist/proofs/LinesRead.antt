@@ -27,7 +27,7 @@ use Rattle.nm_sure.proofs.Gathered.{one_line}
 
 -- a send or a receive
 abbrev pub starts_one : Command → Bool
-starts_one (command.Send q to tag ctx body sync) = true
+starts_one (command.Send to q tag ctx sync body) = true
 starts_one (command.Recv q from tag ctx cap) = true
 starts_one _ = false
 
@@ -59,7 +59,7 @@ posts_named from tag ctx eager commands c named = by_command c.command named
     by_command : (d : Command) → is_named d ≡ true →
         filter_map (post_line from tag ctx) (start_of eager commands [] c.line d) ≡ cond (receives_it from tag ctx d)
         (c.line ∷ []) []
-    by_command (command.Send q to t x body sync) named = refl
+    by_command (command.Send to q t x sync body) named = refl
     by_command (command.Recv q source tags context cap) named =
         one_line (is_for from tag ctx (record { number = 0; from = source; tag = tags; ctx = context; cap = cap }))
         c.line
@@ -72,7 +72,7 @@ sends_named to tag ctx eager commands c named = by_command c.command named
     by_command : (d : Command) → is_named d ≡ true →
         filter_map (send_line to tag ctx) (start_of eager commands [] c.line d) ≡ cond (sends_it to tag ctx d)
         (c.line ∷ []) []
-    by_command (command.Send q to' tag' ctx' body sync) named = one_line (ctx == ctx' && to == to' && tag == tag')
+    by_command (command.Send to' q tag' ctx' sync body) named = one_line (ctx == ctx' && to == to' && tag == tag')
         c.line
     by_command (command.Recv q source tags context cap) named = refl
     by_command (command.Mrecv q m cap) named = absurd (false≢true named)
@@ -106,7 +106,7 @@ starts_named l eager commands c named = by_command c.command named
     by_command : (d : Command) → is_named d ≡ true →
         filter_map (start_at l) (start_of eager commands [] c.line d) ≡ cond (starts_one d && c.line == l)
         (c.line ∷ []) []
-    by_command (command.Send q to' tag' ctx' body sync) named = one_line (c.line == l) c.line
+    by_command (command.Send to' q tag' ctx' sync body) named = one_line (c.line == l) c.line
     by_command (command.Recv q source tags context cap) named = one_line (c.line == l) c.line
     by_command (command.Mrecv q m cap) named = absurd (false≢true named)
     by_command d named = refl
@@ -176,7 +176,7 @@ read_starts f reads (w ∷ ws) = by_test (is_start w) refl (read_starts f reads 
 pub starts_made : (eager l : ℕ) (commands : List Numbered) (h : List Event) (c : Command) (b : Bool) →
     is_named c ≡ true →
     (starts_one c ≡ true → b ≡ true) → cond b (start_of eager commands h l c) [] ≡ start_of eager commands [] l c
-starts_made eager l commands h (command.Send q to tag ctx body sync) b named taken = rw (taken refl) refl
+starts_made eager l commands h (command.Send to q tag ctx sync body) b named taken = rw (taken refl) refl
 starts_made eager l commands h (command.Recv q from tag ctx cap) b named taken = rw (taken refl) refl
 starts_made eager l commands h (command.Mrecv q m cap) b named taken = absurd (false≢true named)
 starts_made eager l commands h c true named taken = refl

@@ -261,7 +261,7 @@ module _ (shape : Sizes) (lines : List PlanLine) (at : ℕ → ℕ) (hist : ℕ 
       }
     where
       sends_start : (j tag ctx : ℕ) (c : Command) → sends_it j tag ctx c ≡ true → starts_one c ≡ true
-      sends_start j tag ctx (command.Send q to t x body sync) it = refl
+      sends_start j tag ctx (command.Send to q t x sync body) it = refl
       sends_start j tag ctx c it = absurd (false≢true it)
 
       moved_channel : (i j j' t t' x x' n : ℕ) (d : Numbered) → j ≡ j' → t ≡ t' → x ≡ x' →

@@ -237,7 +237,7 @@ module _ (shape : Sizes) (cs : ℕ → List Numbered) (at : ℕ → ℕ) (hist :
       where
         by_command : (x : Command) → starts_one x ≡ true → answer_of (cs j) b c.line x ≡ Some (without_bytes a) →
             ((q : ℕ) → is_start_of q x ≡ true → live (cs j) b q ≡ None) → is_started a ≡ true
-        by_command (command.Send q to tag ctx body sync) one right free =
+        by_command (command.Send to q tag ctx sync body) one right free =
             started_fact (is_some (live (cs j) b q)) a right ∙ ap (λ (o : Option Request). not (is_some o))
             (free q (eqb_self q))
         by_command (command.Recv q from tag ctx cap) one right free =

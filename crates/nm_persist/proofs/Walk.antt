@@ -138,7 +138,7 @@ module _ (commands : List Numbered) (b : List Event) (l q : ℕ) (a : Answer) wh
 
 -- a start of a name is a send or a receive
 pub start_is_one : (q : ℕ) (c : Command) → is_named c ≡ true → is_start_of q c ≡ true → starts_one c ≡ true
-start_is_one q (command.Send q' to tag ctx body sync) named starts = refl
+start_is_one q (command.Send to q' tag ctx sync body) named starts = refl
 start_is_one q (command.Recv q' from tag ctx cap) named starts = refl
 start_is_one q (command.Mrecv q' m cap) named starts = named
 start_is_one q c named starts = absurd (false≢true starts)

@@ -13,7 +13,7 @@ use Rattle.nm_persist.specs.Report.{is_result}
 
 -- a send, a receive that names its source and its tag, a wait or a test: what persistent requests stand for
 abbrev pub is_named : Command → Bool
-is_named (Send q to tag ctx body sync) = true
+is_named (Send to q tag ctx sync body) = true
 is_named (Recv q (peer.One from) (pick.One tag) ctx cap) = true
 is_named (Wait q) = true
 is_named (Test q) = true

@@ -48,7 +48,7 @@ context_of r = 2 * r.ctx + (if is_some r.parts then 1 else 0)
 -- the command that starts part k of a request
 abbrev pub start_of : ℕ → Request → ℕ → Side → Command
 start_of p r k (Sends body) =
-    command.Send (name_of p k) r.peer (tag_of r k) (context_of r) (part_body r.parts k body) false
+    command.Send r.peer (name_of p k) (tag_of r k) (context_of r) false (part_body r.parts k body)
 start_of p r k (Receives cap) =
     command.Recv (name_of p k) (One r.peer) (pick.One (tag_of r k)) (context_of r) cap
 

@@ -34,7 +34,7 @@ waited shape lines a b place l work is tried =
           can_go_on (commands_of a.rank.me lines) a.rank.events c ≡ false
       by_command (command.Wait q) t = rw (sym (work.requests q) ∙ t.0.live) t.0.pending
       by_command (command.Await from tag ctx) t = rw t.0 refl
-      by_command (command.Send q to tag ctx body sync) t = absurd (waits_not_ran t.0)
+      by_command (command.Send to q tag ctx sync body) t = absurd (waits_not_ran t.0)
       by_command (command.Recv q from tag ctx room) t = absurd (waits_not_ran t.0)
       by_command (command.Test q) t = absurd (waits_not_ran t.0)
       by_command (command.Probe from tag ctx) t = absurd (waits_not_ran t.0)
@@ -48,7 +48,7 @@ by_names : (shape : Sizes) (lines : List Line) (a : ProcessView) (c : Command) �
 by_names shape lines a (command.Wait q) work =
     ap (λ (o : Option Request). option_map_or (is_complete a.rank.events) o true) (work.requests q)
 by_names shape lines a (command.Await from tag ctx) work = refl
-by_names shape lines a (command.Send q to tag ctx body sync) work = refl
+by_names shape lines a (command.Send to q tag ctx sync body) work = refl
 by_names shape lines a (command.Recv q from tag ctx room) work = refl
 by_names shape lines a (command.Test q) work = refl
 by_names shape lines a (command.Probe from tag ctx) work = refl
@@ -109,7 +109,7 @@ ran_step shape lines a b place l Took work is moves at own next right tried =
 pub waits_same : (a b : ProcessView) (c : Command) (line : ℕ) → HasTried a b c line Waits → b ≡ a
 waits_same a b (command.Wait q) line t = t.1
 waits_same a b (command.Await from tag ctx) line t = t.1
-waits_same a b (command.Send q to tag ctx body sync) line t = absurd (waits_not_ran t.0)
+waits_same a b (command.Send to q tag ctx sync body) line t = absurd (waits_not_ran t.0)
 waits_same a b (command.Recv q from tag ctx room) line t = absurd (waits_not_ran t.0)
 waits_same a b (command.Test q) line t = absurd (waits_not_ran t.0)
 waits_same a b (command.Probe from tag ctx) line t = absurd (waits_not_ran t.0)

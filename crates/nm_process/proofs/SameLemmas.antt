@@ -46,7 +46,7 @@ ended_run a b q line p = answered_run a p.mid b line p.answer (ap (λ (v : RankV
 
 pub tried_run : (a b : ProcessView) (c : Command) (line : ℕ) (s : Step) → HasTried a b c line s →
     KeepsRun a b
-tried_run a b (command.Send q to tag ctx body sync) line s t =
+tried_run a b (command.Send to q tag ctx sync body) line s t =
     ⊎_elim (λ p. alone_run a b line answer.Busy p.answered)
     (λ p. started_run (StartsSend (next_send a.rank to tag ctx body sync line) body)
     (kind.Send to (length (sends a.rank.events to))) a b q line

@@ -107,14 +107,14 @@ module _ (shape : Sizes) (lines : List Line) (a b : ProcessView) (place : ℕ) (
     (work : IsAtWork shape lines a) (is : IsNextLine lines a.rank.me a.next place l)
     (at : b.at ≡ a.at + 1) (next : MovesOn lines a b place) where
   sends_one : (q to tag ctx : ℕ) (body : Body) (sync : Bool) →
-      l.command ≡ command.Send q to tag ctx body sync →
+      l.command ≡ command.Send to q tag ctx sync body →
       HasTriedSend a (record b { at = a.at; next = a.next }) q to tag ctx body sync (place + 2) →
       IsAtWork shape lines b
   sends_one q to tag ctx body sync same tried =
       ⊎_elim (λ taken. busy shape lines a b place l work is at next c q same taken refl work.cancels.no_others)
       (λ p. start p.0 p.1) tried where
         c : Command
-        c = command.Send q to tag ctx body sync
+        c = command.Send to q tag ctx sync body
 
         n : ℕ
         n = length (sends a.rank.events to)
@@ -488,7 +488,7 @@ module _ (shape : Sizes) (lines : List Line) (a b : ProcessView) (place : ℕ) (
   ran right tried = by_command l.command refl tried where
     by_command : (c : Command) → l.command ≡ c → HasTried a (record b { at = a.at; next = a.next }) c
         (place + 2) Took → IsAtWork shape lines b
-    by_command (command.Send q to tag ctx body sync) same t = sends_one q to tag ctx body sync same t.1
+    by_command (command.Send to q tag ctx sync body) same t = sends_one q to tag ctx body sync same t.1
     by_command (command.Recv q from tag ctx room) same t = receives_one q from tag ctx room same t.1
     by_command (command.Wait q) same t = waits_one q same t
     by_command (command.Test q) same t = tests_one q same t.1

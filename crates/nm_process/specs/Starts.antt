@@ -228,7 +228,7 @@ HasTriedMrecv a b q m cap line =
 
 -- what a command comes to
 abbrev pub HasTried : ProcessView → ProcessView → Command → ℕ → Step → Type 0
-HasTried a b (command.Send q to tag ctx body sync) line step =
+HasTried a b (command.Send to q tag ctx sync body) line step =
     (step ≡ Took) × HasTriedSend a b q to tag ctx body sync line
 HasTried a b (command.Recv q from tag ctx cap) line step =
     (step ≡ Took) × HasTriedReceive a b q from tag ctx cap line

@@ -77,7 +77,7 @@ low m n is = grind (arith, nat_tests)
 
 -- a command that is in range sends a body that is in range
 sent_short : HaveTheirLength → (ranks : ℕ) (c : Command) → is_in_range ranks c ≡ true → length (sent_bytes c) ≤ MAX_BODY
-sent_short lengths ranks (command.Send q to tag ctx body sync) fine =
+sent_short lengths ranks (command.Send to q tag ctx sync body) fine =
     let short = low (body_len body) MAX_BODY (and_right _ (nat_le (body_len body) MAX_BODY) fine) in
     omega (arith, short, lengths body)
 sent_short lengths ranks c fine = omega arith

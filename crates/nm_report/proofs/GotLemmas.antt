@@ -114,8 +114,8 @@ test_got h (Some request) shows = result_got h request (or_no (result_of h reque
 
 got_asked : (commands : List Numbered) (h : List Event) (line : ℕ) (c : Command)
     → got (answer_of commands h line c) ≡ true → AsksFor commands h c
-got_asked commands h line (command.Send q to tag ctx body sync) shows =
-    not_got (answer_of commands h line (command.Send q to tag ctx body sync))
+got_asked commands h line (command.Send to q tag ctx sync body) shows =
+    not_got (answer_of commands h line (command.Send to q tag ctx sync body))
     (either _ answer.Busy answer.Started refl refl) shows
 got_asked commands h line (command.Recv q from tag ctx cap) shows =
     not_got (answer_of commands h line (command.Recv q from tag ctx cap))

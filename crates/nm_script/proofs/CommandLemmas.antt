@@ -131,8 +131,8 @@ pub record Fits (ranks : ℕ) (line : Line) : Type 0 where
 
 -- the name of a command
 abbrev pub keyword_in : Command → Keyword
-keyword_in (Send q to tag ctx body true) = key.Issend
-keyword_in (Send q to tag ctx body false) = key.Isend
+keyword_in (Send to q tag ctx true body) = key.Issend
+keyword_in (Send to q tag ctx false body) = key.Isend
 keyword_in (Recv q from tag ctx cap) = key.Irecv
 keyword_in (Wait q) = key.Wait
 keyword_in (Test q) = key.Test
@@ -144,7 +144,7 @@ keyword_in (Mrecv q m cap) = key.Mrecv
 
 -- the words behind it
 abbrev pub arguments_in : Command → List (List ℕ)
-arguments_in (Send q to tag ctx body sync) =
+arguments_in (Send to q tag ctx sync body) =
     decimal q ∷ decimal to ∷ decimal tag ∷ decimal ctx ∷ body_word body ∷ []
 arguments_in (Recv q from tag ctx cap) =
     decimal q ∷ peer_word from ∷ tag_word tag ∷ decimal ctx ∷ decimal cap ∷ []
@@ -158,8 +158,8 @@ arguments_in (Mprobe m from tag ctx) =
 arguments_in (Mrecv q m cap) = decimal q ∷ decimal m ∷ decimal cap ∷ []
 
 pub words_are : (c : Command) → words c ≡ keyword_text (keyword_in c) ∷ arguments_in c
-words_are (Send q to tag ctx body true) = refl
-words_are (Send q to tag ctx body false) = refl
+words_are (Send to q tag ctx true body) = refl
+words_are (Send to q tag ctx false body) = refl
 words_are (Recv q from tag ctx cap) = refl
 words_are (Wait q) = refl
 words_are (Test q) = refl
@@ -189,9 +189,9 @@ module _ (ranks : ℕ) (few : ranks ≤ MAX_RANKS) where
       → (arguments_of ranks (keyword_in c) (arguments_in c) ≡ Ok c) × Solid (arguments_in c)
 
   sends : (q to tag ctx : ℕ) (body : Body) (sync : Bool)
-      → is_in_range ranks (Send q to tag ctx body sync) ≡ true → are_bytes body ≡ true
-      → (send_of ranks sync (arguments_in (Send q to tag ctx body sync)) ≡ Ok
-      (Send q to tag ctx body sync)) × Solid (arguments_in (Send q to tag ctx body sync))
+      → is_in_range ranks (Send to q tag ctx sync body) ≡ true → are_bytes body ≡ true
+      → (send_of ranks sync (arguments_in (Send to q tag ctx sync body)) ≡ Ok
+      (Send to q tag ctx sync body)) × Solid (arguments_in (Send to q tag ctx sync body))
   unfolding send_of send_with name_of
   sends q to tag ctx body sync range bytes =
       let t = five_parts (nat_le q MAX_NAME) (nat_lt to ranks) (nat_le tag MAX_TAG) (nat_le ctx MAX_CONTEXT)
@@ -218,7 +218,7 @@ module _ (ranks : ℕ) (few : ranks ≤ MAX_RANKS) where
         ),
       )
 
-  send_again : (q to tag ctx : ℕ) (body : Body) (sync : Bool) → ReadsBack (Send q to tag ctx body sync)
+  send_again : (q to tag ctx : ℕ) (body : Body) (sync : Bool) → ReadsBack (Send to q tag ctx sync body)
   unfolding ReadsBack arguments_of
   send_again q to tag ctx body true range bytes = sends q to tag ctx body true range bytes
   send_again q to tag ctx body false range bytes = sends q to tag ctx body false range bytes
@@ -323,7 +323,7 @@ module _ (ranks : ℕ) (few : ranks ≤ MAX_RANKS) where
       )
 
   pub reads_back : (c : Command) → ReadsBack c
-  reads_back (Send q to tag ctx body sync) = send_again q to tag ctx body sync
+  reads_back (Send to q tag ctx sync body) = send_again q to tag ctx body sync
   reads_back (Recv q from tag ctx cap) = recv_again q from tag ctx cap
   reads_back (Wait q) = wait_again q
   reads_back (Test q) = test_again q

@@ -148,7 +148,7 @@ send_key true = key.Issend
 send_key false = key.Isend
 
 send_named : (sync : Bool) (q to tag ctx : ℕ) (body : Body)
-    → send_key sync ≡ keyword_in (Send q to tag ctx body sync)
+    → send_key sync ≡ keyword_in (Send to q tag ctx sync body)
 send_named true q to tag ctx body = refl
 send_named false q to tag ctx body = refl
 
@@ -162,14 +162,14 @@ send_with_taken ranks sync c name to tag ctx body small h =
     let t = bind_ok (argument_of (MAX_TAG + 1) tag) _ c r.2 in
     let x = bind_ok (argument_of (MAX_CONTEXT + 1) ctx) _ c t.2 in
     let b = bind_ok (body_of body) _ c x.2 in
-    let is : Send q.0 r.0 t.0 x.0 b.0 sync ≡ c = cc (b.2) in
+    let is : Send r.0 q.0 t.0 x.0 sync b.0 ≡ c = cc (b.2) in
     let qw = word_taken MAX_NAME q.0 name (omega arith) q.1 in
     let rw' = argument_taken ranks r.0 to small r.1 in
     let tw = word_taken MAX_TAG t.0 tag (omega arith) t.1 in
     let xw = word_taken MAX_CONTEXT x.0 ctx (omega arith) x.1 in
     let bw = body_taken body b.0 b.1 in
     let made : AreArguments ranks (send_key sync) (name ∷ to ∷ tag ∷ ctx ∷ body ∷ [])
-    (Send q.0 r.0 t.0 x.0 b.0 sync) = record {
+    (Send r.0 q.0 t.0 x.0 sync b.0) = record {
       keyword_is = send_named sync q.0 r.0 t.0 x.0 b.0;
       arguments_are = cc (qw.1, rw'.1, tw.1, xw.1, bw.word_is);
       range = five_from (nat_le q.0 MAX_NAME) (nat_lt r.0 ranks) (nat_le t.0 MAX_TAG)
@@ -405,7 +405,7 @@ line_taken ranks (first ∷ name ∷ ws) line small h =
 
 -- no command in range has too long a body
 pub sent_fits : (ranks : ℕ) (c : Command) → is_in_range ranks c ≡ true → sent_len c ≤ MAX_BODY
-sent_fits ranks (Send q to tag ctx body sync) range = leb-true (body_len body) MAX_BODY
+sent_fits ranks (Send to q tag ctx sync body) range = leb-true (body_len body) MAX_BODY
     (and_parts (nat_le q MAX_NAME && nat_lt to ranks && nat_le tag MAX_TAG && nat_le ctx MAX_CONTEXT)
     (nat_le (body_len body) MAX_BODY) range).1
 sent_fits ranks (Recv q from tag ctx cap) range = omega arith

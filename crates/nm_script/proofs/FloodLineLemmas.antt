@@ -34,7 +34,7 @@ destination_below : (key ranks k : ℕ) → 1 ≤ ranks → destination key rank
 destination_below key ranks k some = mod-lt (k % ranks + k / ranks + key) (omega arith)
 
 send_words : (q to tag ctx len : ℕ) (sync : Bool)
-    → ended_len (words (Send q to tag ctx (Gen len) sync))
+    → ended_len (words (Send to q tag ctx sync (Gen len)))
     ≤ 13 + length (decimal q) + length (decimal to) + length (decimal tag) + length (decimal ctx)
     + length (decimal len)
 send_words q to tag ctx len true = omega arith

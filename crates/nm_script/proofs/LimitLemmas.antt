@@ -140,7 +140,7 @@ all_pass : (test : Command → Bool) (xs ys : List Line) → list_all (λ line. 
 all_pass test xs ys one two = list_all-append _ xs ys ∙ and_from _ _ one two
 
 pub flood_passes : (key ranks messages : ℕ) (test : Command → Bool)
-    → ((q to tag ctx : ℕ) (body : Body) (sync : Bool) → test (Send q to tag ctx body sync) ≡ true)
+    → ((q to tag ctx : ℕ) (body : Body) (sync : Bool) → test (Send to q tag ctx sync body) ≡ true)
     → ((q from tag ctx cap : ℕ) → test (Recv q (peer.One from) (pick.One tag) ctx cap) ≡ true)
     → ((q : ℕ) → test (Wait q) ≡ true)
     → list_all (λ line. test line.command) (flood_lines key ranks messages) ≡ true

@@ -44,8 +44,8 @@ up_to : (most n : ℕ) → nat_le n most ≡ true → IsUpTo most (decimal n)
 up_to most n h = (n, leb-true n most h, refl)
 
 as_many : (c : Command) → length (arguments_in c) ≡ length (arguments (keyword_in c))
-as_many (Send q to tag ctx body true) = refl
-as_many (Send q to tag ctx body false) = refl
+as_many (Send to q tag ctx true body) = refl
+as_many (Send to q tag ctx false body) = refl
 as_many (Recv q from tag ctx cap) = refl
 as_many (Wait q) = refl
 as_many (Test q) = refl
@@ -69,7 +69,7 @@ module _ (ranks : ℕ) where
 
   all_spelled : (c : Command) → is_in_range ranks c ≡ true → AllSpelled c
   unfolding AllSpelled
-  all_spelled (Send q to tag ctx body true) range =
+  all_spelled (Send to q tag ctx true body) range =
       let t = five_parts (nat_le q MAX_NAME) (nat_lt to ranks) (nat_le tag MAX_TAG) (nat_le ctx MAX_CONTEXT)
       (nat_le (body_len body) MAX_BODY) range in (
         up_to MAX_NAME q t.one,
@@ -78,7 +78,7 @@ module _ (ranks : ℕ) where
           (up_to MAX_TAG tag t.three, (up_to MAX_CONTEXT ctx t.four, (tt, tt))),
         ),
       )
-  all_spelled (Send q to tag ctx body false) range =
+  all_spelled (Send to q tag ctx false body) range =
       let t = five_parts (nat_le q MAX_NAME) (nat_lt to ranks) (nat_le tag MAX_TAG) (nat_le ctx MAX_CONTEXT)
       (nat_le (body_len body) MAX_BODY) range in (
         up_to MAX_NAME q t.one,
@@ -111,11 +111,11 @@ module _ (ranks : ℕ) where
 
   body_there : (c : Command) → is_in_range ranks c ≡ true → has_bytes c ≡ true
       → Each IsBodyThere (arguments (keyword_in c)) (arguments_in c)
-  body_there (Send q to tag ctx body true) range bytes =
+  body_there (Send to q tag ctx true body) range bytes =
       let t = five_parts (nat_le q MAX_NAME) (nat_lt to ranks) (nat_le tag MAX_TAG) (nat_le ctx MAX_CONTEXT)
       (nat_le (body_len body) MAX_BODY) range in
       (tt, (tt, (tt, (tt, ((body, bytes, leb-true (body_len body) MAX_BODY t.five, refl), tt)))))
-  body_there (Send q to tag ctx body false) range bytes =
+  body_there (Send to q tag ctx false body) range bytes =
       let t = five_parts (nat_le q MAX_NAME) (nat_lt to ranks) (nat_le tag MAX_TAG) (nat_le ctx MAX_CONTEXT)
       (nat_le (body_len body) MAX_BODY) range in
       (tt, (tt, (tt, (tt, ((body, bytes, leb-true (body_len body) MAX_BODY t.five, refl), tt)))))

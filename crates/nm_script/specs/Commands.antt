@@ -67,7 +67,7 @@ send_with ranks sync name to tag ctx body = do
   t ← argument_of (MAX_TAG + 1) tag
   c ← argument_of (MAX_CONTEXT + 1) ctx
   b ← body_of body
-  Ok (command.Send q r t c b sync)
+  Ok (command.Send r q t c sync b)
 
 -- a send, where there are as many arguments as it has
 unfoldable pub send_of : ℕ → Bool → List (List ℕ) → Result Command Kind

@@ -34,8 +34,8 @@ send_line key ranks k =
     record {
       rank = sender ranks k;
       command =
-          Send k (destination key ranks k) (tag_of k) (context_of k) (Gen (length_of key k))
-          (k % 8 == 7);
+          Send (destination key ranks k) k (tag_of k) (context_of k) (k % 8 == 7)
+          (Gen (length_of key k));
     }
 
 -- the line of its receive, whose name is 16384 + k

@@ -15,7 +15,7 @@ are_bytes (Gen len) = true
 
 -- and so has what a command sends
 abbrev pub has_bytes : Command → Bool
-has_bytes (Send q to tag ctx body sync) = are_bytes body
+has_bytes (Send to q tag ctx sync body) = are_bytes body
 has_bytes _ = true
 
 -- the bytes spell this script, whose limits hold

@@ -88,7 +88,7 @@ fn push_send(
     sync: bool,
 ) -> Result<(), AllocError>
     ensures ok { OnOk result (string_bytes out.new ≡ string_bytes out.old
-        ++ join_with_byte 32 (words_lem (Command.Send q to tag ctx body.now sync))) }
+        ++ join_with_byte 32 (words_lem (Command.Send to q tag ctx sync body.now))) }
     ensures of_bytes { OnOk result (are_bytes body.now ≡ true) }
 {
     out.push_str(if sync { "issend" } else { "isend" })?;

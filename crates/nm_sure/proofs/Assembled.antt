@@ -66,7 +66,7 @@ from_line ranks rank number (l ∷ lines) k c fine here =
     by_rank false is k here own later = later k here
 
 pub within_range : (ranks : ℕ) (c : Command) → is_in_range ranks c ≡ true → IsWithin ranks c
-within_range ranks (command.Send q to tag ctx body sync) fine = low_of to ranks (second _ (nat_lt to ranks) _ _ _ fine)
+within_range ranks (command.Send to q tag ctx sync body) fine = low_of to ranks (second _ (nat_lt to ranks) _ _ _ fine)
 within_range ranks (command.Recv q (peer.One from) tag ctx cap) fine = low_of from ranks
     (second _ (nat_lt from ranks) _ _ _ fine)
 within_range ranks (command.Recv q peer.Any tag ctx cap) fine = tt

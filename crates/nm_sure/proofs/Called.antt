@@ -83,11 +83,11 @@ first_goes _ = record { to = 0; tag = 0; ctx = 0; asks = false }
 pub sent_for : (eager : ℕ) (commands : List Numbered) (l q to tag ctx : ℕ) (body : Body) (sync : Bool)
     (to' n t c len : ℕ) (h : How) →
     Fits eager commands (event.Send to' n t c len h l) →
-    command_at commands l ≡ Some (command.Send q to tag ctx body sync) →
+    command_at commands l ≡ Some (command.Send to q tag ctx sync body) →
     (to ≡ to') × (tag ≡ t) × (ctx ≡ c) × (is_ask (how_of eager sync (body_len body)) ≡ is_ask h)
 sent_for eager commands l q to tag ctx body sync to' n t c len h calls here =
-    let own : calls.command ≡ command.Send q to tag ctx body sync =
-    same_command commands l calls.command (command.Send q to tag ctx body sync) calls.at_line here in
+    let own : calls.command ≡ command.Send to q tag ctx sync body =
+    same_command commands l calls.command (command.Send to q tag ctx sync body) calls.at_line here in
     let same = ap (λ (c : Command). first_goes (start_of eager commands [] l c)) (sym own)
     ∙ ap (λ (ws : List Happened). first_goes ws) calls.start in (
       ap (λ (g : Goes). g.to) same,

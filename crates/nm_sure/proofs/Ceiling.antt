@@ -75,7 +75,7 @@ module _ (shape : Sizes) (lines : List Line) (at : ℕ → ℕ) (hist : ℕ → 
   -- the place of the send in its channel is that of the message
   send_ready : (T i l q to tag ctx : ℕ) (body : Body) (sync : Bool) (n : ℕ) → ((t : ℕ) → t ≤ T → Under t) →
       i < shape.ranks →
-      to < shape.ranks → command_at (commands_of i lines) l ≡ Some (command.Send q to tag ctx body sync) →
+      to < shape.ranks → command_at (commands_of i lines) l ≡ Some (command.Send to q tag ctx sync body) →
       is_ask (how_of shape.eager sync (body_len body)) ≡ true → request_at (early T i) l ≡ Some (Sending to n) →
       is_complete (early T i) (Sending to n) ≡ true →
       has_run lines F to (receive_for lines (record { from = i; to = to; tag = tag; ctx = ctx }) l) ≡ true
@@ -151,7 +151,7 @@ module _ (shape : Sizes) (lines : List Line) (at : ℕ → ℕ) (hist : ℕ → 
 
   -- the request of a start is of its sort
   no_post : (i l q to tag ctx : ℕ) (body : Body) (sync : Bool) (T number : ℕ) →
-      command_at (commands_of i lines) l ≡ Some (command.Send q to tag ctx body sync) →
+      command_at (commands_of i lines) l ≡ Some (command.Send to q tag ctx sync body) →
       request_at (early T i) l ≡ Some (Receiving number) → ⊥
   no_post i l q to tag ctx body sync T number here asked =
       let made = post_made shape.eager (commands_of i lines) (early T i) l number
@@ -161,7 +161,7 @@ module _ (shape : Sizes) (lines : List Line) (at : ℕ → ℕ) (hist : ℕ → 
       not_both : (commands : List Numbered) (p : post.Post)
           (calls : Calls shape.eager (commands_of i lines) l (event.Post (record p { number = 0 }) l)) → ⊥
       not_both commands p calls =
-          let own = same_command (commands_of i lines) l calls.command (command.Send q to tag ctx body sync)
+          let own = same_command (commands_of i lines) l calls.command (command.Send to q tag ctx sync body)
           calls.at_line here in
           false≢true (ap (λ (c : Command). is_posting (start_of shape.eager (commands_of i lines) [] l c)) (sym own)
           ∙ ap (λ (ws : List Happened). is_posting ws) calls.start)
@@ -181,7 +181,7 @@ module _ (shape : Sizes) (lines : List Line) (at : ℕ → ℕ) (hist : ℕ → 
   ready : (T i l : ℕ) (r : Request) (c : Command) → ((t : ℕ) → t ≤ T → Under t) → command_at (commands_of i lines) l
       ≡ Some c →
       request_at (early T i) l ≡ Some r → is_complete (early T i) r ≡ true → is_ready shape.eager lines F i l c ≡ true
-  ready T i l (Sending to' n) (command.Send q to tag ctx body sync) under here asked complete =
+  ready T i l (Sending to' n) (command.Send to q tag ctx sync body) under here asked complete =
       by_how (is_ask (how_of shape.eager sync (body_len body))) refl
     where
       to_same : to' ≡ to
@@ -197,11 +197,11 @@ module _ (shape : Sizes) (lines : List Line) (at : ℕ → ℕ) (hist : ℕ → 
           ≡ true
       by_how false ask = refl
       by_how true ask =
-          let peers = run.peers i l (command.Send q to tag ctx body sync) here in
+          let peers = run.peers i l (command.Send to q tag ctx sync body) here in
           send_ready T i l q to tag ctx body sync n under peers.0 peers.1 here ask
           (asked ∙ ap (λ (t : ℕ). Some (Sending t n)) to_same)
           (subst (λ (t : ℕ). is_complete (early T i) (Sending t n) ≡ true) to_same complete)
-  ready T i l (Receiving number) (command.Send q to tag ctx body sync) under here asked complete =
+  ready T i l (Receiving number) (command.Send to q tag ctx sync body) under here asked complete =
       absurd (no_post i l q to tag ctx body sync T number here asked)
   ready T i l (Receiving number) (command.Recv q (peer.One from) (pick.One tag) ctx cap) under here asked complete =
       let peers = run.peers i l (command.Recv q (peer.One from) (pick.One tag) ctx cap) here in

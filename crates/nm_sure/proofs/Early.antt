@@ -217,7 +217,7 @@ module _ (shape : Sizes) (lines : List Line) (at : ℕ → ℕ) (hist : ℕ → 
     pub asks : is_ask (how_of shape.eager sync (body_len body)) ≡ is_ask sent.how
 
   pub own_send : (T i l q to tag ctx : ℕ) (body : Body) (sync : Bool) (n : ℕ) →
-      command_at (commands_of i lines) l ≡ Some (command.Send q to tag ctx body sync) →
+      command_at (commands_of i lines) l ≡ Some (command.Send to q tag ctx sync body) →
       request_at (early T i) l ≡ Some (Sending to n) → Own T i l q to tag ctx body sync n
   own_send T i l q to tag ctx body sync n here asked =
       let commands : List Numbered = commands_of i lines in

@@ -68,8 +68,8 @@ module _ (eager : ℕ) (commands : List Numbered) (plain : ArePlainLines command
 
   starts_fit : (h : List Event) (line : ℕ) (c : Command) → command_at commands line ≡ Some c → is_plain c ≡ true →
       (b : Bool) → AllFit eager commands (cond b (start_of eager commands h line c) [])
-  starts_fit h line (command.Send q to tag ctx body sync) at' plain true =
-      (record { command = command.Send q to tag ctx body sync; at_line = at'; plain = plain; start = refl }, tt)
+  starts_fit h line (command.Send to q tag ctx sync body) at' plain true =
+      (record { command = command.Send to q tag ctx sync body; at_line = at'; plain = plain; start = refl }, tt)
   starts_fit h line (command.Recv q from tag ctx cap) at' plain true =
       (record { command = command.Recv q from tag ctx cap; at_line = at'; plain = plain; start = refl }, tt)
   starts_fit h line (command.Wait q) at' plain true = tt

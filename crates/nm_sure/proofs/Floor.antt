@@ -298,7 +298,7 @@ module _ (shape : Sizes) (lines : List Line) (at : ℕ → ℕ) (hist : ℕ → 
 
       -- a send that is eager, or whose receive ran, has left
       send_complete : (i l q to tag ctx : ℕ) (body : Body) (sync : Bool) (n : ℕ) → i < shape.ranks → to < shape.ranks →
-          command_at (commands_of i lines) l ≡ Some (command.Send q to tag ctx body sync) →
+          command_at (commands_of i lines) l ≡ Some (command.Send to q tag ctx sync body) →
           request_at (hist i) l ≡ Some (Sending to n) →
           (is_ask (how_of shape.eager sync (body_len body)) ≡ true →
           has_run lines F to (receive_for lines (record { from = i; to = to; tag = tag; ctx = ctx }) l) ≡ true) →
@@ -337,7 +337,7 @@ module _ (shape : Sizes) (lines : List Line) (at : ℕ → ℕ) (hist : ℕ → 
           absurd (false≢true plain)
       receive_case i l number (command.Recv q (peer.One from) pick.Any ctx cap) asked here plain posts ready =
           absurd (false≢true plain)
-      receive_case i l number (command.Send q to tag ctx body sync) asked here plain posts ready =
+      receive_case i l number (command.Send to q tag ctx sync body) asked here plain posts ready =
           absurd (false≢true posts)
       receive_case i l number (command.Wait q) asked here plain posts ready = absurd (false≢true posts)
       receive_case i l number (command.Test q) asked here plain posts ready = absurd (false≢true plain)
@@ -352,8 +352,8 @@ module _ (shape : Sizes) (lines : List Line) (at : ℕ → ℕ) (hist : ℕ → 
           command_at (commands_of i lines) l ≡ Some c → is_plain c ≡ true →
           is_sending (start_of shape.eager (commands_of i lines) [] l c) ≡ true →
           is_ready shape.eager lines F i l c ≡ true → is_complete (hist i) (Sending to' n) ≡ true
-      send_case i l to' n (command.Send q to tag ctx body sync) made asked here plain sends ready =
-          let peers = run.peers i l (command.Send q to tag ctx body sync) here in
+      send_case i l to' n (command.Send to q tag ctx sync body) made asked here plain sends ready =
+          let peers = run.peers i l (command.Send to q tag ctx sync body) here in
           let goes = sent_for shape.eager (commands_of i lines) l q to tag ctx body sync to' n made.sent.tag
           made.sent.ctx made.sent.len
           made.sent.how made.fits here in
@@ -420,7 +420,7 @@ module _ (shape : Sizes) (lines : List Line) (at : ℕ → ℕ) (hist : ℕ → 
               (sym (ap (λ (o : Option ℕ). option_map_or (is_ready_at shape.eager lines F i) o true)
               (ap (λ (cs : List Numbered). holder cs q) (sym same) ∙ held)) ∙ goes)
       stops i s (command.Await from tag ctx) same plain stop goes = false≢true plain
-      stops i s (command.Send q to tag ctx body sync) same plain stop goes = false≢true (sym stop)
+      stops i s (command.Send to q tag ctx sync body) same plain stop goes = false≢true (sym stop)
       stops i s (command.Recv q from tags ctx cap) same plain stop goes = false≢true (sym stop)
       stops i s (command.Test q) same plain stop goes = false≢true plain
       stops i s (command.Probe from tag ctx) same plain stop goes = false≢true plain

@@ -145,7 +145,7 @@ numbers_no_matter l (w ∷ ws) = rw (number_no_matter l w, numbers_no_matter l w
 -- a plain command's start asks for its line
 start_asks : (eager l : ℕ) (commands : List Numbered) (h : List Event) (c : Command) → is_some (started_name c) ≡ true →
     is_plain c ≡ true → asks l (start_of eager commands h l c) ≡ true
-start_asks eager l commands h (command.Send q to tag ctx body sync) starts plain = rw (eqb_self l) refl
+start_asks eager l commands h (command.Send to q tag ctx sync body) starts plain = rw (eqb_self l) refl
 start_asks eager l commands h (command.Recv q from tag ctx cap) starts plain = rw (eqb_self l) refl
 start_asks eager l commands h (command.Wait q) starts plain = absurd (false≢true starts)
 start_asks eager l commands h (command.Test q) starts plain = absurd (false≢true plain)
@@ -168,7 +168,7 @@ pub is_taken_by : (commands done : List Numbered) (h : List Event) (l : ℕ) (c 
     IsNamed commands done h → is_plain c ≡ true → answer_of commands h l c ≡ Some (without_bytes a) →
     (x : List Happened) → (is_some (started_name c) ≡ false → x ≡ []) → cond (is_started a) x [] ≡ cond
     (is_taken done c) x []
-is_taken_by commands done h l (command.Send q to tag ctx body sync) a named plain same x none =
+is_taken_by commands done h l (command.Send to q tag ctx sync body) a named plain same x none =
     rw (started_fact (is_some (live commands h q)) a same ∙ ap not (is_live commands done h q named))
     (not_some (holder done q) x)
 is_taken_by commands done h l (command.Recv q from tag ctx cap) a named plain same x none =
@@ -193,7 +193,7 @@ marked n (w ∷ ws) = ap (λ (ps : List Placed). at_place n w ∷ ps) (marked n 
 -- a plain command's start has no number yet, and is the same after any events
 pub start_any : (eager l : ℕ) (commands : List Numbered) (h : List Event) (c : Command) → is_plain c ≡ true →
     start_of eager commands h l c ≡ map without_number (start_of eager commands [] l c)
-start_any eager l commands h (command.Send q to tag ctx body sync) plain = refl
+start_any eager l commands h (command.Send to q tag ctx sync body) plain = refl
 start_any eager l commands h (command.Recv q from tag ctx cap) plain = refl
 start_any eager l commands h (command.Wait q) plain = refl
 start_any eager l commands h (command.Test q) plain = absurd (false≢true plain)
@@ -205,7 +205,7 @@ start_any eager l commands h (command.Mrecv q m cap) plain = absurd (false≢tru
 
 pub no_start : (eager l : ℕ) (commands : List Numbered) (h : List Event) (c : Command) → is_plain c ≡ true →
     is_some (started_name c) ≡ false → start_of eager commands h l c ≡ []
-no_start eager l commands h (command.Send q to tag ctx body sync) plain none = absurd (false≢true (sym none))
+no_start eager l commands h (command.Send to q tag ctx sync body) plain none = absurd (false≢true (sym none))
 no_start eager l commands h (command.Recv q from tag ctx cap) plain none = absurd (false≢true (sym none))
 no_start eager l commands h (command.Wait q) plain none = refl
 no_start eager l commands h (command.Test q) plain none = refl
@@ -280,7 +280,7 @@ freed_by q q' l done false held = held
 pub held_after : (q line l : ℕ) (done : List Numbered) (c : Command) →
     holder_by q (holder done q) line c ≡ Some l →
     ((line ≡ l) × (is_taken done c ≡ true)) ⊎ (holder done q ≡ Some l)
-held_after q line l done (command.Send q' to tag ctx body sync) held = held_by q q' line l done (q' == q) refl held
+held_after q line l done (command.Send to q' tag ctx sync body) held = held_by q q' line l done (q' == q) refl held
 held_after q line l done (command.Recv q' from tag ctx cap) held = held_by q q' line l done (q' == q) refl held
 held_after q line l done (command.Wait q') held = inr (freed_by q q' l done (q' == q) held)
 held_after q line l done (command.Test q') held = inr held
@@ -291,7 +291,7 @@ held_after q line l done (command.Mprobe m from tag ctx) held = inr held
 held_after q line l done (command.Mrecv q' m cap) held = inr held
 
 taken_starts : (done : List Numbered) (c : Command) → is_taken done c ≡ true → is_some (started_name c) ≡ true
-taken_starts done (command.Send q to tag ctx body sync) taken = refl
+taken_starts done (command.Send to q tag ctx sync body) taken = refl
 taken_starts done (command.Recv q from tag ctx cap) taken = refl
 taken_starts done c taken = absurd (false≢true taken)
 

@@ -142,7 +142,7 @@ one_line true l = refl
 one_line false l = refl
 
 pub posts_told : (from tag ctx : ℕ) → ReadsCommands (post_line from tag ctx) (receives_it from tag ctx)
-posts_told from tag ctx eager l commands (command.Send q to t c body sync) plain = refl
+posts_told from tag ctx eager l commands (command.Send to q t c sync body) plain = refl
 posts_told from tag ctx eager l commands (command.Recv q source tags context cap) plain =
     one_line (is_for from tag ctx (record { number = 0; from = source; tag = tags; ctx = context; cap = cap })) l
 posts_told from tag ctx eager l commands (command.Wait q) plain = refl
@@ -159,7 +159,7 @@ send_line to tag ctx (event.Send to' n tag' ctx' len how line) = if_some (ctx ==
 send_line to tag ctx _ = None
 
 abbrev pub sends_it : ℕ → ℕ → ℕ → Command → Bool
-sends_it to tag ctx (command.Send q to' tag' ctx' body sync) = ctx == ctx' && to == to' && tag == tag'
+sends_it to tag ctx (command.Send to' q tag' ctx' sync body) = ctx == ctx' && to == to' && tag == tag'
 sends_it to tag ctx _ = false
 
 pub sends_read : (to tag ctx : ℕ) → ReadsStarts (send_line to tag ctx)
@@ -176,7 +176,7 @@ sends_read to tag ctx = record { numbers = same_line; others = no_line }
     no_line w other = refl
 
 pub sends_told : (to tag ctx : ℕ) → ReadsCommands (send_line to tag ctx) (sends_it to tag ctx)
-sends_told to tag ctx eager l commands (command.Send q to' tag' ctx' body sync) plain =
+sends_told to tag ctx eager l commands (command.Send to' q tag' ctx' sync body) plain =
     one_line (ctx == ctx' && to == to' && tag == tag') l
 sends_told to tag ctx eager l commands (command.Recv q source tags context cap) plain = refl
 sends_told to tag ctx eager l commands (command.Wait q) plain = refl

@@ -93,7 +93,7 @@ line_told : (commands done : List Numbered) (h : List Event) (l q : ℕ) (c : Co
     IsNamed commands done h → is_plain c ≡ true → command_at commands l ≡ Some c →
     answer_of commands h l c ≡ Some (without_bytes a) →
     line_after commands q (line_of_name commands h q) (event.Ran l a) ≡ holder_by q (holder done q) l c
-line_told commands done h l q (command.Send q' to tag ctx body sync) a named plain at' same =
+line_told commands done h l q (command.Send to q' tag ctx sync body) a named plain at' same =
     rw (at', named.line q)
     (start_line q' q l (holder done) (is_started a) (q' == q) refl
     (started_fact (is_some (live commands h q')) a same ∙ ap not (is_live commands done h q' named)))

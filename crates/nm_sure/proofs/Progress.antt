@@ -42,7 +42,7 @@ one_only (w ∷ ws) extra ys (inr one) same =
 
 few_starts : (eager l : ℕ) (commands : List Numbered) (c : Command) → is_plain c ≡ true → (b : Bool) →
     AtMostOne (cond b (start_of eager commands [] l c) [])
-few_starts eager l commands (command.Send q to tag ctx body sync) plain true = inr (_, refl)
+few_starts eager l commands (command.Send to q tag ctx sync body) plain true = inr (_, refl)
 few_starts eager l commands (command.Recv q from tag ctx cap) plain true = inr (_, refl)
 few_starts eager l commands (command.Wait q) plain true = inl refl
 few_starts eager l commands (command.Test q) plain true = absurd (false≢true plain)

@@ -197,7 +197,7 @@ swap4 i j t u c d v = grind (arith, nat_tests)
 
 sends_alike : (k : Channel) (c : Command) → is_plain c ≡ true →
     option_map_or (is_channel k) (send_channel k.from c) false ≡ sends_it k.to k.tag k.ctx c
-sends_alike k (command.Send q to tag ctx body sync) plain = swap4 k.from k.to k.tag tag k.ctx ctx to
+sends_alike k (command.Send to q tag ctx sync body) plain = swap4 k.from k.to k.tag tag k.ctx ctx to
 sends_alike k c plain = refl
 
 pub receives_kept : (k : Channel) (cs : List Numbered) → ArePlainCommands cs →

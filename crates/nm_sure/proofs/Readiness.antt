@@ -225,7 +225,7 @@ module _ (eager : ℕ) (lines : List Line) (at : List ℕ) (rank start : ℕ) (s
   ready_eager eagerly = asked ∙ by_command is.line.command eagerly
     where
       by_command : (c : Command) → is_eager eager c ≡ true → is_ready eager lines at rank start c ≡ true
-      by_command (command.Send q to tag ctx body sync) eagerly = or_left _ _ eagerly
+      by_command (command.Send to q tag ctx sync body) eagerly = or_left _ _ eagerly
       by_command c eagerly = absurd (false≢true eagerly)
 
   -- any other start is ready where its partner ran
@@ -234,7 +234,7 @@ module _ (eager : ℕ) (lines : List Line) (at : List ℕ) (rank start : ℕ) (s
   ready_asked ran ready are slow by =
       by_command is.line.command refl slow is.starts ∙ sym asked
     where
-      by_send : (q to tag ctx : ℕ) (body : Body) (sync : Bool) → is.line.command ≡ command.Send q to tag ctx body sync →
+      by_send : (q to tag ctx : ℕ) (body : Body) (sync : Bool) → is.line.command ≡ command.Send to q tag ctx sync body →
           ready ≡ has_run lines at to (receive_for lines (record { from = rank; to = to; tag = tag; ctx = ctx }) start)
       by_send q to tag ctx body sync same =
           let w : Way = record { from = is.line.rank; to = to; tag = tag; ctx = ctx } in
@@ -274,7 +274,7 @@ module _ (eager : ℕ) (lines : List Line) (at : List ℕ) (rank start : ℕ) (s
 
       by_command : (c : Command) → is.line.command ≡ c → is_eager eager c ≡ false → is_some (started_name c) ≡ true →
           ready ≡ is_ready eager lines at rank start c
-      by_command (command.Send q to tag ctx body sync) same slow starts =
+      by_command (command.Send to q tag ctx sync body) same slow starts =
           by_send q to tag ctx body sync same ∙ sym (or_false _ _ slow)
       by_command (command.Recv q (peer.One from) (pick.One tag) ctx top) same slow starts =
           by_receive q from tag ctx top same

@@ -157,7 +157,7 @@ in_range_at ranks lines k line fine here =
     and_right (nat_lt line.rank ranks) (is_in_range ranks line.command) (passes_at _ lines k line fine here)
 
 short_command : (ranks : ℕ) (c : Command) → is_in_range ranks c ≡ true → sent_len c < 4294967296
-short_command ranks (command.Send q to tag ctx body sync) fine =
+short_command ranks (command.Send to q tag ctx sync body) fine =
     let low = leb-true (body_len body) 1048576
     (and_right (leb q MAX_NAME && ltb to ranks && leb tag MAX_TAG && leb ctx MAX_CONTEXT)
     (leb (body_len body) 1048576) fine) in

@@ -77,7 +77,7 @@ length_sent lengths eager commands s calls =
   where
     by_command : (c : Command) → first_len (start_of eager commands [] s.line c) ≡ s.len →
         is_sending (start_of eager commands [] s.line c) ≡ true → length (sent_bytes c) ≡ s.len
-    by_command (command.Send q to tag ctx body sync) len sends = lengths body ∙ len
+    by_command (command.Send to q tag ctx sync body) len sends = lengths body ∙ len
     by_command (command.Mrecv q m cap) len sends = len
     by_command c len sends = absurd (false≢true sends)
 

@@ -305,7 +305,7 @@ module _ (shape : Sizes) (lines : List Line) (at : ℕ → ℕ) (hist : ℕ → 
           receive_shown i b e rest line q l number a q' from tag ctx cap split what waits alive asked here result
       by_command (command.Recv q' peer.Any tags ctx cap) here plain posts = absurd (false≢true plain)
       by_command (command.Recv q' (peer.One from) pick.Any ctx cap) here plain posts = absurd (false≢true plain)
-      by_command (command.Send q' to tag ctx body sync) here plain posts = absurd (false≢true posts)
+      by_command (command.Send to q' tag ctx sync body) here plain posts = absurd (false≢true posts)
       by_command (command.Wait q') here plain posts = absurd (false≢true posts)
       by_command (command.Test q') here plain posts = absurd (false≢true plain)
       by_command (command.Probe from tag ctx) here plain posts = absurd (false≢true plain)
@@ -324,7 +324,7 @@ module _ (shape : Sizes) (lines : List Line) (at : ℕ → ℕ) (hist : ℕ → 
       by_command : (c : Command) → is_plain c ≡ true → is_sending (start_of shape.eager (commands_of i lines) [] l c)
           ≡ true →
           answer.Sent ≡ result_by lines i l c
-      by_command (command.Send q' to tag ctx body sync) plain sends = refl
+      by_command (command.Send to q' tag ctx sync body) plain sends = refl
       by_command (command.Recv q' from tags ctx cap) plain sends = absurd (false≢true sends)
       by_command (command.Wait q') plain sends = absurd (false≢true sends)
       by_command (command.Test q') plain sends = absurd (false≢true plain)
@@ -355,7 +355,7 @@ module _ (shape : Sizes) (lines : List Line) (at : ℕ → ℕ) (hist : ℕ → 
       is_plain c ≡ true →
       IsNamed (commands_of i lines) done b → answer_of (commands_of i lines) b line c ≡ Some (without_bytes a) →
       a ≡ plain_answer lines i done c
-  answer_is i b e rest line a done (command.Send q to tag ctx body sync) split what here plain named right =
+  answer_is i b e rest line a done (command.Send to q tag ctx sync body) split what here plain named right =
       start_shown (is_some (live (commands_of i lines) b q)) (is_some (holder done q)) a
       (is_live (commands_of i lines) done b q named) right
       ∙ held_answer (holder done q)

@@ -152,7 +152,7 @@ none_is (Some x) none = absurd (false≢true none)
 
 taken_free : (before : List Numbered) (c : Command) → is_taken before c ≡ true →
     (option_and_then (holder before) (name_of c) ≡ None) × (is_some (started_name c) ≡ true)
-taken_free before (command.Send q to tag ctx body sync) taken = (none_is (holder before q) taken, refl)
+taken_free before (command.Send to q tag ctx sync body) taken = (none_is (holder before q) taken, refl)
 taken_free before (command.Recv q from tag ctx cap) taken = (none_is (holder before q) taken, refl)
 taken_free before c taken = absurd (false≢true taken)
 

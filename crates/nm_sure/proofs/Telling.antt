@@ -125,7 +125,7 @@ module _ (lines : List Line) (rank n : ℕ) (c : Numbered) (place : ℕ) (line :
     where
       by_command : (d : Command) → line.command ≡ d → is_some (started_name d) ≡ true →
           start_answer (held_at lines place) ≡ plain_answer lines rank (take n (commands_of rank lines)) line.command
-      by_command (command.Send q to tag ctx body sync) same starts =
+      by_command (command.Send to q tag ctx sync body) same starts =
           ap start_answer (sym (names_of lines rank n c place line here number there q (ap name_of same)))
           ∙ ap (λ (d : Command). plain_answer lines rank (take n (commands_of rank lines)) d) (sym same)
       by_command (command.Recv q from tag ctx cap) same starts =
@@ -160,7 +160,7 @@ module _ (lines : List Line) (rank n : ℕ) (c : Numbered) (place : ℕ) (line :
           ap (λ (o : Option ℕ). option_map_or (result_at lines rank) o answer.Null)
           (sym (names_of lines rank n c place line here number there q (ap name_of same)))
           ∙ ap (λ (d : Command). plain_answer lines rank (take n (commands_of rank lines)) d) (sym same)
-      by_command (command.Send q to tag ctx body sync) same starts = absurd (false≢true (sym starts))
+      by_command (command.Send to q tag ctx sync body) same starts = absurd (false≢true (sym starts))
       by_command (command.Recv q from tag ctx cap) same starts = absurd (false≢true (sym starts))
       by_command (command.Test q) same starts = silent (command.Test q) same refl refl
       by_command (command.Probe from tag ctx) same starts = silent (command.Probe from tag ctx) same refl refl

@@ -104,8 +104,8 @@ wait_in g b n q false false = refl
 one_send : (b : List Numbered) (n : ℕ) (w : Way) (r : ℕ) (c : Command) → (t : Bool) → (r == w.from) ≡ t →
     added (sends_it w) b (cond t (record { line = n; command = c } ∷ []) [])
     ≡ cond (is_none (option_and_then (holder b) (name_of c))) (number_if w (way_of_send r c) n) []
-one_send b n w r (command.Send q to tag ctx body sync) true is =
-    one_in (sends_it w) b n (command.Send q to tag ctx body sync) (same_way v w) passes (is_none (holder b q))
+one_send b n w r (command.Send to q tag ctx sync body) true is =
+    one_in (sends_it w) b n (command.Send to q tag ctx sync body) (same_way v w) passes (is_none (holder b q))
   where
     v : Way
     v = record { from = r; to = to; tag = tag; ctx = ctx }
@@ -115,7 +115,7 @@ one_send b n w r (command.Send q to tag ctx body sync) true is =
         let same : r ≡ w.from = same_number r w.from is in
         ap (λ (f : ℕ). is_channel (channel_of w) (record { from = f; to = to; tag = tag; ctx = ctx })) (sym same)
         ∙ same_turned w v
-one_send b n w r (command.Send q to tag ctx body sync) false is =
+one_send b n w r (command.Send to q tag ctx sync body) false is =
     none_in n (is_none (holder b q)) (same_way (record { from = r; to = to; tag = tag; ctx = ctx }) w) (rw is refl)
 one_send b n w r (command.Recv q from tag ctx top) true is =
     silent_in (sends_it w) n (command.Recv q from tag ctx top) refl (is_none (holder b q))
@@ -196,9 +196,9 @@ one_receive b n w r (command.Recv q (peer.One from) (pick.One tag) ctx top) fals
 one_receive b n w r (command.Recv q from tag ctx top) true is =
     silent_in (takes_it w) n (command.Recv q from tag ctx top) refl (is_none (holder b q))
 one_receive b n w r (command.Recv q from tag ctx top) false is = no_numbers (is_none (holder b q))
-one_receive b n w r (command.Send q to tag ctx body sync) true is =
-    silent_in (takes_it w) n (command.Send q to tag ctx body sync) refl (is_none (holder b q))
-one_receive b n w r (command.Send q to tag ctx body sync) false is = no_numbers (is_none (holder b q))
+one_receive b n w r (command.Send to q tag ctx sync body) true is =
+    silent_in (takes_it w) n (command.Send to q tag ctx sync body) refl (is_none (holder b q))
+one_receive b n w r (command.Send to q tag ctx sync body) false is = no_numbers (is_none (holder b q))
 one_receive b n w r (command.Wait q) t is = wait_in (takes_it w) b n q t (is_none (holder b q))
 one_receive b n w r c true is = refl
 one_receive b n w r c false is = refl

@@ -41,7 +41,7 @@ use Rattle.nm_types.proofs.TruthLemmas.{and_left}
 
 -- a command's other rank is one of the run
 abbrev pub IsWithin : ℕ → Command → Type 0
-IsWithin ranks (command.Send q to tag ctx body sync) = to < ranks
+IsWithin ranks (command.Send to q tag ctx sync body) = to < ranks
 IsWithin ranks (command.Recv q (peer.One from) tag ctx cap) = from < ranks
 IsWithin ranks _ = Unit {0}
 
@@ -147,7 +147,7 @@ named_call eager commands p line calls = by_command calls.command calls.plain ca
         sym (ap (λ (ws : List Happened). is_first_named ws) start)
     by_command (command.Recv q peer.Any tags ctx cap) plain start = absurd (false≢true plain)
     by_command (command.Recv q (peer.One from) pick.Any ctx cap) plain start = absurd (false≢true plain)
-    by_command (command.Send q to tag ctx body sync) plain start =
+    by_command (command.Send to q tag ctx sync body) plain start =
         sym (ap (λ (ws : List Happened). is_first_named ws) start)
     by_command (command.Wait q) plain start = sym (ap (λ (ws : List Happened). is_first_named ws) start)
     by_command (command.Test q) plain start = absurd (false≢true plain)

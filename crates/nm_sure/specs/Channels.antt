@@ -25,7 +25,7 @@ is_channel a b = a.from == b.from && a.to == b.to && a.tag == b.tag && a.ctx == 
 
 -- the channel of a rank's send
 abbrev pub send_channel : ℕ → Command → Option Channel
-send_channel rank (Send q to tag ctx body sync) =
+send_channel rank (Send to q tag ctx sync body) =
     Some (record { from = rank; to = to; tag = tag; ctx = ctx })
 send_channel rank _ = None
 

@@ -19,7 +19,7 @@ held_in names rank q = get same_name names (record { rank = rank; q = q })
 
 -- the name of a plain command
 abbrev pub name_of : Command → Option ℕ
-name_of (Send q to tag ctx body sync) = Some q
+name_of (Send to q tag ctx sync body) = Some q
 name_of (Recv q from tag ctx cap) = Some q
 name_of (Wait q) = Some q
 name_of _ = None

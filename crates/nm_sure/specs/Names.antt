@@ -9,7 +9,7 @@ use Rattle.nm_types.specs.Commands.{Numbered}
 
 -- the line of the start that a name stands for, after the command of a line more
 abbrev pub holder_by : ℕ → Option ℕ → ℕ → Command → Option ℕ
-holder_by q held line (Send q' to tag ctx body sync) =
+holder_by q held line (Send to q' tag ctx sync body) =
     if q' == q && is_none held then Some line else held
 holder_by q held line (Recv q' from tag ctx cap) =
     if q' == q && is_none held then Some line else held
@@ -22,7 +22,7 @@ holder commands q = fold (λ held c. holder_by q held c.line c.command) None com
 
 -- the name that a start gives its request
 abbrev pub started_name : Command → Option ℕ
-started_name (Send q to tag ctx body sync) = Some q
+started_name (Send to q tag ctx sync body) = Some q
 started_name (Recv q from tag ctx cap) = Some q
 started_name _ = None
 

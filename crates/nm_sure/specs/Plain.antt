@@ -19,7 +19,7 @@ use Rattle.nm_sure.specs.Names.{holder}
 
 -- a send, a receive with a named source and a named tag, or a wait
 abbrev pub is_plain : Command → Bool
-is_plain (Send q to tag ctx body sync) = true
+is_plain (Send to q tag ctx sync body) = true
 is_plain (Recv q (peer.One from) (pick.One tag) ctx cap) = true
 is_plain (Wait q) = true
 is_plain _ = false
@@ -44,10 +44,10 @@ has_run lines at rank start =
 -- The request of a start is ready: a receive where its send ran, a send where it is eager or its
 -- receive ran.
 abbrev pub is_ready : ℕ → List Line → List ℕ → ℕ → ℕ → Command → Bool
-is_ready eager lines at rank line (Send q to tag ctx body sync) =
+is_ready eager lines at rank line (Send to q tag ctx sync body) =
     not (is_ask (how_of eager sync (body_len body)))
     || option_map_or (λ k. has_run lines at to (receive_for lines k line))
-    (send_channel rank (Send q to tag ctx body sync)) false
+    (send_channel rank (Send to q tag ctx sync body)) false
 is_ready eager lines at rank line (Recv q from tag ctx cap) =
     option_map_or (λ k. has_run lines at k.from (send_for lines k line))
     (receive_channel rank (Recv q from tag ctx cap)) false

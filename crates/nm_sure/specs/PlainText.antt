@@ -25,7 +25,7 @@ shown_of k cap body =
 
 -- what the request of a start ends with
 abbrev pub result_by : List Line → ℕ → ℕ → Command → Answer
-result_by lines rank line (Send q to tag ctx body sync) = answer.Sent
+result_by lines rank line (Send to q tag ctx sync body) = answer.Sent
 result_by lines rank line (Recv q from tag ctx cap) =
     option_map_or (λ k. option_map_or (λ s. shown_of k cap (sent_bytes s.command))
     (send_for lines k line) answer.Null)
@@ -43,7 +43,7 @@ start_answer held = if is_none held then answer.Started else answer.Busy
 
 -- the answer of a command behind those before it
 abbrev pub plain_answer : List Line → ℕ → List Numbered → Command → Answer
-plain_answer lines rank before (Send q to tag ctx body sync) = start_answer (holder before q)
+plain_answer lines rank before (Send to q tag ctx sync body) = start_answer (holder before q)
 plain_answer lines rank before (Recv q from tag ctx cap) = start_answer (holder before q)
 plain_answer lines rank before (Wait q) =
     option_map_or (result_at lines rank) (holder before q) answer.Null

@@ -48,5 +48,5 @@ pub record IsStart (lines : List Line) (rank start : ℕ) : Type 0 where
 
 -- a send that leaves at once
 abbrev pub is_eager : ℕ → Command → Bool
-is_eager eager (Send q to tag ctx body sync) = not (is_ask (how_of eager sync (body_len body)))
+is_eager eager (Send to q tag ctx sync body) = not (is_ask (how_of eager sync (body_len body)))
 is_eager eager _ = false

@@ -20,7 +20,7 @@ same_way a b = a.from == b.from && (a.to == b.to && (a.tag == b.tag && a.ctx == 
 
 -- the channel of a send
 abbrev pub way_of_send : ℕ → Command → Option Way
-way_of_send rank (Send q to tag ctx body sync) =
+way_of_send rank (Send to q tag ctx sync body) =
     Some (record { from = rank; to = to; tag = tag; ctx = ctx })
 way_of_send rank _ = None
 

@@ -21,7 +21,7 @@ pub fn floods_keep_the_limits()
 pub fn floods_name_their_messages()
     ensures { (key ranks messages : ℕ) (test : Command → Bool) →
         ((q to tag ctx : ℕ) (body : Body) (sync : Bool) →
-        test (Send q to tag ctx body sync) ≡ true) →
+        test (Send to q tag ctx sync body) ≡ true) →
         ((q from tag ctx cap : ℕ) →
         test (Recv q (peer.One from) (pick.One tag) ctx cap) ≡ true) →
         ((q : ℕ) → test (Wait q) ≡ true) →

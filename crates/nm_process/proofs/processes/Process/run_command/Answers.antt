@@ -14,5 +14,5 @@ returns-in-Send-clause-tried c =
     let b = c.send.new.self in
     let s = c.in-Send in
     subst (λ (x : Command). IfOk c.send.result (HasTried a b x c.args.line)) (sym s.is)
-    (ok_step (HasTried a b (command.Send s.q s.to s.tag s.ctx s.body s.sync) c.args.line) c.send.result
+    (ok_step (HasTried a b (command.Send s.to s.q s.tag s.ctx s.sync s.body) c.args.line) c.send.result
     step_is.Ran c.send.ensures.ran c.send.ensures.tried (λ tried. (refl, tried)))

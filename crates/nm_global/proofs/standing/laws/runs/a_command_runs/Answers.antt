@@ -156,10 +156,10 @@ returns c shape lines i a b past in_lines right standing ran =
           (starts s.mid.rank s.begun.request s.begun.starts) tt s.answered)
 
       sends : (q to tag ctx : ℕ) (body : Body) (sync : Bool) →
-          ran.line.command ≡ command.Send q to tag ctx body sync →
+          ran.line.command ≡ command.Send to q tag ctx sync body →
           HasTriedSend a b' q to tag ctx body sync line → GoesOn shape lines me b.rank past
       sends q to tag ctx body sync same tried = ⊎_elim (is_busy q) started tried where
-        all : is_in_range a.rank.sizes.ranks (command.Send q to tag ctx body sync) ≡ true
+        all : is_in_range a.rank.sizes.ranks (command.Send to q tag ctx sync body) ≡ true
         all = ap (is_in_range a.rank.sizes.ranks) (sym same)
             ∙ all_at (λ x. is_in_range a.rank.sizes.ranks x.command) lines ran.place ran.line
             in_lines.in_range ran.is.here
@@ -256,7 +256,7 @@ returns c shape lines i a b past in_lines right standing ran =
 
       by_command : (x : Command) → ran.line.command ≡ x → HasTried a b' x line Took →
           GoesOn shape lines me b.rank past
-      by_command (command.Send q to tag ctx body sync) same t = sends q to tag ctx body sync same t.1
+      by_command (command.Send to q tag ctx sync body) same t = sends q to tag ctx body sync same t.1
       by_command (command.Recv q from tag ctx room) same t = receives q from tag ctx room t.1
       by_command (command.Wait q) same t = ⊎_elim (is_null q) (ends q (λ k x is shows.
           c.a_result_may_be_recorded.ensures.wait commands past.log a.rank.events line q k x
