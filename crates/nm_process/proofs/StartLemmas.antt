@@ -25,7 +25,7 @@ use Rattle.nm_rank.specs.Calls.{Starts}
 use Rattle.nm_rank.specs.Ranks.{RankView, request_of}
 use Rattle.nm_rank.specs.Requests.{cancel_events}
 use Rattle.nm_process.specs.declared.steps.Handle.{Handle}
-use Rattle.nm_process.specs.Names.{AreHeld, AreLive, IsHeld}
+use Rattle.nm_process.specs.Names.{AreGiven, AreHeld, IsHeld, named}
 use Rattle.nm_process.specs.Processes.{ProcessView}
 use Rattle.nm_process.specs.Starts.{HasAnswered, HasStarted, KeepsHandles, SetsName}
 use Rattle.nm_process.proofs.HeldLemmas.{Leaves, all_held, held_after}
@@ -60,15 +60,14 @@ start_keeps bodies ws kind v w r handles starts leaves held =
 -- a start of a free name, and its answer
 pub start_answered : (Call : Req → RankView → RankView → Type 0)
     (kind : Kind) (a mid b : ProcessView) (v : RankView) (r : Req) (q line : ℕ) →
-    AddsRequest a.rank.requests v.requests r kind → AreLive a.rank.requests a.names →
-    lookup (nat_eq q) a.names ≡ None → Call r a.rank v → mid.rank ≡ v →
+    AddsRequest a.rank.requests v.requests r kind → AreGiven a.rank.requests a.names →
+    named a q ≡ None → Call r a.rank v → mid.rank ≡ v →
     ((k : ℕ) → lookup (nat_eq k) mid.names ≡ cond (nat_eq q k) (Some r) (lookup (nat_eq k) a.names)) →
     (mid.at ≡ a.at) × (mid.next ≡ a.next) →
     HasAnswered mid b line answer.Started → HasStarted Call kind a b q line
-start_answered Call kind a mid b v r q line adds live free starts is sets place answered =
+start_answered Call kind a mid b v r q line adds given free starts is sets place answered =
     record {
-      free = ap (λ (o : Option Req). option_map request_of (option_and_then (kind_of a.rank.requests) o))
-          free;
+      free = free;
       mid = mid;
       begun = record {
         request = r;
@@ -78,7 +77,7 @@ start_answered Call kind a mid b v r q line adds live free starts is sets place 
               own = named_own v.requests a.names mid.names q (Some r) sets
                   ∙ ap (λ (k : Option Kind). option_map request_of k) adds.live;
               others = λ k isnt. named_others v.requests a.names mid.names q (Some r) sets k isnt
-                  ∙ named_more a.rank.requests v.requests r kind adds a.names live k;
+                  ∙ named_more a.rank.requests v.requests r kind adds a.names given k;
             });
         place = place;
       };

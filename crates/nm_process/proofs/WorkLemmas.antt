@@ -10,15 +10,15 @@ use Rattle.nm_request.specs.declared.Req.{Req}
 use Rattle.nm_request.specs.Requests.{Live}
 use Rattle.nm_rank.specs.Ranks.{RankView}
 use Rattle.nm_process.specs.declared.steps.Handle.{Handle}
-use Rattle.nm_process.specs.Names.{AreHeld, AreLive}
+use Rattle.nm_process.specs.Names.{AreHeld, AreGiven}
 use Rattle.nm_process.specs.Places.{ArePlaces, place_at}
 use Rattle.nm_process.specs.Work.{IsAtWork}
 use Rattle.nm_process.proofs.PlaceLemmas.{IsPlaceFrom, place_from}
 
--- where there is no name, each stands for a live request, and where there is no handle, each for a message
-pub none_live : (requests : Live) (names : List (ℕ × Req)) → names ≡ [] → AreLive requests names
-none_live requests names none = subst (λ (ns : List (ℕ × Req)). AreLive requests ns) (sym none) (record {
-  live = λ q. tt;
+-- where there is no name, each has a request of its own, and where there is no handle, each a message
+pub none_given : (requests : Live) (names : List (ℕ × Req)) → names ≡ [] → AreGiven requests names
+none_given requests names none = subst (λ (ns : List (ℕ × Req)). AreGiven requests ns) (sym none) (record {
+  older = λ q. tt;
   one_name = λ q p r one two. cc;
 })
 

@@ -1,6 +1,6 @@
 -- The names of a process's requests, and the handles of its claimed messages.
-use Rattle.std.specs.Prelude.{◌≡◌, ℕ, ◌<◌, Option, Some, option_map, option_and_then, IfSome, IsSome}
-use Rattle.std.specs.Prelude.{IsTrue, List, nat_eq}
+use Rattle.std.specs.Prelude.{◌≡◌, ℕ, ◌<◌, Option, Some, option_map, option_and_then, IfSome, IsTrue}
+use Rattle.std.specs.Prelude.{List, nat_eq}
 use Rattle.std.specs.Map.{lookup}
 use Rattle.nm_history.specs.Answers.{Message}
 use Rattle.nm_history.specs.Completion.{Request}
@@ -30,19 +30,18 @@ message_with x = record { from = x.from; n = x.n }
 abbrev pub handled : ProcessView → ℕ → Option Message
 handled v m = option_map message_with (lookup (nat_eq m) v.handles)
 
--- a request is live, and was added before the next one
-pub record IsOlder (requests : Live) (r : Req) : Type 0 where
-  pub live : IsSome (kind_of requests r)
-  pub older : r.turn < requests.added
+-- a request was added before the next one
+abbrev pub IsOlder : Live → Req → Type 0
+IsOlder requests r = r.turn < requests.added
 
 -- a message came and was claimed, and no receive took it yet
 pub record IsHeld (h : List Event) (x : Handle) : Type 0 where
   pub came : IsTrue (happened (is_arrival x.from x.n) h)
   pub claimed : IsTrue (is_claimed h (matched_pairs h) x.from x.n)
 
--- each name stands for a live request of its own
-pub record AreLive (requests : Live) (names : List (ℕ × Req)) : Type 0 where
-  pub live : (q : ℕ) → IfSome (lookup (nat_eq q) names) (IsOlder requests)
+-- each name was given a request of its own, which may have ended since
+pub record AreGiven (requests : Live) (names : List (ℕ × Req)) : Type 0 where
+  pub older : (q : ℕ) → IfSome (lookup (nat_eq q) names) (IsOlder requests)
   pub one_name :
       (q p : ℕ) (r : Req) → lookup (nat_eq q) names ≡ Some r → lookup (nat_eq p) names ≡ Some r →
       q ≡ p

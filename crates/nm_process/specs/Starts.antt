@@ -33,6 +33,10 @@ use Rattle.nm_process.specs.Processes.{ProcessView}
 abbrev pub KeepsAllBut : ProcessView → ProcessView → Type 0
 KeepsAllBut a b = b ≡ record a { rank = b.rank }
 
+-- the process stands at the same command of the same script
+abbrev pub StandsStill : ProcessView → ProcessView → Type 0
+StandsStill a b = (b.next ≡ a.next) × (b.at ≡ a.at) × (b.own ≡ a.own)
+
 -- the rank recorded the answer of a line's command, and did nothing else
 pub record HasAnswered (a b : ProcessView) (line : ℕ) (x : Answer) : Type 0 where
   pub records : Records line x a.rank b.rank

@@ -1,6 +1,6 @@
 //! What each command does.
 
-ghost use Rattle.std.specs.Prelude.{◌≡◌, ◌≢◌, ◌<◌, ◌≤◌, ◌⊎◌, ℕ, Some, nat_eq, IfOk, IfSome, IfNone};
+ghost use Rattle.std.specs.Prelude.{◌≡◌, ◌≢◌, ◌<◌, ◌≤◌, ◌⊎◌, ℕ, None, Some, Err, is_some, nat_eq, IfOk};
 ghost use Rattle.std.specs.Prelude.{OnErr, OnOk, if◌then◌else◌};
 ghost use Rattle.std.specs.Map.{lookup};
 ghost use Rattle.nm_types.specs.declared.limits.TheConstants.{MAX_BODY, MAX_STAMP, MAX_TAG};
@@ -10,12 +10,13 @@ ghost use Rattle.nm_rank.specs.Ranks.{IsFresh};
 ghost use Rattle.nm_rank.specs.Sends.{next_send};
 ghost use Rattle.nm_rank.specs.Steps.{StartsSend};
 ghost use Rattle.nm_process.specs.declared.steps.Step.TheVariants as step_is;
-ghost use Rattle.nm_process.specs.Names.{IsOlder};
+ghost use Rattle.nm_rank.specs.declared.answers.FinishFault.TheVariants as finish_fault;
+ghost use Rattle.nm_process.specs.Names.{IsOlder, named};
 ghost use Rattle.nm_process.specs.Starts.{Ends, HasAnswered, HasCancelled, HasProbed};
 ghost use Rattle.nm_process.specs.Starts.{HasTriedAwait};
 ghost use Rattle.nm_process.specs.Starts.{HasTriedMprobe, HasTriedMrecv, HasTriedReceive};
 ghost use Rattle.nm_process.specs.Starts.{HasTriedSend, HasTriedTest, HasTriedWait, IsNull};
-ghost use Rattle.nm_process.specs.Starts.{IsPending, answer_for as answer_for_lem};
+ghost use Rattle.nm_process.specs.Starts.{IsPending, StandsStill, answer_for as answer_for_lem};
 
 use crate::{Handle, Process, Step};
 use indexmap::IndexMap;
@@ -44,7 +45,7 @@ fn answer_for(cancelled: Cancelled) -> Answer
     }
 }
 
-/// The request of this name, if it has one.
+/// The request that was last started under this name, if one was. It may have ended.
 pub(crate) fn request_of_name(requests: &IndexMap<u16, Req>, q: u16) -> Option<Req>
     ensures { result ≡ lookup (nat_eq q) requests.now.entries }
 {
@@ -96,13 +97,12 @@ impl Process {
         requires tag { tag ≤ MAX_TAG }
         requires short { body_len body.now ≤ MAX_BODY }
         requires fresh { IsFresh self.old.rank }
-        ensures places { (self.new.next ≡ self.old.next) × (self.new.at ≡ self.old.at)
-            × (self.new.own ≡ self.old.own) }
+        ensures places { StandsStill self.old self.new }
         ensures ran { IfOk result (λ step. step ≡ step_is.Ran) }
         ensures tried { OnOk result
             (HasTriedSend self.old self.new q to tag ctx body.now sync line) }
     {
-        if self.requests.contains_key(&q) {
+        if self.is_taken(q) {
             return self.answer(line, Answer::Busy);
         }
         let request = send_copy(&mut self.rank, to, tag, ctx, body, sync, line)?;
@@ -121,13 +121,12 @@ impl Process {
         line: u32,
     ) -> Result<Step, Memory>
         requires fresh { IsFresh self.old.rank }
-        ensures places { (self.new.next ≡ self.old.next) × (self.new.at ≡ self.old.at)
-            × (self.new.own ≡ self.old.own) }
+        ensures places { StandsStill self.old self.new }
         ensures ran { IfOk result (λ step. step ≡ step_is.Ran) }
         ensures tried { OnOk result
             (HasTriedReceive self.old self.new q from tag ctx cap line) }
     {
-        if self.requests.contains_key(&q) {
+        if self.is_taken(q) {
             return self.answer(line, Answer::Busy);
         }
         let request = self.rank.irecv(from, tag, ctx, cap, line)?;
@@ -138,33 +137,27 @@ impl Process {
     // Gives the result of the request of this name, which then ends, if it is complete.
     pub(crate) fn wait(&mut self, q: u16, line: u32) -> Result<Step, Memory>
         requires fresh { IsFresh self.old.rank }
-        ensures places { (self.new.next ≡ self.old.next) × (self.new.at ≡ self.old.at)
-            × (self.new.own ≡ self.old.own) }
+        ensures places { StandsStill self.old self.new }
         ensures tried { IfOk result (HasTriedWait self.old self.new q line) }
     {
-        let Some(request) = request_of_name(&self.requests, q) else {
-            return self.answer(line, Answer::Null);
-        };
-        match self.end(q, request) {
-            Some(answer) => self.answer(line, answer),
-            None => Ok(Step::Waits),
+        match self.end(q) {
+            Ok(answer) => self.answer(line, answer),
+            Err(FinishFault::NoSuch) => self.answer(line, Answer::Null),
+            Err(FinishFault::NotComplete) => Ok(Step::Waits),
         }
     }
 
     // Gives that result, or answers that there is none yet.
     pub(crate) fn test(&mut self, q: u16, line: u32) -> Result<Step, Memory>
         requires fresh { IsFresh self.old.rank }
-        ensures places { (self.new.next ≡ self.old.next) × (self.new.at ≡ self.old.at)
-            × (self.new.own ≡ self.old.own) }
+        ensures places { StandsStill self.old self.new }
         ensures ran { IfOk result (λ step. step ≡ step_is.Ran) }
         ensures tried { OnOk result (HasTriedTest self.old self.new q line) }
     {
-        let Some(request) = request_of_name(&self.requests, q) else {
-            return self.answer(line, Answer::Null);
-        };
-        match self.end(q, request) {
-            Some(answer) => self.answer(line, answer),
-            None => self.answer(line, Answer::No),
+        match self.end(q) {
+            Ok(answer) => self.answer(line, answer),
+            Err(FinishFault::NoSuch) => self.answer(line, Answer::Null),
+            Err(FinishFault::NotComplete) => self.answer(line, Answer::No),
         }
     }
 
@@ -177,8 +170,7 @@ impl Process {
         line: u32,
     ) -> Result<Step, Memory>
         requires fresh { IsFresh self.old.rank }
-        ensures places { (self.new.next ≡ self.old.next) × (self.new.at ≡ self.old.at)
-            × (self.new.own ≡ self.old.own) }
+        ensures places { StandsStill self.old self.new }
         ensures ran { IfOk result (λ step. step ≡ step_is.Ran) }
         ensures tried { OnOk result (HasProbed self.old self.new from tag ctx line) }
     {
@@ -197,8 +189,7 @@ impl Process {
         line: u32,
     ) -> Result<Step, Memory>
         requires fresh { IsFresh self.old.rank }
-        ensures places { (self.new.next ≡ self.old.next) × (self.new.at ≡ self.old.at)
-            × (self.new.own ≡ self.old.own) }
+        ensures places { StandsStill self.old self.new }
         ensures tried { IfOk result (HasTriedAwait self.old self.new from tag ctx line) }
     {
         match self.rank.probe(from, tag, ctx) {
@@ -210,8 +201,7 @@ impl Process {
     // Cancels the request of this name.
     pub(crate) fn cancel(&mut self, q: u16, line: u32) -> Result<Step, Memory>
         requires fresh { IsFresh self.old.rank }
-        ensures places { (self.new.next ≡ self.old.next) × (self.new.at ≡ self.old.at)
-            × (self.new.own ≡ self.old.own) }
+        ensures places { StandsStill self.old self.new }
         ensures ran { IfOk result (λ step. step ≡ step_is.Ran) }
         ensures tried { OnOk result
             (IsNull self.old self.new q line ⊎ HasCancelled self.old self.new q line) }
@@ -221,7 +211,7 @@ impl Process {
         };
         match self.rank.cancel(request) {
             Ok(cancelled) => self.answer(line, answer_for(cancelled)),
-            Err(CancelFault::NoSuch) => unreachable!(),
+            Err(CancelFault::NoSuch) => self.answer(line, Answer::Null),
             Err(CancelFault::Memory) => Err(Memory),
         }
     }
@@ -236,8 +226,7 @@ impl Process {
         line: u32,
     ) -> Result<Step, Memory>
         requires fresh { IsFresh self.old.rank }
-        ensures places { (self.new.next ≡ self.old.next) × (self.new.at ≡ self.old.at)
-            × (self.new.own ≡ self.old.own) }
+        ensures places { StandsStill self.old self.new }
         ensures ran { IfOk result (λ step. step ≡ step_is.Ran) }
         ensures tried { OnOk result (HasTriedMprobe self.old self.new m from tag ctx line) }
     {
@@ -264,12 +253,11 @@ impl Process {
         line: u32,
     ) -> Result<Step, Memory>
         requires fresh { IsFresh self.old.rank }
-        ensures places { (self.new.next ≡ self.old.next) × (self.new.at ≡ self.old.at)
-            × (self.new.own ≡ self.old.own) }
+        ensures places { StandsStill self.old self.new }
         ensures ran { IfOk result (λ step. step ≡ step_is.Ran) }
         ensures tried { OnOk result (HasTriedMrecv self.old self.new q m cap line) }
     {
-        if self.requests.contains_key(&q) {
+        if self.is_taken(q) {
             return self.answer(line, Answer::Busy);
         }
         let Some(handle) = message_of_handle(&self.handles, m) else {
@@ -284,8 +272,7 @@ impl Process {
     // Records the answer of a line's command.
     fn answer(&mut self, line: u32, answer: Answer) -> Result<Step, Memory>
         requires in_time { self.old.rank.clock < MAX_STAMP }
-        ensures places { (self.new.next ≡ self.old.next) × (self.new.at ≡ self.old.at)
-            × (self.new.own ≡ self.old.own) }
+        ensures places { StandsStill self.old self.new }
         ensures ran { IfOk result (λ step. step ≡ step_is.Ran) }
         ensures answered { OnOk result (HasAnswered self.old self.new line answer) }
     {
@@ -295,10 +282,9 @@ impl Process {
 
     // Gives a name to a request that was started.
     fn name(&mut self, q: u16, request: Req) -> Result<(), Memory>
-        requires live { IsOlder self.old.rank.requests request }
+        requires older { IsOlder self.old.rank.requests request }
         requires unnamed { (k : ℕ) → lookup (nat_eq k) self.old.names ≢ Some request }
-        ensures places { (self.new.next ≡ self.old.next) × (self.new.at ≡ self.old.at)
-            × (self.new.own ≡ self.old.own) }
+        ensures places { StandsStill self.old self.new }
         ensures same { (self.new.rank ≡ self.old.rank) × (self.new.handles ≡ self.old.handles) }
         ensures named { OnOk result ((k : ℕ) → lookup (nat_eq k) self.new.names
             ≡ (if nat_eq q k then Some request else lookup (nat_eq k) self.old.names)) }
@@ -307,20 +293,27 @@ impl Process {
         Ok(())
     }
 
-    // The result of the request of this name, which then ends, if it is complete.
-    fn end(&mut self, q: u16, request: Req) -> Option<Answer>
-        requires named { lookup (nat_eq q) self.old.names ≡ Some request }
-        ensures some { IfSome result (Ends self.old self.new q) }
-        ensures none { IfNone result (IsPending self.old q × (self.new ≡ self.old)) }
-        ensures places { self.new.own ≡ self.old.own }
+    // Whether the name stands for a request that has not ended.
+    fn is_taken(&self, q: u16) -> bool
+        ensures { result ≡ is_some (named self.now q) }
     {
-        match self.rank.finish(request) {
-            Ok(answer) => {
-                self.requests.swap_remove(&q);
-                Some(answer)
-            }
-            Err(FinishFault::NotComplete) => None,
-            Err(FinishFault::NoSuch) => unreachable!(),
+        match request_of_name(&self.requests, q) {
+            Some(request) => self.rank.test(request).is_ok(),
+            None => false,
         }
+    }
+
+    // The result of the request of this name, which then ends, if it is complete.
+    fn end(&mut self, q: u16) -> Result<Answer, FinishFault>
+        ensures ends { IfOk result (Ends self.old self.new q) }
+        ensures null { result ≡ Err finish_fault.NoSuch → named self.old q ≡ None }
+        ensures pending { result ≡ Err finish_fault.NotComplete → IsPending self.old q }
+        ensures still { OnErr result (self.new ≡ self.old) }
+        ensures places { StandsStill self.old self.new }
+    {
+        let Some(request) = request_of_name(&self.requests, q) else {
+            return Err(FinishFault::NoSuch);
+        };
+        self.rank.finish(request)
     }
 }

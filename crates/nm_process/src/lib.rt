@@ -8,7 +8,8 @@
 //!
 //! # What a contract sees
 //! A `ProcessView`: the view of the rank, the places of its commands in the script, how many of them
-//! ran, the place of the next one, and what each name and each handle stands for.
+//! ran, the place of the next one, and what each name and each handle stands for. A name keeps its request
+//! when that has ended, and stands for none then; the next start of that name replaces it.
 //! # What is proved
 //! - The history is that of the commands that ran so far (`IsAtWork`), whatever packets and pieces
 //!   come and whenever: clauses `begins` of `new` and `work` of each call.

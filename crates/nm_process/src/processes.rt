@@ -34,7 +34,7 @@ use std::marker::Model;
 pub struct Process {
     pub(crate) me: u8,
     pub(crate) rank: Rank,
-    // by name
+    // by name, also of requests that have ended
     pub(crate) requests: IndexMap<u16, Req>,
     // by name of a handle
     pub(crate) handles: IndexMap<u16, Handle>,
@@ -87,7 +87,7 @@ impl Model for Leavings {
 
 impl Model for Process {
     ghost use Rattle.std.specs.Prelude.{◌≡◌, ◌≤◌};
-    ghost use Rattle.nm_process.specs.Names.{AreHeld, AreLive};
+    ghost use Rattle.nm_process.specs.Names.{AreHeld, AreGiven};
     ghost use Rattle.nm_process.specs.Places.{AreAhead};
     ghost use Rattle.nm_process.specs.Processes.{ProcessView};
 
@@ -104,7 +104,7 @@ impl Model for Process {
         } };
 
     ghost invariant = { λ p.
-        AreLive p.rank.requests p.requests.entries
+        AreGiven p.rank.requests p.requests.entries
         × AreHeld p.rank.events p.handles.entries
         × (p.me ≡ p.rank.me) × (p.at ≤ p.next) × AreAhead p.own.items };
 }
@@ -157,7 +157,7 @@ impl Process {
     }
 
     /// A process at its first command of a script, whose commands stand at these places, in a run of
-    /// these sizes.
+    /// these sizes. It has room for as many names as if every other command started a request.
     pub fn new(
         alloc: Global,
         shape: Shape,
@@ -171,10 +171,11 @@ impl Process {
         ensures begins { IfOk result (λ p. (p.at ≡ 0) × IsAtWork shape lines.now p) }
     {
         let next = place_at(&own, lines, 0);
+        let requests = IndexMap::with_capacity(alloc, own.len() / 2)?;
         Ok(Process {
             me,
             rank: Rank::new(alloc, shape, me)?,
-            requests: IndexMap::new(alloc),
+            requests,
             handles: IndexMap::new(alloc),
             own,
             next,
@@ -278,7 +279,7 @@ impl Process {
         match self.rank.test(request) {
             Ok(State::Ready) => true,
             Ok(State::Pending) => false,
-            Err(NoSuch) => unreachable!(),
+            Err(NoSuch) => true,
         }
     }
 

@@ -1,17 +1,19 @@
 -- A process cancels a request.
-use Rattle.std.proofs.Common.{◌≡◌, ◌⊎◌, inr, Option, Some, List, [], refl, sym, subst, ap, ◌∙◌, arith}
+use Rattle.std.proofs.Common.{◌≡◌, ◌⊎◌, inl, inr, Err, Option, Some, List, [], refl, sym, subst, ap, ◌∙◌, arith}
 use Rattle.std.specs.Prelude.{option_map, option_and_then, nat_eq}
 use Rattle.std.specs.Map.{lookup}
 use Rattle.nm_types.specs.declared.answers.Answer.{Answer}
+use Rattle.nm_types.specs.declared.answers.Answer.TheVariants as answer
 use Rattle.nm_history.specs.declared.events.Event.{Event}
 use Rattle.nm_request.specs.declared.Kind.{Kind}
 use Rattle.nm_request.specs.declared.Req.{Req}
 use Rattle.nm_request.specs.Requests.{Live, kind_of}
-use Rattle.nm_rank.specs.Ranks.{request_of}
-use Rattle.nm_process.specs.Names.{AreLive, IsHeld}
+use Rattle.nm_rank.specs.Ranks.{RankView, request_of}
+use Rattle.nm_process.specs.Names.{AreGiven, IsHeld}
 use Rattle.nm_process.specs.Processes.{ProcessView}
 use Rattle.nm_process.specs.Starts.{HasAnswered, HasCancelled, IsNull}
 use Rattle.nm_process.proofs.HeldLemmas.{all_held, held_after}
+use Rattle.nm_process.proofs.NameLemmas.{named_none}
 use Rattle.nm_process.proofs.StartLemmas.{cancel_leaves, cancel_short, on_ok}
 use Rattle.nm_process.proofs.processes.Process.cancel.Goals as goal
 
@@ -22,7 +24,7 @@ invariant_of-self c =
     let v = p.rank in
     let w = c.cancel.new.self in
     let is = c.in-Ok.ensures.cancels in (
-      subst (λ (r : Live). AreLive r p.requests.entries) (sym is.requests) i.0,
+      subst (λ (r : Live). AreGiven r p.requests.entries) (sym is.requests) i.0,
       all_held v.events w.events p.handles.entries
           (λ x held. subst (λ (h : List Event). IsHeld h x) (sym (is.happened (λ s. [])).events)
           (held_after x v.events _ (cancel_leaves x v.events v.clock is.kind) held)) i.1,
@@ -79,3 +81,28 @@ returns-in-Ok-clause-tried c =
       others = refl;
       answered = subst (λ (x : Answer). HasAnswered mid b c.args.line x) c.answer_for.ensures answered;
     }))) c.answer-in-Ok.ensures.answered
+
+pub returns-in-Err-NoSuch-clause-tried : goal.returns-in-Err-NoSuch-clause-tried
+returns-in-Err-NoSuch-clause-tried c =
+    let p = c.self.inside in
+    let q = c.args.q in
+    let b = c.answer-in-Err-NoSuch.new.self in
+    let a : ProcessView = record {
+      rank = p.rank;
+      own = p.own.items;
+      at = p.at;
+      next = p.next;
+      names = p.requests.entries;
+      handles = p.handles.entries;
+    } in
+    let is : lookup (nat_eq q) p.requests.entries ≡ Some c.in-Some.request = sym c.request_of_name.ensures
+    ∙ c.in-Some.is in
+    let free = named_none p.rank.requests p.requests.entries q c.in-Some.request is
+    (c.cancel.ensures.no_such.1 (c.in-Err-NoSuch.is ∙ ap (λ f. Err f) c.in-Err-NoSuch.field-0-is)) in
+    on_ok c.answer-in-Err-NoSuch.result (λ answered.
+    subst (λ (v : ProcessView). IsNull v b q c.args.line ⊎ HasCancelled v b q c.args.line) c.self.view_is
+    (inl (record {
+      free = free;
+      answered = subst (λ (w : RankView). HasAnswered (record a { rank = w }) b c.args.line answer.Null)
+          c.in-Err-NoSuch.ensures.err answered;
+    }))) c.answer-in-Err-NoSuch.ensures.answered

@@ -6,7 +6,7 @@ use Rattle.nm_history.specs.declared.events.Event.{Event}
 use Rattle.nm_request.specs.Requests.{Live}
 use Rattle.nm_rank.specs.Steps.{Claims}
 use Rattle.nm_process.specs.declared.steps.Handle.{Handle}
-use Rattle.nm_process.specs.Names.{AreHeld, AreLive, IsHeld}
+use Rattle.nm_process.specs.Names.{AreHeld, AreGiven, IsHeld}
 use Rattle.nm_process.proofs.HeldLemmas.{all_held, claimed_held, first_unheld, held_after, held_set}
 use Rattle.nm_process.proofs.processes.Process.claim.Goals as goal
 
@@ -24,7 +24,7 @@ invariant_of-self-in_err-insert c =
     let held : AreHeld w.events p.handles.entries = all_held v.events w.events p.handles.entries
     (λ x held. subst (λ (h : List Event). IsHeld h x) (sym claims.claimed.events)
     (held_after x v.events _ (tt, tt) held)) i.1 in (
-      subst (λ (r : Live). AreLive r p.requests.entries) (sym claims.requests) i.0,
+      subst (λ (r : Live). AreGiven r p.requests.entries) (sym claims.requests) i.0,
       subst (λ (es : List (ℕ × Handle)). AreHeld w.events es) (sym c.in_err-insert.ensures.err) held,
       i.2 ∙ sym claims.takes.me,
       i.3,
@@ -46,7 +46,7 @@ invariant_of-self-2 c =
     let held : AreHeld w.events p.handles.entries = all_held v.events w.events p.handles.entries
     (λ x held. subst (λ (h : List Event). IsHeld h x) (sym claims.claimed.events)
     (held_after x v.events _ (tt, tt) held)) i.1 in (
-      subst (λ (r : Live). AreLive r p.requests.entries) (sym claims.requests) i.0,
+      subst (λ (r : Live). AreGiven r p.requests.entries) (sym claims.requests) i.0,
       held_set w.events p.handles.entries c.insert.new.self.entries g.m
           (record { from = a.env.from; n = a.n }) held
           (subst (λ (h : List Event). IsHeld h (record { from = a.env.from; n = a.n })) (sym claims.claimed.events)

@@ -4,16 +4,16 @@ use Rattle.std.specs.Prelude.{nat_eq}
 use Rattle.std.specs.Map.{lookup}
 use Rattle.nm_process.specs.Names.{IsOlder}
 use Rattle.nm_process.specs.Processes.{ProcessView}
-use Rattle.nm_process.proofs.NameLemmas.{live_named}
+use Rattle.nm_process.proofs.NameLemmas.{given_named}
 use Rattle.nm_process.proofs.processes.Process.name.Goals as goal
 
 pub invariant_of-self-2 : goal.invariant_of-self-2
 invariant_of-self-2 c =
     let p = c.self.inside in
     let i = c.self.invariant in (
-      live_named p.rank.requests p.requests.entries c.insert.new.self.entries c.args.q c.args.request i.0
+      given_named p.rank.requests p.requests.entries c.insert.new.self.entries c.args.q c.args.request i.0
           (subst (λ (v : ProcessView). IsOlder v.rank.requests c.args.request)
-          (sym c.self.view_is) c.requires.live)
+          (sym c.self.view_is) c.requires.older)
           (subst (λ (v : ProcessView). (k : ℕ) → lookup (nat_eq k) v.names ≢ Some c.args.request)
           (sym c.self.view_is) c.requires.unnamed)
           c.in_ok-insert.ensures.updates.0,

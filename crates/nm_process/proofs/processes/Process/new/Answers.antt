@@ -2,13 +2,13 @@
 use Rattle.std.proofs.Common.{◌≡◌, ℕ, refl, sym, subst, arith}
 use Rattle.nm_process.specs.Places.{ArePlaces, place_at}
 use Rattle.nm_process.proofs.PlaceLemmas.{are_ahead}
-use Rattle.nm_process.proofs.WorkLemmas.{begins, none_held, none_live}
+use Rattle.nm_process.proofs.WorkLemmas.{begins, none_held, none_given}
 use Rattle.nm_process.proofs.processes.Process.new.Goals as goal
 
 pub invariant_of-result : goal.invariant_of-result
 invariant_of-result c = (
-  none_live _ c.new-2.result.entries c.new-2.ensures.empty,
-  none_held _ c.new-3.result.entries c.new-3.ensures.empty,
+  none_given _ c.in_ok-requests.requests.entries c.in_ok-requests.ensures.empty,
+  none_held _ c.new-2.result.entries c.new-2.ensures.empty,
   sym c.in_ok-new.ensures.me,
   omega arith,
   are_ahead c.args.lines.now c.args.me c.args.own.items c.requires.places,
@@ -20,8 +20,8 @@ returns-clause-begins c =
     let e = c.in_ok-new.ensures in
     let stands : c.place_at-next.result ≡ place_at c.args.own.items c.args.lines.now 0 = cc in (
       refl,
-      begins c.args.shape c.args.lines.now v c.args.own.items c.place_at-next.result c.new-2.result.entries
-          c.new-3.result.entries
+      begins c.args.shape c.args.lines.now v c.args.own.items c.place_at-next.result
+          c.in_ok-requests.requests.entries c.new-2.result.entries
           (subst (λ (k : ℕ). ArePlaces c.args.lines.now k c.args.own.items) (sym e.me) c.requires.places)
-          stands e.sizes e.events c.new-2.ensures.empty c.new-3.ensures.empty,
+          stands e.sizes e.events c.in_ok-requests.ensures.empty c.new-2.ensures.empty,
     )

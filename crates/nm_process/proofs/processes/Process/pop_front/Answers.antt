@@ -4,7 +4,7 @@ use Rattle.std.specs.Prelude.{slice_get}
 use Rattle.nm_sending.specs.Departures.{ended_by}
 use Rattle.nm_sending.specs.Sent.{outs}
 use Rattle.nm_request.specs.Requests.{Live}
-use Rattle.nm_process.specs.Names.{AreLive}
+use Rattle.nm_process.specs.Names.{AreGiven}
 use Rattle.nm_process.specs.Processes.{ProcessView}
 use Rattle.nm_process.specs.Work.{IsAtWork}
 use Rattle.nm_process.proofs.MidLemmas.{work_packets}
@@ -17,7 +17,7 @@ invariant_of-self c =
     let i = c.self.invariant in
     let v = p.rank in
     let w = c.pop_front.new.self in (
-      subst (λ (r : Live). AreLive r p.requests.entries) (sym c.pop_front.ensures.requests) i.0,
+      subst (λ (r : Live). AreGiven r p.requests.entries) (sym c.pop_front.ensures.requests) i.0,
       packets_hold_at v w (v.clock) (outs (ended_by (slice_get v.sending.outbox.letters 0)))
           p.handles.entries c.pop_front.ensures.left.events c.history.ensures.right
           (outs_of_packets (ended_by (slice_get v.sending.outbox.letters 0))) i.1,

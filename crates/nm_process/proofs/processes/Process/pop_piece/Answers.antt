@@ -4,7 +4,7 @@ use Rattle.std.specs.Prelude.{option_and_then}
 use Rattle.nm_rndv.specs.Offers.{first_leaving, out_by_piece}
 use Rattle.nm_sending.specs.Sent.{outs}
 use Rattle.nm_request.specs.Requests.{Live}
-use Rattle.nm_process.specs.Names.{AreLive}
+use Rattle.nm_process.specs.Names.{AreGiven}
 use Rattle.nm_process.specs.Processes.{ProcessView}
 use Rattle.nm_process.specs.Work.{IsAtWork}
 use Rattle.nm_process.proofs.MidLemmas.{work_packets}
@@ -17,7 +17,7 @@ invariant_of-self c =
     let i = c.self.invariant in
     let v = p.rank in
     let w = c.pop_piece.new.self in (
-      subst (λ (r : Live). AreLive r p.requests.entries) (sym c.pop_piece.ensures.requests) i.0,
+      subst (λ (r : Live). AreGiven r p.requests.entries) (sym c.pop_piece.ensures.requests) i.0,
       packets_hold_at v w (v.clock)
           (outs (option_and_then (out_by_piece v.sending.offers) (first_leaving v.sending.offers)))
           p.handles.entries c.pop_piece.ensures.left.events c.history.ensures.right

@@ -1,14 +1,15 @@
 -- A process starts a receive.
-use Rattle.std.proofs.Common.{inr, ℕ, List, [], length, sym, ◌∙◌, ap, subst, arith}
+use Rattle.std.proofs.Common.{◌≡◌, None, inr, ℕ, List, [], length, sym, ◌∙◌, ap, subst, arith}
 use Rattle.std.specs.Prelude.{nat_eq}
 use Rattle.std.specs.Map.{lookup}
 use Rattle.nm_history.specs.Matching.{first_message, matched_pairs}
 use Rattle.nm_history.specs.Sends.{Sent, receives}
 use Rattle.nm_request.specs.declared.Kind.TheVariants as kind
 use Rattle.nm_rank.specs.Steps.{StartsReceive}
+use Rattle.nm_process.specs.Names.{named}
 use Rattle.nm_process.specs.Processes.{ProcessView}
 use Rattle.nm_process.specs.Starts.{HasTriedReceive}
-use Rattle.nm_process.proofs.NameLemmas.{live_more, new_older, new_unnamed}
+use Rattle.nm_process.proofs.NameLemmas.{given_more, new_older, new_unnamed}
 use Rattle.nm_process.proofs.StartLemmas.{keeps_handles, none_found, on_ok, start_answered, start_keeps}
 use Rattle.nm_process.proofs.StartLemmas.{one_leaves}
 use Rattle.nm_process.proofs.processes.Process.receive.Goals as goal
@@ -20,7 +21,7 @@ invariant_of-self-2 c =
     let i = c.self.invariant in
     let bodies : Sent → List ℕ = λ s. [] in
     let starts = c.in_ok-request.ensures.starts.started bodies in (
-      live_more p.rank.requests c.irecv.new.self.requests c.in_ok-request.request _ starts.request
+      given_more p.rank.requests c.irecv.new.self.requests c.in_ok-request.request _ starts.request
           p.requests.entries i.0,
       start_keeps bodies _ _ p.rank c.irecv.new.self c.in_ok-request.request p.handles.entries starts
           (λ x. one_leaves x p.rank.events p.rank.clock _
@@ -31,8 +32,8 @@ invariant_of-self-2 c =
       i.4,
     )
 
-pub name-requires-clause-live : goal.name-requires-clause-live
-name-requires-clause-live c =
+pub name-requires-clause-older : goal.name-requires-clause-older
+name-requires-clause-older c =
     let starts = c.in_ok-request.ensures.starts.started (λ s. []) in
     new_older c.self.inside.rank.requests c.irecv.new.self.requests c.in_ok-request.request _
     starts.request c.self.inside.requests.entries c.self.invariant.0
@@ -67,8 +68,8 @@ returns-clause-tried c =
     } in
     let b = c.answer-2.new.self in
     let places = c.in_ok-name.ensures.places in
-    let free = none_found c.contains_key.result (lookup (nat_eq g.q) p.requests.entries)
-    c.if-contains_key.false c.contains_key.ensures in
+    let free : named a g.q ≡ None = subst (λ (v : ProcessView). named v g.q ≡ None) (sym c.self.view_is)
+    (none_found c.is_taken.result (named c.args.self.now g.q) c.if-is_taken.false c.is_taken.ensures) in
     on_ok c.answer-2.result (λ answered.
     subst (λ (v : ProcessView). HasTriedReceive v b g.q g.from g.tag g.ctx g.cap g.line) c.self.view_is
     (inr (

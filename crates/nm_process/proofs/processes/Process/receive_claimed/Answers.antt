@@ -8,11 +8,11 @@ use Rattle.nm_history.specs.Sends.{Sent, message_of, receives}
 use Rattle.nm_request.specs.declared.Kind.TheVariants as kind
 use Rattle.nm_rank.specs.Steps.{StartsMatched}
 use Rattle.nm_process.specs.declared.steps.Handle.{Handle}
-use Rattle.nm_process.specs.Names.{IsHeld, message_with}
+use Rattle.nm_process.specs.Names.{IsHeld, message_with, named}
 use Rattle.nm_process.specs.Processes.{ProcessView}
 use Rattle.nm_process.specs.Starts.{HasTriedMrecv}
 use Rattle.nm_process.proofs.HeldLemmas.{handled_others, handled_own, held_after, held_unset, other_held}
-use Rattle.nm_process.proofs.NameLemmas.{live_more, new_older, new_unnamed}
+use Rattle.nm_process.proofs.NameLemmas.{given_more, new_older, new_unnamed}
 use Rattle.nm_process.proofs.StartLemmas.{keeps_handles, none_found, on_ok, start_answered, one_leaves}
 use Rattle.nm_process.proofs.processes.Process.receive_claimed.Goals as goal
 use Rattle.nm_rank.proofs.ReceiveLemmas.{taken-few}
@@ -26,7 +26,7 @@ invariant_of-self-2 c =
     let starts = c.in_ok-request.ensures.starts.started bodies in
     let named : lookup (nat_eq c.args.m) p.handles.entries ≡ Some x = sym c.message_of_handle.ensures
     ∙ c.in-Some.is in (
-      live_more p.rank.requests c.imrecv.new.self.requests c.in_ok-request.request _ starts.request
+      given_more p.rank.requests c.imrecv.new.self.requests c.in_ok-request.request _ starts.request
           p.requests.entries i.0,
       held_unset p.rank.events c.imrecv.new.self.events p.handles.entries c.swap_remove.new.self.entries
           c.args.m x i.1 named
@@ -39,8 +39,8 @@ invariant_of-self-2 c =
       i.4,
     )
 
-pub name-requires-clause-live : goal.name-requires-clause-live
-name-requires-clause-live c =
+pub name-requires-clause-older : goal.name-requires-clause-older
+name-requires-clause-older c =
     let starts = c.in_ok-request.ensures.starts.started (λ s. []) in
     new_older c.self.inside.rank.requests c.imrecv.new.self.requests c.in_ok-request.request _
     starts.request c.self.inside.requests.entries c.self.invariant.0
@@ -77,8 +77,8 @@ returns-clause-tried c =
     let mid = c.name.new.self in
     let b = c.answer-2.new.self in
     let places = c.in_ok-name.ensures.places in
-    let free = none_found c.contains_key.result (lookup (nat_eq g.q) p.requests.entries)
-    c.if-contains_key.false c.contains_key.ensures in
+    let free : named a g.q ≡ None = subst (λ (v : ProcessView). named v g.q ≡ None) (sym c.self.view_is)
+    (none_found c.is_taken.result (named c.args.self.now g.q) c.if-is_taken.false c.is_taken.ensures) in
     let named : lookup (nat_eq g.m) p.handles.entries ≡ Some x = sym c.message_of_handle.ensures
     ∙ c.in-Some.is in
     let held : IsHeld p.rank.events x = subst (λ (o : Option Handle). IfSome o (IsHeld p.rank.events))

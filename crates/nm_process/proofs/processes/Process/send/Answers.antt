@@ -1,5 +1,5 @@
 -- A process starts a send.
-use Rattle.std.proofs.Common.{inr, ℕ, List, length, refl, sym, ◌∙◌, ap, subst, arith}
+use Rattle.std.proofs.Common.{◌≡◌, None, inr, ℕ, List, length, refl, sym, ◌∙◌, ap, subst, arith}
 use Rattle.std.specs.Prelude.{nat_eq}
 use Rattle.std.specs.Map.{lookup}
 use Rattle.nm_types.specs.Bodies.{bytes_of}
@@ -7,9 +7,10 @@ use Rattle.nm_history.specs.Sends.{Sent, sends}
 use Rattle.nm_request.specs.declared.Kind.TheVariants as kind
 use Rattle.nm_rank.specs.Sends.{next_send}
 use Rattle.nm_rank.specs.Steps.{StartsSend}
+use Rattle.nm_process.specs.Names.{named}
 use Rattle.nm_process.specs.Processes.{ProcessView}
 use Rattle.nm_process.specs.Starts.{HasTriedSend}
-use Rattle.nm_process.proofs.NameLemmas.{live_more, new_older, new_unnamed}
+use Rattle.nm_process.proofs.NameLemmas.{given_more, new_older, new_unnamed}
 use Rattle.nm_process.proofs.StartLemmas.{keeps_handles, none_found, on_ok, start_answered, start_keeps}
 use Rattle.nm_process.proofs.processes.Process.send.Goals as goal
 
@@ -19,7 +20,7 @@ invariant_of-self-2 c =
     let i = c.self.invariant in
     let bodies : Sent → List ℕ = λ s. bytes_of c.args.body.now in
     let starts = c.in_ok-request.ensures.starts.started bodies refl in (
-      live_more p.rank.requests c.send_copy.new.rank.requests c.in_ok-request.request _ starts.request
+      given_more p.rank.requests c.send_copy.new.rank.requests c.in_ok-request.request _ starts.request
           p.requests.entries i.0,
       start_keeps bodies _ _ p.rank c.send_copy.new.rank c.in_ok-request.request p.handles.entries starts
           (λ x. (tt, tt)) i.1,
@@ -28,8 +29,8 @@ invariant_of-self-2 c =
       i.4,
     )
 
-pub name-requires-clause-live : goal.name-requires-clause-live
-name-requires-clause-live c =
+pub name-requires-clause-older : goal.name-requires-clause-older
+name-requires-clause-older c =
     let starts = c.in_ok-request.ensures.starts.started (λ s. bytes_of c.args.body.now) refl in
     new_older c.self.inside.rank.requests c.send_copy.new.rank.requests c.in_ok-request.request _
     starts.request c.self.inside.requests.entries c.self.invariant.0
@@ -63,8 +64,8 @@ returns-clause-tried c =
     let b = c.answer-2.new.self in
     let n = length (sends p.rank.events g.to) in
     let places = c.in_ok-name.ensures.places in
-    let free = none_found c.contains_key.result (lookup (nat_eq g.q) p.requests.entries)
-    c.if-contains_key.false c.contains_key.ensures in
+    let free : named a g.q ≡ None = subst (λ (v : ProcessView). named v g.q ≡ None) (sym c.self.view_is)
+    (none_found c.is_taken.result (named c.args.self.now g.q) c.if-is_taken.false c.is_taken.ensures) in
     on_ok c.answer-2.result (λ answered.
     subst (λ (v : ProcessView). HasTriedSend v b g.q g.to g.tag g.ctx g.body.now g.sync g.line)
     c.self.view_is (inr (

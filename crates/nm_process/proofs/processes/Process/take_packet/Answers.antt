@@ -4,7 +4,7 @@ use Rattle.std.specs.Prelude.{max}
 use Rattle.nm_rank.specs.Calls.{made_of, taken_of}
 use Rattle.nm_rank.specs.Ranks.{known_from}
 use Rattle.nm_request.specs.Requests.{Live}
-use Rattle.nm_process.specs.Names.{AreLive}
+use Rattle.nm_process.specs.Names.{AreGiven}
 use Rattle.nm_process.specs.Processes.{ProcessView}
 use Rattle.nm_process.specs.Work.{IsAtWork}
 use Rattle.nm_process.proofs.MidLemmas.{work_packets}
@@ -18,7 +18,7 @@ invariant_of-self-2 c =
     let v = p.rank in
     let w = c.take_packet.new.self in
     let taken = c.in_ok-take_packet.ensures.taken in (
-      subst (λ (r : Live). AreLive r p.requests.entries) (sym taken.requests) i.0,
+      subst (λ (r : Live). AreGiven r p.requests.entries) (sym taken.requests) i.0,
       packets_hold_at v w (max v.clock c.args.p.now.stamp) (made_of v c.args.p.now) p.handles.entries
           (taken.happened (λ s. [])).events c.history.ensures.right
           (packet_of_packets (known_from v.known c.args.p.now.from) v.events (taken_of v c.args.p.now)) i.1,

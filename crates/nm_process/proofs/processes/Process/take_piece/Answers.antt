@@ -3,7 +3,7 @@ use Rattle.std.proofs.Common.{sym, subst, ◌∙◌}
 use Rattle.nm_history.specs.Pieces.{piece_makes}
 use Rattle.nm_rank.specs.Calls.{next_due}
 use Rattle.nm_request.specs.Requests.{Live}
-use Rattle.nm_process.specs.Names.{AreLive}
+use Rattle.nm_process.specs.Names.{AreGiven}
 use Rattle.nm_process.specs.Processes.{ProcessView}
 use Rattle.nm_process.specs.Work.{IsAtWork}
 use Rattle.nm_process.proofs.MidLemmas.{work_packets}
@@ -17,7 +17,7 @@ invariant_of-self-2 c =
     let v = p.rank in
     let w = c.take_piece.new.self in
     let taken = c.in_ok-take_piece.ensures.taken in (
-      subst (λ (r : Live). AreLive r p.requests.entries) (sym taken.requests) i.0,
+      subst (λ (r : Live). AreGiven r p.requests.entries) (sym taken.requests) i.0,
       packets_hold_at v w (v.clock) (piece_makes c.args.p.now.from (next_due v c.args.p.now.from) c.args.p.now)
           p.handles.entries taken.happened.events c.history.ensures.right
           (piece_of_packets c.args.p.now.from (next_due v c.args.p.now.from) c.args.p.now) i.1,
