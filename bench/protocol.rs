@@ -4,9 +4,9 @@
 //!
 //!   protocol flood KEY RANKS MESSAGES [--cells N]
 //!
-//! What its figures are for: they are a lower bound for the proved program's, which the protocol itself sets. Where
-//! `threads.rs` is faster than this program, that is the price of the protocol; what the proved program takes beyond
-//! this one may still be won. It is one plain program, and nobody says that none is faster.
+//! What its figures are for: they show what the protocol itself need not exceed. Where `threads.rs` is faster than
+//! this program, that is at most the price of the protocol; what the proved program takes beyond this one may still
+//! be won.
 //!
 //! Left out: wildcards, probes, cancels and receives that are too short, of which a flood has none; want of memory,
 //! which ends the program; threads that can't be started; and that a run goes on in one crew where other work has the
