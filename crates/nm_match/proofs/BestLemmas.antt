@@ -15,7 +15,7 @@ use Rattle.nm_match.specs.declared.picks.Picks.{Picks}
 use Rattle.nm_match.specs.Buckets.{AreBuckets, bucket_of, earlier_of, entries_of, fitting_at}
 use Rattle.nm_match.specs.Picks.{same_picks}
 use Rattle.nm_match.proofs.BucketLemmas.{find_either, find_never, find_same, front_is_found}
-use Rattle.nm_match.proofs.BucketLemmas.{same_picks-self, same_picks-true}
+use Rattle.nm_match.specs.SameKeys.{same_picks-self, same_picks-true}
 
 or_none : (x : Bool) → (x || false) ≡ x
 or_none true = refl

@@ -1,66 +1,21 @@
 -- A queue in buckets: what is found in it, and what is left after each change.
-use Rattle.std.proofs.Common.{◌≡◌, ℕ, suc, ◌<◌, ◌≤◌, ◌==◌, Bool, true, false, ◌||◌}
+use Rattle.std.proofs.Common.{◌≡◌, ℕ, suc, ◌<◌, ◌≤◌, Bool, true, false, ◌||◌}
 use Rattle.std.proofs.Common.{cond, Option, Some, None, List, [], ◌∷◌, ◌++◌, map}
 use Rattle.std.proofs.Common.{refl, sym, ◌∙◌, ap, subst, append-nil, arith, slice_get, get_or}
 use Rattle.std.proofs.lemmas.List.{length-map, get_or-map}
 use Rattle.std.specs.Prelude.{nat_le, AllPairs, IsSome}
 use Rattle.std.specs.List.{All, filter, find}
 use Rattle.std.specs.Option.{option_map}
-use Rattle.std.proofs.lemmas.Bool.{false≢true, false_from_ne_true}
+use Rattle.std.proofs.lemmas.Bool.{false≢true}
 use Rattle.std.proofs.lemmas.Bool.Decides.{nat_tests}
 use Rattle.std.proofs.lemmas.List.Elements.{All-head, All-tail, All-cons, All-push, All-weaker}
 use Rattle.std.proofs.lemmas.List.Elements.{filter-append}
 use Rattle.nm_history.proofs.OnceLemmas.{find_among}
-use Rattle.nm_types.specs.declared.messages.Peer.{Peer}
-use Rattle.nm_types.specs.declared.messages.Peer.TheVariants as peer
-use Rattle.nm_types.specs.declared.messages.TagPick.{TagPick}
-use Rattle.nm_types.specs.declared.messages.TagPick.TheVariants as tag
 use Rattle.nm_match.specs.declared.picks.Picks.{Picks}
 use Rattle.nm_match.specs.Buckets.{AreBuckets, IsPutLast, Rising, earlier_of}
-use Rattle.nm_match.specs.Picks.{same_peer, same_picks, same_tag}
+use Rattle.nm_match.specs.Picks.{same_picks}
 use Rattle.nm_match.specs.Queues.{without_first}
-use Rattle.nm_types.proofs.TruthLemmas.{three_parts as three}
-
-same_peer-true : (a b : Peer) → same_peer a b ≡ true → a ≡ b
-same_peer-true peer.Any peer.Any h = refl
-same_peer-true (peer.One a) (peer.One b) h = let e : a ≡ b = grind (arith, nat_tests) in ap peer.One e
-same_peer-true peer.Any (peer.One b) h = absurd (false≢true h)
-same_peer-true (peer.One a) peer.Any h = absurd (false≢true h)
-
-same_tag-true : (a b : TagPick) → same_tag a b ≡ true → a ≡ b
-same_tag-true tag.Any tag.Any h = refl
-same_tag-true (tag.One a) (tag.One b) h = let e : a ≡ b = grind (arith, nat_tests) in ap tag.One e
-same_tag-true tag.Any (tag.One b) h = absurd (false≢true h)
-same_tag-true (tag.One a) tag.Any h = absurd (false≢true h)
-
-same_peer-self : (a : Peer) → same_peer a a ≡ true
-same_peer-self peer.Any = refl
-same_peer-self (peer.One a) = grind (arith, nat_tests)
-
-same_tag-self : (a : TagPick) → same_tag a a ≡ true
-same_tag-self tag.Any = refl
-same_tag-self (tag.One a) = grind (arith, nat_tests)
-
--- two keys that are the same are equal
-pub same_picks-true : (a b : Picks) → same_picks a b ≡ true → a ≡ b
-same_picks-true a b h =
-    let all = three (same_peer a.from b.from) (same_tag a.tag b.tag) (a.ctx == b.ctx) h in
-    let from : a.from ≡ b.from = same_peer-true a.from b.from all.0 in
-    let t : a.tag ≡ b.tag = same_tag-true a.tag b.tag all.1 in
-    let ctx : a.ctx ≡ b.ctx = let e = all.2 in grind (arith, nat_tests) in
-    λ i. record { from = from i; tag = t i; ctx = ctx i }
-
--- each key is the same as itself
-pub same_picks-self : (a : Picks) → same_picks a a ≡ true
-same_picks-self a =
-    let ctx : (a.ctx == a.ctx) ≡ true = grind (arith, nat_tests) in
-    rw (same_peer-self a.from, same_tag-self a.tag) ctx
-
--- keys that are not the same are not the same the other way round
-pub same_picks-flip : (a b : Picks) → same_picks a b ≡ false → same_picks b a ≡ false
-same_picks-flip a b apart = false_from_ne_true (same_picks b a) (λ same.
-    false≢true (sym apart ∙ subst (λ (c : Picks). same_picks c b ≡ true) (same_picks-true b a same)
-    (same_picks-self b)))
+use Rattle.nm_match.specs.SameKeys.{same_picks-flip, same_picks-self, same_picks-true}
 
 -- what was put last in a bucket was put last in one with the same entries
 pub same_put : {X : Type 0} (order : ℕ) (item : X) {before was after now : List (ℕ × X)} → was ≡ before →

@@ -15,7 +15,7 @@ use Rattle.nm_match.specs.declared.picks.Picks.{Picks}
 use Rattle.nm_match.specs.Deeds.{history_of, is_known_message, is_known_receive, is_message}
 use Rattle.nm_match.specs.Picks.{same_picks}
 use Rattle.nm_match.specs.Queues.{AreQueuesOf, TwoMessages, TwoReceives}
-use Rattle.nm_match.proofs.BucketLemmas.{same_picks-true}
+use Rattle.nm_match.specs.SameKeys.{same_picks-true}
 use Rattle.nm_match.proofs.ListLemmas.{none_passes}
 use Rattle.nm_match.proofs.TurnLemmas.{others_message, others_number}
 use Rattle.nm_types.proofs.TruthLemmas.{and_left, and_right}

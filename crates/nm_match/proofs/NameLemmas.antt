@@ -1,4 +1,5 @@
 -- A queue in buckets, whose names are known: what waits at a place, and what is left after each change.
+pub use Rattle.nm_match.specs.SameKeys.{same_message-true}
 use Rattle.std.proofs.Common.{◌≡◌, ℕ, ◌+◌, ◌<◌, ◌≤◌, ◌==◌, Bool, true, false, cond, Option, Some, None}
 use Rattle.std.proofs.Common.{List, [], ◌∷◌, ◌++◌, refl, sym, ◌∙◌, ap, subst, arith, not, ◌&&◌, ◌||◌, is_some}
 use Rattle.std.specs.BTreeMap.{is_at}
@@ -31,7 +32,6 @@ use Rattle.nm_match.proofs.OrderLemmas.{entry_left, find_gone, find_only, find_o
 use Rattle.nm_match.proofs.OrderLemmas.{order_left}
 use Rattle.nm_types.proofs.OptionLemmas.{mapped_none}
 use Rattle.nm_types.proofs.ListLemmas.{find_passes}
-use Rattle.nm_types.proofs.TruthLemmas.{and_left, and_right}
 
 or_true : (b : Bool) → (b || true) ≡ true
 or_true true = refl
@@ -324,13 +324,6 @@ any_more test xs x passes = list_any-append test xs (x ∷ []) ∙ rw passes (or
 pub any_other : {X : Type 0} (test : X → Bool) (xs : List X) (x : X) → test x ≡ false →
     list_any test (xs ++ x ∷ []) ≡ list_any test xs
 any_other test xs x fails = list_any-append test xs (x ∷ []) ∙ rw fails (or-false (list_any test xs))
-
--- two messages that are the same by their names are equal
-pub same_message-true : (a b : Message) → same_message a b ≡ true → a ≡ b
-same_message-true a b same =
-    let rank : a.rank ≡ b.rank = eqb-true a.rank b.rank (and_left (a.rank == b.rank) (a.n == b.n) same) in
-    let n : a.n ≡ b.n = eqb-true a.n b.n (and_right (a.rank == b.rank) (a.n == b.n) same) in
-    λ i. record { rank = rank i; n = n i }
 
 -- each message is itself
 pub message_itself : (id : Message) → same_message id id ≡ true

@@ -15,7 +15,7 @@ use Rattle.nm_match.specs.declared.buckets.Bucket.{Bucket}
 use Rattle.nm_match.specs.declared.picks.Picks.{Picks}
 use Rattle.nm_match.specs.Buckets.{IsTaken, bucket_of, entries_of}
 use Rattle.nm_match.specs.Picks.{same_picks}
-use Rattle.nm_match.proofs.BucketLemmas.{same_picks-flip, same_picks-self, same_picks-true}
+use Rattle.nm_match.specs.SameKeys.{same_picks-flip, same_picks-self, same_picks-true}
 
 same_picks-laws : IsEquivalence same_picks
 same_picks-laws = record {

@@ -2,7 +2,6 @@
 -- have the oldest.
 use Rattle.std.proofs.Common.{◌≡◌, ℕ, Bool, true, false, cond, Option, Some, None, List, [], refl, sym, ◌∙◌, ap, subst}
 use Rattle.std.proofs.Common.{slice_get}
-use Rattle.std.specs.List.{find}
 use Rattle.std.specs.Prelude.{IfSome}
 use Rattle.nm_types.specs.declared.messages.Envelope.{Envelope}
 use Rattle.nm_types.specs.declared.messages.Peer.TheVariants as peer
@@ -11,7 +10,8 @@ use Rattle.nm_types.proofs.ListLemmas.{find_passes}
 use Rattle.nm_match.specs.declared.picks.Picks.{Picks}
 use Rattle.nm_match.specs.Buckets.{AreBuckets, IsPutLast, IsTaken, earlier_of, oldest_of}
 use Rattle.nm_match.specs.Picks.{names_both, same_picks}
-use Rattle.nm_match.proofs.BucketLemmas.{front_is_found, same_picks-true}
+use Rattle.nm_match.proofs.BucketLemmas.{front_is_found}
+use Rattle.nm_match.specs.SameKeys.{same_picks-true}
 
 -- what both are, the one that is chosen is
 pub either_is : {X : Type 0} (b : Bool) {x y z : X} → x ≡ z → y ≡ z → cond b x y ≡ z

@@ -6,4 +6,5 @@ pub mod Picks
 pub mod Queues
 pub mod Seen
 pub mod InTurn
+pub mod SameKeys
 pub mod SameMatching

@@ -1,5 +1,5 @@
 -- When two keys of buckets are the same, and the key of each thing that waits.
-use Rattle.std.specs.Prelude.{◌==◌, Bool, true, false, not, ◌&&◌, ◌||◌}
+use Rattle.std.specs.Prelude.{ℕ, ◌+◌, ◌*◌, ◌==◌, Bool, true, false, not, ◌&&◌, ◌||◌}
 use Rattle.nm_types.specs.declared.messages.Arrival.{Arrival}
 use Rattle.nm_types.specs.declared.messages.Peer.{Peer}
 use Rattle.nm_types.specs.declared.messages.Peer.TheVariants as peer
@@ -23,6 +23,20 @@ same_tag _ _ = false
 -- the same source, the same tag and the same context
 abbrev pub same_picks : Picks → Picks → Bool
 same_picks a b = same_peer a.from b.from && same_tag a.tag b.tag && a.ctx == b.ctx
+
+-- a source as a number, and any source as 0
+abbrev pub peer_code : Peer → ℕ
+peer_code peer.Any = 0
+peer_code (peer.One rank) = 1 + rank
+
+-- a tag as a number, and any tag as 0
+abbrev pub tag_code : TagPick → ℕ
+tag_code tag.Any = 0
+tag_code (tag.One t) = 1 + t
+
+-- a source, a tag and a context as one number: that of a source is below 512, that of a tag below 2^17
+abbrev pub code_of : Picks → ℕ
+code_of a = peer_code a.from + 512 * tag_code a.tag + 67108864 * a.ctx
 
 -- what a posted receive names
 abbrev pub picks_of_post : post.Post → Picks

@@ -1,13 +1,15 @@
 //! What receives and messages are known by, and where they stand.
 
-ghost use Rattle.std.specs.Prelude.{◌≡◌, ◌<◌, ◌^◌};
+ghost use Rattle.std.specs.Prelude.{◌≡◌, ◌<◌, ◌^◌, ◌+◌, ◌*◌};
+ghost use Rattle.std.specs.Hash as fed;
 ghost use Rattle.nm_match.specs.Names.{id_of_arrival, id_of_receive, is_aside as is_aside_lem};
 
 use crate::picks::Picks;
 use nm_types::Arrival;
+use std::hash::{Hash, Hasher};
 
 /// A message, by the other rank of it and its number among those of the two.
-#[derive(Clone, Copy, Eq, Hash)]
+#[derive(Clone, Copy, Eq)]
 pub struct Message {
     pub rank: u8,
     pub n: u64,
@@ -24,6 +26,18 @@ impl PartialEq for Message {
 
     fn eq(&self, other: &Message) -> bool {
         self.rank == other.rank && self.n == other.n
+    }
+}
+
+impl Hash for Message {
+    ghost use Rattle.nm_match.specs.SameKeys.{message_alike};
+
+    ghost hash_input = { λ a. fed.u128 (a.rank + 256 * a.n) };
+
+    ghost respects_eq = { message_alike.fed };
+
+    fn hash<H: Hasher>(&self, state: &mut H) {
+        state.write_u128(u128::from(self.rank) + 256 * u128::from(self.n));
     }
 }
 

@@ -1,12 +1,14 @@
 //! The keys of the buckets.
 
 ghost use Rattle.std.specs.Prelude.{◌≡◌};
-ghost use Rattle.nm_match.specs.Picks.{names_both, picks_of_arrival, picks_of_post};
+ghost use Rattle.std.specs.Hash as fed;
+ghost use Rattle.nm_match.specs.Picks.{code_of, names_both, picks_of_arrival, picks_of_post};
 
 use nm_types::{Arrival, Peer, Post, TagPick};
+use std::hash::{Hash, Hasher};
 
 /// What a receive names: a source, a tag and a context. What waits in one bucket has the same.
-#[derive(Clone, Copy, Eq, Hash)]
+#[derive(Clone, Copy, Eq)]
 pub struct Picks {
     pub from: Peer,
     pub tag: TagPick,
@@ -24,6 +26,33 @@ impl PartialEq for Picks {
 
     fn eq(&self, other: &Picks) -> bool {
         self.from == other.from && self.tag == other.tag && self.ctx == other.ctx
+    }
+}
+
+/// A source, a tag and a context as one number.
+fn code(from: Peer, tag: TagPick, ctx: u8) -> u64
+    ensures { result ≡ code_of (record { from = from; tag = tag; ctx = ctx }) }
+{
+    let from = match from {
+        Peer::Any => 0,
+        Peer::One(rank) => 1 + u64::from(rank),
+    };
+    let tag = match tag {
+        TagPick::Any => 0,
+        TagPick::One(tag) => 1 + u64::from(tag),
+    };
+    from + 512 * tag + 67108864 * u64::from(ctx)
+}
+
+impl Hash for Picks {
+    ghost use Rattle.nm_match.specs.SameKeys.{picks_alike};
+
+    ghost hash_input = { λ a. fed.u64 (code_of a) };
+
+    ghost respects_eq = { picks_alike.fed };
+
+    fn hash<H: Hasher>(&self, state: &mut H) {
+        state.write_u64(code(self.from, self.tag, self.ctx));
     }
 }
 
