@@ -1,5 +1,6 @@
 -- The names that are taken.
-use Rattle.std.specs.Prelude.{◌≡◌, ℕ, ◌+◌, ◌<◌, ◌≤◌, ◌^◌, ◌||◌, Bool, List, nat_lt, get_or, length}
+use Rattle.std.specs.Prelude.{◌≡◌, ℕ, ◌+◌, ◌<◌, ◌≤◌, ◌^◌, ◌||◌, ◌&&◌, ◌==◌, Bool, false, List}
+use Rattle.std.specs.Prelude.{not, nat_lt, get_or, length}
 use Rattle.std.specs.List.{All, list_any}
 use Rattle.indexmap.specs.IndexSet.{contains, spare}
 use Rattle.nm_history.specs.Sends.{messages as messages_of, posts}
@@ -17,9 +18,13 @@ next_of s group = get_or s.next.items group 0
 abbrev pub has_seen : Seen → Message → Bool
 has_seen s id = nat_lt id.n (next_of s id.rank) || contains same_message s.apart id
 
--- there is room for a name
+-- a name is the next of its group, and not the last number that there is
+abbrev pub is_next : Seen → Message → Bool
+is_next s id = id.n == next_of s id.rank && not (next_of s id.rank == 18446744073709551615)
+
+-- there is room for a name: to count it, where it is next, or else to stand apart
 abbrev pub HasRoom : Seen → Message → Type 0
-HasRoom s id = (id.rank < length s.next.items) × (0 < spare s.apart)
+HasRoom s id = (id.rank < length s.next.items) × (is_next s id ≡ false → 0 < spare s.apart)
 
 -- The names of these deeds are taken, and no others. Numbers are below 2^64, and ranks below 2^8; so
 -- the order number of the next that waits, which counts some of them, is below 2^73.

@@ -4,7 +4,7 @@ ghost use Rattle.std.specs.Prelude.{◌≡◌, ℕ, ◌+◌, ◌<◌, ◌&&◌, 
 ghost use Rattle.std.specs.Prelude.{if◌then◌else◌, IsTrue, OnOk};
 ghost use Rattle.nm_match.specs.declared.names.Message as message;
 ghost use Rattle.nm_match.specs.Names.{same_message};
-ghost use Rattle.nm_match.specs.Seen.{HasRoom, has_seen, next_of};
+ghost use Rattle.nm_match.specs.Seen.{HasRoom, has_seen, is_next, next_of};
 
 use crate::names::Message;
 use indexmap::IndexSet;
@@ -56,7 +56,15 @@ impl Seen {
         id.n < self.next_of(id.rank) || self.apart.contains(&id)
     }
 
-    /// Makes room for a name.
+    /// Whether a name is the next of its group, and not the last number that there is.
+    fn is_next(&self, id: Message) -> bool
+        ensures { result ≡ is_next self.now id }
+    {
+        let next = self.next_of(id.rank);
+        id.n == next && next != u64::MAX
+    }
+
+    /// Makes room for a name. One that is next of its group stands apart nowhere.
     pub(crate) fn make_room(&mut self, id: Message) -> Result<(), Memory>
         ensures same { (i : message.Message) → has_seen self.new i ≡ has_seen self.old i }
         ensures room { OnOk result (HasRoom self.new id) }
@@ -65,25 +73,26 @@ impl Seen {
         if self.next.len() < groups {
             self.next.resize(groups, 0)?;
         }
-        self.apart.reserve(1)?;
+        if !self.is_next(id) {
+            self.apart.reserve(1)?;
+        }
         Ok(())
     }
 
-    /// Counts a name where it is the next of its group and not the last number that there is, and
-    /// answers whether it did.
+    /// Counts a name that is next of its group, and answers whether it did.
     fn count(&mut self, id: Message) -> bool
         requires { id.rank < length self.old.next.items }
+        ensures missed { result ≡ false → is_next self.old id ≡ false }
         ensures counted { IsTrue result → id.n ≡ next_of self.old id.rank }
         ensures next { (group : ℕ) → next_of self.new group
             ≡ (if result && id.rank == group then id.n + 1 else next_of self.old group) }
         ensures apart { self.new.apart ≡ self.old.apart }
         ensures len { length self.new.next.items ≡ length self.old.next.items }
     {
-        let next = self.next_of(id.rank);
-        if id.n != next || next == u64::MAX {
+        if !self.is_next(id) {
             return false;
         }
-        self.next[id.rank as usize] = next + 1;
+        self.next[id.rank as usize] += 1;
         true
     }
 
@@ -105,6 +114,19 @@ impl Seen {
         }
     }
 
+    /// Counts a name, or else sets it apart.
+    fn note(&mut self, id: Message)
+        requires room { HasRoom self.old id }
+        ensures added { (i : message.Message) →
+            has_seen self.new i ≡ (has_seen self.old i || same_message id i) }
+        ensures len { length self.new.next.items ≡ length self.old.next.items }
+    {
+        if self.count(id) {
+            return;
+        }
+        self.apart.insert(id).unwrap();
+    }
+
     /// Takes a name. Of those that stand apart up to two are counted, so that they are the fewer
     /// the more names come.
     pub(crate) fn add(&mut self, id: Message)
@@ -112,9 +134,7 @@ impl Seen {
         ensures { (i : message.Message) →
             has_seen self.new i ≡ (has_seen self.old i || same_message id i) }
     {
-        if !self.count(id) {
-            self.apart.insert(id).unwrap();
-        }
+        self.note(id);
         self.absorb(id.rank);
         self.absorb(id.rank);
     }
