@@ -135,6 +135,9 @@ impl Seen {
             has_seen self.new i ≡ (has_seen self.old i || same_message id i) }
     {
         self.note(id);
+        if self.apart.is_empty() {
+            return;
+        }
         self.absorb(id.rank);
         self.absorb(id.rank);
     }
