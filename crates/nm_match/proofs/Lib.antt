@@ -14,6 +14,7 @@ pub mod StandsLemmas
 mod StepLemmas
 pub mod TurnLemmas
 mod EventLemmas
+mod RowLemmas
 mod SearchLemmas
 mod SeenLemmas
 mod WildLemmas

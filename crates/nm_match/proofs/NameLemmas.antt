@@ -13,7 +13,6 @@ use Rattle.std.proofs.lemmas.Bool.{eqb-true, false≢true, false_from_ne_true}
 use Rattle.std.proofs.lemmas.Bool.Decides.{nat_tests}
 use Rattle.std.proofs.lemmas.List.Elements.{All-filter}
 use Rattle.std.proofs.lemmas.List.Folds.{find-append, list_any-append}
-use Rattle.indexmap.specs.IndexMap.{IndexMap, get}
 use Rattle.nm_types.specs.declared.messages.Arrival.{Arrival}
 use Rattle.nm_match.specs.declared.names.Message.{Message}
 use Rattle.nm_match.specs.declared.names.Standing.{Standing}
@@ -41,14 +40,14 @@ pub or_none : {X : Type 0} (o : Option X) → option_or o None ≡ o
 or_none None = refl
 or_none (Some x) = refl
 
-module _ {X K T : Type 0} {same : K → K → Bool} {known : X → K → Bool} {key : X → Picks} {items : List X}
-    {aside : K → Bool} {next : ℕ} {m : Picks → List (ℕ × X)} {standings : IndexMap K Standing T}
-    (is : IsNamedQueue same known key items aside next m standings) where
+module _ {X K : Type 0} {known : X → K → Bool} {key : X → Picks} {items : List X}
+    {aside : K → Bool} {next : ℕ} {m : Picks → List (ℕ × X)} {stands_at : K → Option Standing}
+    (is : IsNamedQueue known key items aside next m stands_at) where
   abbrev standing : K → Option (ℕ × X) → Option Standing
   standing name o = option_map_or (λ (x : ℕ × X). Some (Waits (key x.1) x.0)) o (cond (aside name) (Some Aside) None)
 
   -- what waits at a place
-  pub at_place : (name : K) (k : Picks) (order : ℕ) → get same standings name ≡ Some (Waits k order) →
+  pub at_place : (name : K) (k : Picks) (order : ℕ) → stands_at name ≡ Some (Waits k order) →
       (x : ℕ × X) × (find (λ (y : ℕ × X). known y.1 name) is.is.queue ≡ Some x) × (key x.1 ≡ k) × (x.0 ≡ order)
   at_place name k order there =
       at (find (λ (y : ℕ × X). known y.1 name) is.is.queue) refl (sym (is.stands name) ∙ there)
@@ -65,7 +64,7 @@ module _ {X K T : Type 0} {same : K → K → Bool} {known : X → K → Bool} {
           let k_same : key x.1 ≡ k = cc in let order_same : x.0 ≡ order = cc in (x, found, k_same, order_same)
 
   -- it is what the queue has of this name
-  pub place_found : (name : K) (k : Picks) (order : ℕ) → get same standings name ≡ Some (Waits k order) →
+  pub place_found : (name : K) (k : Picks) (order : ℕ) → stands_at name ≡ Some (Waits k order) →
       (x : X) × (find (λ x. known x name) items ≡ Some x)
   place_found name k order there =
       let waits = at_place name k order there in (
@@ -78,7 +77,7 @@ module _ {X K T : Type 0} {same : K → K → Bool} {known : X → K → Bool} {
   pub waits_by_name : (R : X → X → Type 0) → AllPairs R items →
       ((x y : X) (name : K) → R x y → known x name ≡ true → known y name ≡ true → ⊥) →
       (t : ℕ × X → Bool) (x : ℕ × X) → find t is.is.queue ≡ Some x → (name : K) → known x.1 name ≡ true →
-      get same standings name ≡ Some (Waits (key x.1) x.0)
+      stands_at name ≡ Some (Waits (key x.1) x.0)
   waits_by_name R two apart t x found name named =
       is.stands name ∙ ap (λ (o : Option (ℕ × X)). standing name o)
       (find_only (λ (y : ℕ × X). known y.1 name) t (λ (y z : ℕ × X). R y.1 z.1)
@@ -87,7 +86,7 @@ module _ {X K T : Type 0} {same : K → K → Bool} {known : X → K → Bool} {
       x found named)
 
   -- nothing waits that has no place
-  pub no_place : (name : K) → get same standings name ≡ option_map (λ s. Aside) (get same standings name) →
+  pub no_place : (name : K) → stands_at name ≡ option_map (λ s. Aside) (stands_at name) →
       find (λ x. known x name) items ≡ None
   no_place name says = sym (queue_find is.is (λ x. known x name))
       ∙ ap (λ (o : Option (ℕ × X)). option_map (λ (y : ℕ × X). y.1) o)
@@ -97,26 +96,26 @@ module _ {X K T : Type 0} {same : K → K → Bool} {known : X → K → Bool} {
           find (λ (y : ℕ × X). known y.1 name) is.is.queue ≡ None
       at None nothing = nothing
       at (Some x) found =
-          let waits : get same standings name ≡ Some (Waits (key x.1) x.0)
+          let waits : stands_at name ≡ Some (Waits (key x.1) x.0)
           = is.stands name ∙ ap (λ (o : Option (ℕ × X)). standing name o) found in
           let never = rw waits at says in absurd (grind arith)
 
   -- what does not wait is aside or nowhere
   pub stands_aside : (name : K) → find (λ x. known x name) items ≡ None →
-      get same standings name ≡ cond (aside name) (Some Aside) None
+      stands_at name ≡ cond (aside name) (Some Aside) None
   stands_aside name none = is.stands name ∙ ap (λ (o : Option (ℕ × X)). standing name o)
       (mapped_none (λ (y : ℕ × X). y.1) (find (λ (y : ℕ × X). known y.1 name) is.is.queue)
       (queue_find is.is (λ x. known x name) ∙ none))
 
   -- what waits is not aside
-  pub waits_not_aside : (name : K) (s : Standing) → get same standings name ≡ Some s →
+  pub waits_not_aside : (name : K) (s : Standing) → stands_at name ≡ Some s →
       is_some (find (λ x. known x name) items) ≡ true → is_aside s ≡ false
   waits_not_aside name (Waits k order) says some = refl
   waits_not_aside name Aside says some = absurd (false≢true (sym (ap is_some (no_place name (says
       ∙ sym (ap (λ (o : Option Standing). option_map (λ s. Aside) o) says)))) ∙ some))
 
   -- the same buckets after more deeds
-  pub named_aged : (later : ℕ) → next ≤ later → IsNamedQueue same known key items aside later m standings
+  pub named_aged : (later : ℕ) → next ≤ later → IsNamedQueue known key items aside later m stands_at
   named_aged later after = record {
     is = record {
       queue = is.is.queue;
@@ -126,20 +125,19 @@ module _ {X K T : Type 0} {same : K → K → Bool} {known : X → K → Bool} {
     stands = is.stands;
   }
 
-  module _ (m' : Picks → List (ℕ × X)) (standings' : IndexMap K Standing T) where
-    -- where no bucket and no standing changed
-    pub named_kept : ((k : Picks) → m' k ≡ m k) →
-        ((name : K) → get same standings' name ≡ get same standings name) →
-        IsNamedQueue same known key items aside next m' standings'
-    named_kept bucket stands = record {
-      is = record {
-        queue = is.is.queue;
-        are = kept is.is.are m' next (omega arith) bucket;
-        same = is.is.same;
-      };
-      stands = λ name. stands name ∙ is.stands name;
-    }
+  -- where no bucket and no standing changed
+  pub named_kept : (m' : Picks → List (ℕ × X)) (stands_at' : K → Option Standing) → ((k : Picks) → m' k ≡ m k) →
+      ((name : K) → stands_at' name ≡ stands_at name) → IsNamedQueue known key items aside next m' stands_at'
+  named_kept m' stands_at' bucket stands = record {
+    is = record {
+      queue = is.is.queue;
+      are = kept is.is.are m' next (omega arith) bucket;
+      same = is.is.same;
+    };
+    stands = λ name. stands name ∙ is.stands name;
+  }
 
+  module _ (same : K → K → Bool) (m' : Picks → List (ℕ × X)) (stands_at' : K → Option Standing) where
     -- after one was taken from its bucket
     pub named_taken : (R : X → X → Type 0) → AllPairs R items →
         ((x y : X) (name : K) → R x y → known x name ≡ true → known y name ≡ true → ⊥) → (test : X → Bool)
@@ -148,9 +146,9 @@ module _ {X K T : Type 0} {same : K → K → Bool} {known : X → K → Bool} {
         m' (key x.1) ≡ remove_entry (is_at (nat_cmp x.0)) (m (key x.1)) →
         ((k : Picks) → same_picks (key x.1) k ≡ false → m' k ≡ m k) →
         (aside' : K → Bool) → ((name : K) → same id name ≡ false → aside' name ≡ aside name) →
-        ((name : K) → same id name ≡ true → get same standings' name ≡ cond (aside' name) (Some Aside) None) →
-        ((name : K) → same id name ≡ false → get same standings' name ≡ get same standings name) →
-        IsNamedQueue same known key (without_first test items) aside' next m' standings'
+        ((name : K) → same id name ≡ true → stands_at' name ≡ cond (aside' name) (Some Aside) None) →
+        ((name : K) → same id name ≡ false → stands_at' name ≡ stands_at name) →
+        IsNamedQueue known key (without_first test items) aside' next m' stands_at'
     named_taken R two apart test x found id is_id own others aside' agree there elsewhere = record {
       is = record {
         queue = without_first t queue;
@@ -171,7 +169,7 @@ module _ {X K T : Type 0} {same : K → K → Bool} {known : X → K → Bool} {
         t y = test y.1
 
         at : (name : K) (b : Bool) → same id name ≡ b →
-            get same standings' name ≡ standing_of known key (without_first t queue) aside' name
+            stands_at' name ≡ standing_of known key (without_first t queue) aside' name
         at name true here = there name here
             ∙ sym (ap (λ (o : Option (ℕ × X)). option_map_or (λ (x : ℕ × X). Some (Waits (key x.1) x.0)) o
             (cond (aside' name) (Some Aside) None))
@@ -187,14 +185,14 @@ module _ {X K T : Type 0} {same : K → K → Bool} {known : X → K → Bool} {
     -- after what waits at a place was taken from there
     pub place_taken : (R : X → X → Type 0) → AllPairs R items →
         ((x y : X) (name : K) → R x y → known x name ≡ true → known y name ≡ true → ⊥) → (id : K)
-        (k : Picks) (order : ℕ) → get same standings id ≡ Some (Waits k order) →
+        (k : Picks) (order : ℕ) → stands_at id ≡ Some (Waits k order) →
         ((x : X) → known x id ≡ true → (name : K) → known x name ≡ same id name) →
         m' k ≡ remove_entry (is_at (nat_cmp order)) (m k) →
         ((l : Picks) → same_picks k l ≡ false → m' l ≡ m l) →
         (aside' : K → Bool) → ((name : K) → same id name ≡ false → aside' name ≡ aside name) →
-        ((name : K) → same id name ≡ true → get same standings' name ≡ cond (aside' name) (Some Aside) None) →
-        ((name : K) → same id name ≡ false → get same standings' name ≡ get same standings name) →
-        IsNamedQueue same known key (without_first (λ x. known x id) items) aside' next m' standings'
+        ((name : K) → same id name ≡ true → stands_at' name ≡ cond (aside' name) (Some Aside) None) →
+        ((name : K) → same id name ≡ false → stands_at' name ≡ stands_at name) →
+        IsNamedQueue known key (without_first (λ x. known x id) items) aside' next m' stands_at'
     place_taken R two apart id k order there is_id own others aside' agree here elsewhere =
         let waits = at_place id k order there in
         let x : ℕ × X = waits.0 in
@@ -211,9 +209,9 @@ module _ {X K T : Type 0} {same : K → K → Bool} {known : X → K → Bool} {
     pub named_freed : ((a b : K) → same a b ≡ true → a ≡ b) → (id : K) → find (λ x. known x id) items ≡ None →
         ((k : Picks) → m' k ≡ m k) →
         (aside' : K → Bool) → ((name : K) → same id name ≡ false → aside' name ≡ aside name) →
-        ((name : K) → same id name ≡ true → get same standings' name ≡ cond (aside' name) (Some Aside) None) →
-        ((name : K) → same id name ≡ false → get same standings' name ≡ get same standings name) →
-        IsNamedQueue same known key items aside' next m' standings'
+        ((name : K) → same id name ≡ true → stands_at' name ≡ cond (aside' name) (Some Aside) None) →
+        ((name : K) → same id name ≡ false → stands_at' name ≡ stands_at name) →
+        IsNamedQueue known key items aside' next m' stands_at'
     named_freed same_true id none bucket aside' agree there elsewhere = record {
       is = record {
         queue = is.is.queue;
@@ -224,7 +222,7 @@ module _ {X K T : Type 0} {same : K → K → Bool} {known : X → K → Bool} {
     }
       where
         at : (name : K) (b : Bool) → same id name ≡ b →
-            get same standings' name ≡ standing_of known key is.is.queue aside' name
+            stands_at' name ≡ standing_of known key is.is.queue aside' name
         at name true here = there name here
             ∙ sym (ap (λ (o : Option (ℕ × X)). option_map_or (λ (x : ℕ × X). Some (Waits (key x.1) x.0)) o
             (cond (aside' name) (Some Aside) None))
@@ -240,9 +238,9 @@ module _ {X K T : Type 0} {same : K → K → Bool} {known : X → K → Bool} {
         ((name : K) → same id name ≡ true → find (λ x. known x name) items ≡ None) →
         IsPutLast next item (m (key item)) (m' (key item)) →
         ((k : Picks) → same_picks (key item) k ≡ false → m' k ≡ m k) →
-        ((name : K) → same id name ≡ true → get same standings' name ≡ Some (Waits (key item) next)) →
-        ((name : K) → same id name ≡ false → get same standings' name ≡ get same standings name) →
-        IsNamedQueue same known key (items ++ item ∷ []) aside (next + 1) m' standings'
+        ((name : K) → same id name ≡ true → stands_at' name ≡ Some (Waits (key item) next)) →
+        ((name : K) → same id name ≡ false → stands_at' name ≡ stands_at name) →
+        IsNamedQueue known key (items ++ item ∷ []) aside (next + 1) m' stands_at'
     named_put item id is_id new own others there elsewhere = record {
       is = record {
         queue = queue ++ (next, item) ∷ [];
@@ -266,7 +264,7 @@ module _ {X K T : Type 0} {same : K → K → Bool} {known : X → K → Bool} {
         grown name = find-append (λ (y : ℕ × X). known y.1 name) queue ((next, item) ∷ [])
 
         at : (name : K) (b : Bool) → same id name ≡ b →
-            get same standings' name ≡ standing name (find (λ (y : ℕ × X). known y.1 name) (queue ++ (next, item) ∷ []))
+            stands_at' name ≡ standing name (find (λ (y : ℕ × X). known y.1 name) (queue ++ (next, item) ∷ []))
         at name true here = there name here ∙ sym (ap (λ (o : Option (ℕ × X)). standing name o)
             (grown name ∙ (λ i. option_or (mapped_none (λ (y : ℕ × X). y.1)
             (find (λ (y : ℕ × X). known y.1 name) queue) (queue_find is.is (λ x. known x name) ∙ new name here) i)
@@ -278,11 +276,11 @@ module _ {X K T : Type 0} {same : K → K → Bool} {known : X → K → Bool} {
             ∙ or_none (find (λ (y : ℕ × X). known y.1 name) queue)))
 
 -- nothing waits in empty buckets
-pub named_none : {X K T : Type 0} {same : K → K → Bool} {known : X → K → Bool} {key : X → Picks}
+pub named_none : {X K : Type 0} {known : X → K → Bool} {key : X → Picks}
     {aside : K → Bool} {next : ℕ} {m : Picks → List (ℕ × X)}
-    {standings : IndexMap K Standing T} → ((k : Picks) → m k ≡ []) →
-    ((name : K) → get same standings name ≡ None) → ((name : K) → aside name ≡ false) →
-    IsNamedQueue same known key [] aside next m standings
+    {stands_at : K → Option Standing} → ((k : Picks) → m k ≡ []) →
+    ((name : K) → stands_at name ≡ None) → ((name : K) → aside name ≡ false) →
+    IsNamedQueue known key [] aside next m stands_at
 named_none none nowhere no_one = record {
   is = record {
     queue = [];
@@ -297,12 +295,12 @@ named_none none nowhere no_one = record {
 }
 
 -- what holds of a name holds of each that is the same
-pub there_at : {K T : Type 0} {same : K → K → Bool} → ((a b : K) → same a b ≡ true → a ≡ b) →
-    (aside : K → Bool) (standings : IndexMap K Standing T) (id : K) →
-    get same standings id ≡ cond (aside id) (Some Aside) None → (name : K) → same id name ≡ true →
-    get same standings name ≡ cond (aside name) (Some Aside) None
-there_at {K} {T} {same} same_true aside standings id there name here =
-    subst (λ (name : K). get same standings name ≡ cond (aside name) (Some Aside) None) (same_true id name here) there
+pub there_at : {K : Type 0} {same : K → K → Bool} → ((a b : K) → same a b ≡ true → a ≡ b) →
+    (aside : K → Bool) (stands_at : K → Option Standing) (id : K) →
+    stands_at id ≡ cond (aside id) (Some Aside) None → (name : K) → same id name ≡ true →
+    stands_at name ≡ cond (aside name) (Some Aside) None
+there_at {K} {same} same_true aside stands_at id there name here =
+    subst (λ (name : K). stands_at name ≡ cond (aside name) (Some Aside) None) (same_true id name here) there
 
 -- where it is nowhere, it is not aside
 pub none_aside : (b : Bool) → None ≡ cond b (Some Aside) None → b ≡ false

@@ -5,6 +5,7 @@ pub mod Names
 pub mod Picks
 pub mod Queues
 pub mod Seen
+pub mod Standings
 pub mod InTurn
 pub mod SameKeys
 pub mod SameMatching

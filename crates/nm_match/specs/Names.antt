@@ -1,9 +1,9 @@
 -- What receives and messages are known by, and where they stand.
 use Rattle.std.specs.Prelude.{◌≡◌, ℕ, ◌==◌, ◌&&◌, Bool, true, false, List, Option, Some, None}
-use Rattle.std.specs.Prelude.{if◌then◌else◌, nat_eq}
+use Rattle.std.specs.Prelude.{if◌then◌else◌}
 use Rattle.std.specs.List.{find, list_any}
 use Rattle.std.specs.Option.{option_map_or}
-use Rattle.indexmap.specs.IndexMap.{IndexMap, get}
+use Rattle.indexmap.specs.IndexMap.{get}
 use Rattle.nm_types.specs.declared.messages.Arrival.{Arrival}
 use Rattle.nm_types.specs.declared.messages.Post as post
 use Rattle.nm_history.specs.Continues.{has}
@@ -16,6 +16,7 @@ use Rattle.nm_match.specs.declared.unexpected.Unexpected.{Unexpected}
 use Rattle.nm_match.specs.Buckets.{IsQueue, bucket_of}
 use Rattle.nm_match.specs.Deeds.{is_message}
 use Rattle.nm_match.specs.Picks.{names_both, picks_of_arrival, picks_of_post}
+use Rattle.nm_match.specs.Standings.{standing_at}
 
 -- the same message of the same rank
 abbrev pub same_message : Message → Message → Bool
@@ -53,13 +54,12 @@ standing_of known key queue aside name =
     option_map_or (λ x. Some (Waits (key x.1) x.0)) (find (λ x. known x.1 name) queue)
     (if aside name then Some Aside else None)
 
--- The buckets hold these things in order of age, and a map says of each name where it stands.
-pub record IsNamedQueue {X K T : Type 0} (same : K → K → Bool) (known : X → K → Bool)
-    (key : X → Picks) (items : List X) (aside : K → Bool) (next : ℕ)
-    (bucket : Picks → List (ℕ × X)) (standings : IndexMap K Standing T)
+-- The buckets hold these things in order of age, and it is known of each name where it stands.
+pub record IsNamedQueue {X K : Type 0} (known : X → K → Bool) (key : X → Picks) (items : List X)
+    (aside : K → Bool) (next : ℕ) (bucket : Picks → List (ℕ × X)) (standing : K → Option Standing)
     : Type 0 where
   pub is : IsQueue key items next bucket
-  pub stands : (name : K) → get same standings name ≡ standing_of known key is.queue aside name
+  pub stands : (name : K) → standing name ≡ standing_of known key is.queue aside name
 
 -- the receives that wait under a key: those that name a source and a tag stand apart from the others
 abbrev pub posted_under : Posted → Picks → List (ℕ × post.Post)
@@ -69,11 +69,11 @@ posted_under p key =
 -- these receives wait, and these numbers are of cancelled ones
 abbrev pub ArePosted : List post.Post → List ℕ → ℕ → Posted → Type 0
 ArePosted posts cancelled next p =
-    IsNamedQueue nat_eq has_number picks_of_post posts (has cancelled) next (posted_under p)
-    p.standings
+    IsNamedQueue has_number picks_of_post posts (has cancelled) next (posted_under p)
+    (standing_at p.standings)
 
 -- these messages wait, and these are claimed
 abbrev pub AreUnexpected : List Arrival → List Arrival → ℕ → Unexpected → Type 0
 AreUnexpected arrivals claimed next u =
-    IsNamedQueue same_message has_id picks_of_arrival arrivals (has_one claimed) next
-    (bucket_of u.waiting.map) u.standings
+    IsNamedQueue has_id picks_of_arrival arrivals (has_one claimed) next (bucket_of u.waiting.map)
+    (get same_message u.standings)

@@ -28,10 +28,13 @@
 //! cancel, a withdrawal, `is_claimed` and `take_claimed` look up one name. A bucket is found by
 //! hashing, and an entry leaves it in steps that grow with the logarithm of what is there. No bucket
 //! is empty, which its type says: its oldest entry stands by itself, and an emptied bucket goes.
-//! `knows_post` and `knows_arrival` look up one number.
+//! `knows_post` and `knows_arrival` look up one number. Receives whose numbers come one after another
+//! stand in a row, where a number is its place, and nothing is hashed.
 //! # What it holds
-//! What waits, what is claimed and not yet received, and the numbers of the cancelled receives. Which
-//! numbers are taken is known by the next of each, and by those that came before their time.
+//! What waits, what is claimed and not yet received, and the numbers of the cancelled receives. The
+//! row of receives begins anew where nothing stands in it, and grows to at most eight places for each
+//! receive that stands there, and 64 more. Which numbers are taken is known by the next of each, and by
+//! those that came before their time.
 //! # What is only tested
 //! That `post`, `arrive`, `claim` and `take_claimed` succeed with ample memory.
 #![tactic(auto)]
@@ -45,6 +48,7 @@ mod names;
 mod picks;
 mod posted;
 mod seen;
+mod standings;
 mod unexpected;
 
 pub use deeds::Deed;

@@ -33,9 +33,9 @@ use std::marker::Model;
 /// messages of that sender. What waits is in buckets by source, tag and context, and has an order
 /// number, which grows with age: an arrival looks at the four buckets of receives that can select
 /// it, a source and a tag that are named at one bucket of messages, and a wildcard at the first
-/// message of each bucket. A map by numbers and one by messages say which bucket each is in, and
-/// under which order number, and what is cancelled or claimed: so `cancel`, `withdraw`,
-/// `is_claimed` and `take_claimed` walk nothing.
+/// message of each bucket. Of receives it is known by their numbers, and of messages by a map, which
+/// bucket each is in, and under which order number, and what is cancelled or claimed: so `cancel`,
+/// `withdraw`, `is_claimed` and `take_claimed` walk nothing.
 ///
 /// What is paired, withdrawn or received takes no place. Which numbers are taken is known by the
 /// next of each, as long as they come in order, counted from 0, and a number that is before its

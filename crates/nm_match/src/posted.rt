@@ -2,8 +2,7 @@
 
 ghost use Rattle.std.specs.Prelude.{◌≡◌, ℕ, ◌+◌, ◌++◌, [], ◌∷◌, ◌==◌, false, None};
 ghost use Rattle.std.specs.Prelude.{AllPairs, IfSome, IsTrue, List, MatchOption, OnErr, OnOk, Some};
-ghost use Rattle.std.specs.Prelude.{find, is_some, nat_eq, option_map};
-ghost use Rattle.indexmap.specs.IndexMap.{get};
+ghost use Rattle.std.specs.Prelude.{find, is_some, option_map};
 ghost use Rattle.nm_types.specs.declared.messages.Post as post;
 ghost use Rattle.nm_history.specs.Selection.{matches};
 ghost use Rattle.nm_match.specs.declared.names.Standing.TheVariants as standing;
@@ -13,11 +12,12 @@ ghost use Rattle.nm_match.specs.declared.picks.Picks as picks;
 ghost use Rattle.nm_match.specs.Names.{ArePosted, posted_under};
 ghost use Rattle.nm_match.specs.Picks.{picks_of_post, same_picks};
 ghost use Rattle.nm_match.specs.Queues.{TwoReceives, without_first};
+ghost use Rattle.nm_match.specs.Standings.{standing_at};
 
 use crate::buckets::{Buckets, earlier};
 use crate::names::Standing;
 use crate::picks::{Picks, is_named, of_post};
-use indexmap::IndexMap;
+use crate::standings::Standings;
 use nm_types::{Envelope, Memory, Peer, Post, TagPick};
 use std::alloc::Global;
 
@@ -28,7 +28,7 @@ pub struct Posted {
     /// Those that take any source or any tag.
     pub wild: Buckets<Post>,
     /// Where each of them stands, by its number.
-    pub standings: IndexMap<u64, Standing>,
+    pub standings: Standings,
 }
 
 impl Drop for Posted {
@@ -41,18 +41,6 @@ impl Drop for Posted {
     }
 }
 
-/// Sets aside the receive of this number, if it waits.
-fn set_aside(standings: &mut IndexMap<u64, Standing>, number: u64)
-    ensures own { get nat_eq standings.new number
-        ≡ option_map (λ s. standing.Aside) (get nat_eq standings.old number) }
-    ensures others { (n : ℕ) → nat_eq number n ≡ false →
-        get nat_eq standings.new n ≡ get nat_eq standings.old n }
-{
-    if let Some(standing) = standings.get_mut(&number) {
-        *standing = Standing::Aside;
-    }
-}
-
 impl Posted {
     /// No receive was posted.
     pub(crate) fn new(alloc: Global) -> Self
@@ -61,7 +49,7 @@ impl Posted {
         Posted {
             named: Buckets::new(alloc),
             wild: Buckets::new(alloc),
-            standings: IndexMap::new(alloc),
+            standings: Standings::new(alloc),
         }
     }
 
@@ -132,12 +120,10 @@ impl Posted {
         ensures err { OnErr result ((posts : List post.Post) (cancelled : List ℕ) (next : ℕ) →
             ArePosted posts cancelled next self.old → ArePosted posts cancelled next self.new) }
     {
-        self.standings.reserve(1)?;
+        self.standings.make_room(p.number)?;
         let key = of_post(&p);
         self.put_under(key, order, p)?;
-        self.standings
-            .insert(p.number, Standing::Waits { key, order })
-            .unwrap();
+        self.standings.put(p.number, Standing::Waits { key, order });
         Ok(())
     }
 
@@ -177,19 +163,19 @@ impl Posted {
             self.new) }
     {
         let (_, p) = self.take_waiting(env)?;
-        let _ = self.standings.swap_remove(&p.number);
+        self.standings.remove(p.number);
         Some(p)
     }
 
     /// The key of the bucket where the receive of this number waits, and its order number there.
     fn place(&self, number: u64) -> Option<(Picks, u128)>
         ensures some { IfSome result (λ r.
-            get nat_eq self.now.standings number ≡ Some (standing.Waits r.0 r.1)) }
-        ensures none { result ≡ None → get nat_eq self.now.standings number
-            ≡ option_map (λ s. standing.Aside) (get nat_eq self.now.standings number) }
+            standing_at self.now.standings number ≡ Some (standing.Waits r.0 r.1)) }
+        ensures none { result ≡ None → standing_at self.now.standings number
+            ≡ option_map (λ s. standing.Aside) (standing_at self.now.standings number) }
     {
-        match self.standings.get(&number)? {
-            Standing::Waits { key, order } => Some((*key, *order)),
+        match self.standings.get(number)? {
+            Standing::Waits { key, order } => Some((key, order)),
             Standing::Aside => None,
         }
     }
@@ -210,7 +196,7 @@ impl Posted {
         match self.place(number) {
             Some((key, order)) => {
                 self.take_under(key, order);
-                set_aside(&mut self.standings, number);
+                self.standings.set_aside(number);
                 true
             }
             None => false,
@@ -223,7 +209,7 @@ impl Posted {
             ArePosted posts cancelled next self.now →
             find (λ p. p.number == number) posts ≡ None → result ≡ has cancelled number }
     {
-        match self.standings.get(&number) {
+        match self.standings.get(number) {
             Some(standing) => standing.is_aside(),
             None => false,
         }

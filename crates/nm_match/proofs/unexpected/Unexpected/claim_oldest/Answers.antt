@@ -3,13 +3,14 @@ use Rattle.std.proofs.Common.{◌∙◌, ℕ, ◌++◌, ◌∷◌, [], Option, S
 use Rattle.std.specs.Option.{option_map}
 use Rattle.nm_types.specs.declared.messages.Arrival.{Arrival}
 use Rattle.nm_history.specs.Selection.{matches}
+use Rattle.indexmap.specs.IndexMap.{get}
 use Rattle.nm_match.specs.declared.names.Message.{Message}
 use Rattle.nm_match.specs.declared.names.Standing.{Standing}
 use Rattle.nm_match.specs.declared.names.Standing.TheVariants.{Aside}
 use Rattle.nm_match.specs.declared.buckets.Buckets.{Buckets}
 use Rattle.nm_match.specs.Buckets.{bucket_of}
 use Rattle.nm_match.specs.Deeds.{is_message}
-use Rattle.nm_match.specs.Names.{has_one, id_of_arrival}
+use Rattle.nm_match.specs.Names.{has_one, id_of_arrival, same_message}
 use Rattle.nm_match.specs.Picks.{fits_picks, picks_of_arrival}
 use Rattle.nm_match.specs.Queues.{TwoMessages}
 use Rattle.nm_match.proofs.NameLemmas.{any_more, any_other, message_itself, named_kept, named_taken}
@@ -25,7 +26,8 @@ returns-in_err-a-clause-oldest c = λ arrivals claimed next is.
 pub returns-in_err-a-clause-others : goal.returns-in_err-a-clause-others
 returns-in_err-a-clause-others c = λ arrivals claimed next two is.
     let same = c.in_err-a.ensures.none refl in
-    rw c.from_residual.ensures (named_kept is (bucket_of c.take_selected.new.waiting.map) c.args.self.now.standings
+    rw c.from_residual.ensures (named_kept is (bucket_of c.take_selected.new.waiting.map)
+    (get same_message c.args.self.now.standings)
     (λ k. ap (λ (b : Buckets Arrival). bucket_of b.map k) same) (λ id. refl))
 
 pub returns-clause-oldest : goal.returns-clause-oldest
@@ -41,13 +43,14 @@ returns-clause-others c = λ arrivals claimed next two is.
     let waits = waits_by_name is TwoMessages two (λ a b id. messages_apart id.rank id.n a b)
     (λ (x : ℕ × Arrival). fits_picks (record { from = c.args.from; tag = c.args.tag; ctx = c.args.ctx })
     (picks_of_arrival x.1)) (c.in_ok-a.field-0-0, c.in_ok-a.a) found id (message_itself id) in
-    named_taken is (bucket_of c.take_selected.new.waiting.map) c.set_aside.new.standings TwoMessages two
+    named_taken is same_message (bucket_of c.take_selected.new.waiting.map)
+    (get same_message c.set_aside.new.standings) TwoMessages two
     (λ a b id. messages_apart id.rank id.n a b) (λ (a : Arrival). matches c.args.from c.args.tag c.args.ctx a.env)
     (c.in_ok-a.field-0-0, c.in_ok-a.a)
     (selected_found is.is.queue c.args.from c.args.tag c.args.ctx (c.in_ok-a.field-0-0, c.in_ok-a.a) found)
     id (λ id. refl) taken.1.0 taken.1.1 (has_one (claimed ++ c.in_ok-a.a ∷ []))
     (λ other apart. any_other (is_message other.rank other.n) claimed c.in_ok-a.a apart)
-    (there_at same_message-true (has_one (claimed ++ c.in_ok-a.a ∷ [])) c.set_aside.new.standings id
+    (there_at same_message-true (has_one (claimed ++ c.in_ok-a.a ∷ [])) (get same_message c.set_aside.new.standings) id
     ((rw c.id_of.ensures at c.set_aside.ensures.own)
     ∙ ap (λ (o : Option Standing). option_map (λ s. Aside) o) waits
     ∙ sym (ap (λ b. cond b (Some Aside) None)

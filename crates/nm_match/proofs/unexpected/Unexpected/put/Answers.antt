@@ -3,6 +3,7 @@ use Rattle.std.proofs.Common.{◌≡◌, ◌∙◌, List, None, ap, refl, subst}
 use Rattle.std.specs.List.{find}
 use Rattle.std.specs.Map.{lookup}
 use Rattle.nm_types.proofs.ResultLemmas.{on_err}
+use Rattle.indexmap.specs.IndexMap.{get}
 use Rattle.nm_match.specs.declared.names.Message.{Message}
 use Rattle.nm_match.specs.declared.names.Standing.{Standing}
 use Rattle.nm_match.specs.Buckets.{bucket_of}
@@ -14,12 +15,12 @@ use Rattle.nm_match.proofs.unexpected.Unexpected.put.Goals as goal
 
 pub returns-in_err-reserve-clause-err : goal.returns-in_err-reserve-clause-err
 returns-in_err-reserve-clause-err c = on_err c.from_residual.result (λ arrivals claimed next is.
-    named_kept is (bucket_of c.args.self.now.waiting.map) c.reserve.new.self (λ k. refl)
+    named_kept is (bucket_of c.args.self.now.waiting.map) (get same_message c.reserve.new.self) (λ k. refl)
     (λ id. ap (λ (es : List (Message × Standing)). lookup (same_message id) es) c.reserve.ensures.entries))
 
 pub returns-in_err-put-clause-err : goal.returns-in_err-put-clause-err
 returns-in_err-put-clause-err c = on_err c.from_residual-in_err-put.result (λ arrivals claimed next is.
-    named_kept is (bucket_of c.put.new.self.map) c.reserve.new.self
+    named_kept is (bucket_of c.put.new.self.map) (get same_message c.reserve.new.self)
     (all_same (bucket_of c.args.self.now.waiting.map) (bucket_of c.put.new.self.map) c.of_arrival-key.result
     c.in_err-put.ensures.err c.in_err-put.ensures.others)
     (λ id. ap (λ (es : List (Message × Standing)). lookup (same_message id) es) c.reserve.ensures.entries))
@@ -30,7 +31,8 @@ returns-clause-ok c = λ arrivals claimed is none.
     let others = rw c.of_arrival-key.ensures at c.in_ok-put.ensures.others in
     let updates = rw (c.of_arrival-key.ensures, c.id_of.ensures) at
     (rw c.unwrap.ensures at c.insert.ensures.updates).0 in
-    named_put is (bucket_of c.put.new.self.map) c.insert.new.self c.args.a (id_of_arrival c.args.a) (λ id. refl)
+    named_put is same_message (bucket_of c.put.new.self.map) (get same_message c.insert.new.self) c.args.a
+    (id_of_arrival c.args.a) (λ id. refl)
     (λ id here. subst (λ (m : Message). find (is_message m.rank m.n) arrivals ≡ None)
     (same_message-true (id_of_arrival c.args.a) id here) none) own others
     (λ id here. updates id ∙ rw here refl)

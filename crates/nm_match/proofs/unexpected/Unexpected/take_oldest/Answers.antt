@@ -2,9 +2,10 @@
 use Rattle.std.proofs.Common.{◌∙◌, Some, None, ap, refl, sym}
 use Rattle.nm_types.specs.declared.messages.Arrival.{Arrival}
 use Rattle.nm_history.specs.Selection.{matches}
+use Rattle.indexmap.specs.IndexMap.{get}
 use Rattle.nm_match.specs.declared.buckets.Buckets.{Buckets}
 use Rattle.nm_match.specs.Buckets.{bucket_of}
-use Rattle.nm_match.specs.Names.{has_one, id_of_arrival}
+use Rattle.nm_match.specs.Names.{has_one, id_of_arrival, same_message}
 use Rattle.nm_match.specs.Queues.{TwoMessages}
 use Rattle.nm_match.proofs.NameLemmas.{message_itself, named_kept, named_taken, same_message-true}
 use Rattle.nm_match.proofs.NameLemmas.{there_at}
@@ -19,7 +20,7 @@ returns-in_err-a-clause-oldest c = λ arrivals claimed next is.
 pub returns-in_err-a-clause-others : goal.returns-in_err-a-clause-others
 returns-in_err-a-clause-others c = λ arrivals claimed next two is.
     let same = c.in_err-a.ensures.none refl in
-    rw c.from_residual.ensures (named_kept is (bucket_of c.take_selected.new.waiting.map) c.args.self.now.standings
+    rw c.from_residual.ensures (named_kept is (bucket_of c.take_selected.new.waiting.map) (get same_message c.args.self.now.standings)
     (λ k. ap (λ (b : Buckets Arrival). bucket_of b.map k) same) (λ id. refl))
 
 pub returns-clause-oldest : goal.returns-clause-oldest
@@ -31,12 +32,12 @@ pub returns-clause-others : goal.returns-clause-others
 returns-clause-others c = λ arrivals claimed next two is stays.
     let taken = c.in_ok-a.ensures.taken is.is.queue next is.is.are in
     let updates = rw c.id_of.ensures at c.swap_remove.ensures.updates.0 in
-    named_taken is (bucket_of c.take_selected.new.waiting.map) c.swap_remove.new.self TwoMessages two
+    named_taken is same_message (bucket_of c.take_selected.new.waiting.map) (get same_message c.swap_remove.new.self) TwoMessages two
     (λ a b id. messages_apart id.rank id.n a b) (λ (a : Arrival). matches c.args.from c.args.tag c.args.ctx a.env)
     (c.in_ok-a.field-0-0, c.in_ok-a.a)
     (selected_found is.is.queue c.args.from c.args.tag c.args.ctx (c.in_ok-a.field-0-0, c.in_ok-a.a)
     (sym taken.0))
     (id_of_arrival c.in_ok-a.a) (λ id. refl) taken.1.0 taken.1.1 (has_one claimed) (λ id other. refl)
-    (there_at same_message-true (has_one claimed) c.swap_remove.new.self (id_of_arrival c.in_ok-a.a)
+    (there_at same_message-true (has_one claimed) (get same_message c.swap_remove.new.self) (id_of_arrival c.in_ok-a.a)
     (updates (id_of_arrival c.in_ok-a.a) ∙ rw (message_itself (id_of_arrival c.in_ok-a.a), stays) refl))
     (λ id other. updates id ∙ rw other refl)

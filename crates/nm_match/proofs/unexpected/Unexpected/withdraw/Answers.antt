@@ -1,5 +1,6 @@
 -- The one of this name leaves its bucket.
 use Rattle.std.proofs.Common.{◌∙◌, ap, refl, sym, is_some}
+use Rattle.indexmap.specs.IndexMap.{get}
 use Rattle.nm_match.specs.Buckets.{bucket_of}
 use Rattle.nm_match.specs.Names.{has_one, id_of_arrival, same_message}
 use Rattle.nm_match.specs.Queues.{TwoMessages}
@@ -14,11 +15,12 @@ returns-in-Some-clause-found c = λ arrivals claimed next is.
 pub returns-in-Some-clause-others : goal.returns-in-Some-clause-others
 returns-in-Some-clause-others c = λ yes arrivals claimed next two is stays.
     let updates = c.swap_remove.ensures.updates.0 in
-    place_taken is (bucket_of c.take.new.self.map) c.swap_remove.new.self TwoMessages two
+    place_taken is same_message (bucket_of c.take.new.self.map) (get same_message c.swap_remove.new.self)
+    TwoMessages two
     (λ a b id. messages_apart id.rank id.n a b) c.args.id c.in-Some.key c.in-Some.order c.in-Some.ensures.some
     (λ a here id. ap (λ m. same_message m id) (same_message-true (id_of_arrival a) c.args.id here))
     c.take.ensures.0 c.take.ensures.1 (has_one claimed) (λ id other. refl)
-    (there_at same_message-true (has_one claimed) c.swap_remove.new.self c.args.id
+    (there_at same_message-true (has_one claimed) (get same_message c.swap_remove.new.self) c.args.id
     (updates c.args.id ∙ rw (message_itself c.args.id, stays) refl))
     (λ id other. updates id ∙ rw other refl)
 
