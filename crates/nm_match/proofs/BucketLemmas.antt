@@ -241,6 +241,14 @@ pub front_is_found : {X : Type 0} (p : X → Bool) (xs : List X) → slice_get (
 front_is_found p [] = refl
 front_is_found p (x ∷ xs) = front_at x (filter p xs) (find p xs) (p x) (front_is_found p xs)
 
+-- where each bucket is empty nothing waits
+pub none_waits : {X : Type 0} {key : X → Picks} {next : ℕ} {m : Picks → List (ℕ × X)} (queue : List (ℕ × X)) →
+    AreBuckets key queue next m → ((k : Picks) → m k ≡ []) → queue ≡ []
+none_waits [] are empty = refl
+none_waits {key = key} (x ∷ xs) are empty =
+    let holds = rw (same_picks-self (key x.1)) at (are.holds (key x.1)) in
+    let never = sym holds ∙ empty (key x.1) in absurd (grind arith)
+
 -- where nothing passes nothing is found
 pub find_never : {X : Type 0} (p : X → Bool) (xs : List X) → ((x : X) → p x ≡ false) → find p xs ≡ None
 find_never p [] never = refl

@@ -165,6 +165,9 @@ impl Unexpected {
             (λ a. has_one claimed (id_of_arrival a) ≡ false → AreUnexpected
             (without_first (λ a. matches from tag ctx a.env) arrivals) claimed next self.new) }
     {
+        if self.waiting.is_empty() {
+            return None;
+        }
         let (_, a) = take_selected(&mut self.waiting, Picks { from, tag, ctx })?;
         let _ = self.standings.swap_remove(&id_of(&a));
         Some(a)

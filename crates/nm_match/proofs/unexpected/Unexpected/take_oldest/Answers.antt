@@ -7,10 +7,16 @@ use Rattle.nm_match.specs.declared.buckets.Buckets.{Buckets}
 use Rattle.nm_match.specs.Buckets.{bucket_of}
 use Rattle.nm_match.specs.Names.{has_one, id_of_arrival, same_message}
 use Rattle.nm_match.specs.Queues.{TwoMessages}
+use Rattle.nm_match.proofs.BucketLemmas.{none_waits}
 use Rattle.nm_match.proofs.NameLemmas.{message_itself, named_kept, named_taken, same_message-true}
 use Rattle.nm_match.proofs.NameLemmas.{there_at}
 use Rattle.nm_match.proofs.OldestLemmas.{arrival_found, messages_apart, selected_found}
 use Rattle.nm_match.proofs.unexpected.Unexpected.take_oldest.Goals as goal
+
+pub returns-then-is_empty-clause-oldest : goal.returns-then-is_empty-clause-oldest
+returns-then-is_empty-clause-oldest c = λ arrivals claimed next is.
+    arrival_found is.is c.args.from c.args.tag c.args.ctx None
+    (rw (none_waits is.is.queue is.is.are (c.is_empty.ensures c.if-is_empty.true)) refl)
 
 pub returns-in_err-a-clause-oldest : goal.returns-in_err-a-clause-oldest
 returns-in_err-a-clause-oldest c = λ arrivals claimed next is.
