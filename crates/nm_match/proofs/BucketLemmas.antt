@@ -3,7 +3,7 @@ use Rattle.std.proofs.Common.{◌≡◌, ℕ, suc, ◌<◌, ◌≤◌, Bool, tru
 use Rattle.std.proofs.Common.{cond, Option, Some, None, List, [], ◌∷◌, ◌++◌, map}
 use Rattle.std.proofs.Common.{refl, sym, ◌∙◌, ap, subst, append-nil, arith, slice_get, get_or}
 use Rattle.std.proofs.lemmas.List.{length-map, get_or-map}
-use Rattle.std.specs.Prelude.{nat_le, AllPairs, IsSome}
+use Rattle.std.specs.Prelude.{nat_le, AllPairs}
 use Rattle.std.specs.List.{All, filter, find}
 use Rattle.std.specs.Option.{option_map}
 use Rattle.std.proofs.lemmas.Bool.{false≢true}
@@ -23,11 +23,6 @@ pub same_put : {X : Type 0} (order : ℕ) (item : X) {before was after now : Lis
 same_put {X} order item first second put = λ below.
     second ∙ put (subst (λ (l : List (ℕ × X)). All (λ (x : ℕ × X). x.0 < order) l) first below)
     ∙ ap (λ (l : List (ℕ × X)). l ++ (order, item) ∷ []) (sym first)
-
--- what is there is some
-pub some_there : {X : Type 0} (x : X) (o : Option X) → Some x ≡ o → IsSome o
-some_there x None there = absurd (grind arith)
-some_there x (Some y) there = refl
 
 module _ {X : Type 0} (p q : X → Bool) where
   gone_here_at : (y : X) (ys : List X) (x : X) (b c : Bool) → p y ≡ b → q y ≡ c → q x ≡ true →

@@ -12,6 +12,7 @@ ghost use Rattle.nm_match.specs.Picks.{same_picks};
 
 use crate::picks::Picks;
 use indexmap::IndexMap;
+use indexmap::map::Entry;
 use nm_types::Memory;
 use std::alloc::Global;
 use std::collections::BTreeMap;
@@ -109,11 +110,11 @@ fn add<T: Copy>(
         bucket_of map.new k ≡ bucket_of map.old k }
     ensures err { OnErr result (bucket_of map.new key ≡ bucket_of map.old key) }
 {
-    match map.get_mut(&key) {
-        Some(bucket) => bucket.put(order, item),
-        None => {
-            let bucket = Bucket::of(*map.allocator(), order, item);
-            map.insert(key, bucket)?;
+    let alloc = *map.allocator();
+    match map.entry(key)? {
+        Entry::Occupied(entry) => entry.into_mut().put(order, item),
+        Entry::Vacant(entry) => {
+            let _ = entry.insert(Bucket::of(alloc, order, item));
             Ok(())
         }
     }

@@ -26,7 +26,8 @@ returns-in_err-a-clause-oldest c = λ arrivals claimed next is.
 pub returns-in_err-a-clause-others : goal.returns-in_err-a-clause-others
 returns-in_err-a-clause-others c = λ arrivals claimed next two is.
     let same = c.in_err-a.ensures.none refl in
-    rw c.from_residual.ensures (named_kept is (bucket_of c.take_selected.new.waiting.map) (get same_message c.args.self.now.standings)
+    rw c.from_residual.ensures (named_kept is (bucket_of c.take_selected.new.waiting.map)
+    (get same_message c.args.self.now.standings)
     (λ k. ap (λ (b : Buckets Arrival). bucket_of b.map k) same) (λ id. refl))
 
 pub returns-clause-oldest : goal.returns-clause-oldest
@@ -38,7 +39,8 @@ pub returns-clause-others : goal.returns-clause-others
 returns-clause-others c = λ arrivals claimed next two is stays.
     let taken = c.in_ok-a.ensures.taken is.is.queue next is.is.are in
     let updates = rw c.id_of.ensures at c.swap_remove.ensures.updates.0 in
-    named_taken is same_message (bucket_of c.take_selected.new.waiting.map) (get same_message c.swap_remove.new.self) TwoMessages two
+    named_taken is same_message (bucket_of c.take_selected.new.waiting.map)
+    (get same_message c.swap_remove.new.self) TwoMessages two
     (λ a b id. messages_apart id.rank id.n a b) (λ (a : Arrival). matches c.args.from c.args.tag c.args.ctx a.env)
     (c.in_ok-a.field-0-0, c.in_ok-a.a)
     (selected_found is.is.queue c.args.from c.args.tag c.args.ctx (c.in_ok-a.field-0-0, c.in_ok-a.a)
