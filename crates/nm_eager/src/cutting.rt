@@ -6,7 +6,7 @@ ghost use Rattle.nm_types.specs.Bodies.{bytes_of, body_len};
 ghost use Rattle.nm_history.specs.Outgoing.{part_at};
 ghost use Rattle.nm_eager.specs.Cutting.{next_what, packet_count};
 
-use nm_types::ranges::copy_range;
+use crate::parts::part;
 use nm_types::{Body, MAX_PAYLOAD, Packet, Payload, What, laws};
 use std::marker::Model;
 
@@ -127,8 +127,6 @@ impl Cutter {
     {
         let start = self.start();
         let size = (self.body.len() - start).min(MAX_PAYLOAD as u32) as usize;
-        let mut bytes = [0; MAX_PAYLOAD as usize];
-        copy_range(&self.body, start, size, &mut bytes);
-        into.set(&bytes[..size]);
+        into.set(part(&self.body, start, size));
     }
 }

@@ -30,6 +30,7 @@ mod cutting;
 mod joining;
 pub mod laws;
 mod messages;
+mod parts;
 mod senders;
 
 pub use continuing::continues;

@@ -11,6 +11,6 @@ returns c =
     let start : c.start-start.result ≡ 256 * c.self.inside.given = rw place c.start-start.ensures in
     let size : c.min-size.result ≡ min (length bytes - c.start-start.result) 256 = omega
     (arith, c.min-size.ensures, c.len.ensures, c.self.invariant.1) in
-    rw (← c.self.view_is) (c.set.ensures ∙ c.copy_range.ensures
+    rw (← c.self.view_is) (c.set.ensures ∙ c.part.ensures
     ∙ up_to_the_end bytes c.start-start.result 256 c.min-size.result size
     ∙ ap (λ n. take 256 (drop n bytes)) start)
