@@ -5,7 +5,7 @@ ghost use Rattle.nm_types.specs.Bodies.{body_len};
 ghost use Rattle.nm_types.specs.declared.limits.TheConstants.{MAX_BODY};
 ghost use Rattle.nm_rndv.specs.Cuts.{start_of, rest_of, offset_of, next_bytes};
 
-use nm_types::ranges::copy_range;
+use crate::parts::part;
 use nm_types::{Body, MAX_PIECE, Piece, laws};
 use std::marker::Model;
 
@@ -77,7 +77,8 @@ impl Leaving {
         PIECE * self.popped
     }
 
-    /// Makes it the next piece, of message `n`. Its sender and its number become 0.
+    /// Makes it the next piece, of message `n`, by one copy of the bytes. Its sender and its number
+    /// become 0.
     pub fn fill_piece(&self, n: u64, into: &mut Piece)
         ensures blank { (into.new.from ≡ 0) × (into.new.number ≡ 0) }
         ensures place { (into.new.n ≡ n) × (into.new.at ≡ offset_of self.now) }
@@ -85,14 +86,12 @@ impl Leaving {
     {
         let at = self.offset();
         let size = (self.body.len() - at).min(PIECE) as usize;
-        let mut bytes = [0; MAX_PIECE as usize];
         laws::bodies_have_their_length();
-        copy_range(&self.body, at, size, &mut bytes);
         into.from = 0;
         into.number = 0;
         into.n = n;
         into.at = at;
-        into.bytes.set(&bytes[..size]);
+        into.bytes.set(part(&self.body, at, size));
     }
 
     /// What is left after the next piece, or `None` where that is the last.

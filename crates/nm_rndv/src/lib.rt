@@ -38,6 +38,7 @@ mod granted;
 mod granting;
 pub mod laws;
 mod offering;
+mod parts;
 mod recalls;
 mod senders;
 

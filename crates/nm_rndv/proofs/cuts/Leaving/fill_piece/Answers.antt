@@ -16,5 +16,5 @@ returns-clause-bytes c =
       c.len.ensures,
       c.bodies_have_their_length.ensures c.self.inside.body,
     ) in
-    rw (← c.self.view_is) (c.set.ensures ∙ c.copy_range.ensures ∙ up_to_the_end xs start 1024 c.min-size.result size
+    rw (← c.self.view_is) (c.set.ensures ∙ c.part.ensures ∙ up_to_the_end xs start 1024 c.min-size.result size
     ∙ ap (λ n. take 1024 (drop n xs)) from)
