@@ -1,28 +1,14 @@
--- Entries by numbers, of which none stands twice: what stands at a place, and what is written there.
-use Rattle.std.proofs.Common.{◌≡◌, ℕ, List, [], ◌∷◌, ◌∙◌, ap, sym, refl, zero, suc, get_or, slice_get}
-use Rattle.std.proofs.Common.{Option, Some, None, IfSome, is_some, true, false, true≢false, nat_eq}
+-- Entries by numbers, of which none stands twice: what is written at a place.
+use Rattle.std.proofs.Common.{◌≡◌, ℕ, List, [], ◌∷◌, ◌∙◌, ap, sym, refl, zero, suc, set, slice_get}
+use Rattle.std.proofs.Common.{Some, is_some, true, false, true≢false, nat_eq}
 use Rattle.std.proofs.lemmas.Bool.{cond-true, cond-false}
-use Rattle.std.proofs.lemmas.List.Quantifiers.{position-Some}
-use Rattle.std.proofs.lemmas.Map.Entries.{lookup_from_place}
 use Rattle.std.proofs.lemmas.Map.Keys.{IsDistinct-head, IsDistinct-tail}
-use Rattle.std.proofs.lemmas.Option.{slice_get-get_or}
 use Rattle.std.specs.Cmp.{nat_eq_equiv}
 use Rattle.indexmap.specs.IndexMap.{set_value_at}
-use Rattle.std.specs.List.{AllByRecursion, IsDistinct, position}
-use Rattle.std.specs.Map.{keys_of, lookup, set_value, values_of}
+use Rattle.std.specs.List.{AllByRecursion, IsDistinct}
+use Rattle.std.specs.Map.{keys_of, set_value}
 use Rattle.std.specs.Option.{unwrap_or}
-use Rattle.nm_types.proofs.NumberLemmas.{eq_true, same_number}
-use Rattle.nm_rndv.specs.declared.asked.State.{State}
-use Rattle.nm_rndv.specs.Offers.{Destined, state_in, with_step}
-
--- a place that was found has the number
-pub found_there : (n : ℕ) (ks : List ℕ) (o : Option ℕ) → o ≡ position (nat_eq n) ks →
-    IfSome o (λ i. slice_get ks i ≡ Some n)
-found_there n ks None e = tt
-found_there n ks (Some i) e =
-    let found = position-Some (nat_eq n) ks i n (sym e) in
-    let same : n ≡ get_or ks i n = same_number n (get_or ks i n) found.1 in
-    slice_get-get_or ks i n found.0 ∙ ap Some (sym same)
+use Rattle.nm_types.proofs.NumberLemmas.{eq_true}
 
 module _ {X : Type 0} where
   apart : (k : ℕ) (es : List (ℕ × X)) (i n : ℕ) (v : X) → AllByRecursion (λ y. nat_eq k y ≡ false) (keys_of es) →
@@ -46,22 +32,10 @@ module _ {X : Type 0} where
       ap (λ l. e ∷ l) (set_value-place es i n v w (IsDistinct-tail nat_eq e.0 (keys_of es) d) at)
       ∙ sym (cond-false (nat_eq n e.0) ((e.0, w) ∷ es) (e ∷ set_value (nat_eq n) es w) other)
 
-  -- a number and a value at one place are an entry there
-  pub entry_there : (es : List (ℕ × X)) (i n : ℕ) (v : X) → slice_get (keys_of es) i ≡ Some n →
-      slice_get (values_of es) i ≡ Some v → slice_get es i ≡ Some (n, v)
-  entry_there [] i n v key value = absurd (true≢false (sym (ap is_some key)))
-  entry_there (e ∷ es) zero n v key value =
-      let number : e.0 ≡ n = ap (λ o. unwrap_or o e.0) key in
-      let here : e.1 ≡ v = ap (λ o. unwrap_or o e.1) value in
-      (λ j. Some (number j, here j))
-  entry_there (e ∷ es) (suc i) n v key value = entry_there es i n v key value
-
--- to write what a step makes of the state at the message's place is that step
-pub stepped : (d : Destined) (place n : ℕ) (s w : State) (step : State → State) →
-    IsDistinct nat_eq (keys_of d.asked) → slice_get (keys_of d.asked) place ≡ Some n →
-    slice_get (values_of d.asked) place ≡ Some s → w ≡ step s →
-    record { asked = set_value_at d.asked place w; recalls = d.recalls } ≡ with_step d n step
-stepped d place n s w step distinct key value is =
-    let at = entry_there d.asked place n s key value in
-    let there : state_in d n ≡ Some s = lookup_from_place nat_eq_equiv d.asked place n s distinct at in
-    rw (set_value-place d.asked place n s w distinct at, is, there) refl
+  -- a value that is written at a place, with the number there, is written at the place
+  pub set-set_value_at : (es : List (ℕ × X)) (i : ℕ) (e : ℕ × X) (w : X) → slice_get es i ≡ Some e
+      → set es i (e.0, w) ≡ set_value_at es i w
+  set-set_value_at [] i e w at = refl
+  set-set_value_at (x ∷ es) zero e w at =
+      let same : x ≡ e = ap (λ o. unwrap_or o x) at in ap (λ (y : ℕ × X). (y.0, w) ∷ es) (sym same)
+  set-set_value_at (x ∷ es) (suc i) e w at = ap (λ l. x ∷ l) (set-set_value_at es i e w at)

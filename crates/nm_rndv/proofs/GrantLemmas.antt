@@ -1,21 +1,23 @@
 -- The grants of one sender, of which the first unfinished stands at a known place.
-use Rattle.std.proofs.Common.{◌<◌, ◌≤◌, [], Bool, cond, get_or}
+use Rattle.std.proofs.Common.{◌<◌, ◌≤◌, [], Bool, cond, get_or, set}
 use Rattle.std.proofs.lemmas.List.{get_or_default}
 use Rattle.std.proofs.lemmas.List.Sums.{get_or-le-sum_by, sum_by-le}
 use Rattle.std.proofs.Common.{◌≡◌, ℕ, true, false, List, slice_get, Option, Some, None, refl, sym}
 use Rattle.std.proofs.Common.{ap, ◌∙◌, subst, nat_eq, nat_lt, arith, length, IsNone, ◌↔◌}
 use Rattle.std.proofs.lemmas.Bool.Decides.{nat_tests}
+use Rattle.std.proofs.lemmas.Map.{keys-set_value}
 use Rattle.std.proofs.lemmas.Map.Entries.{lookup_from_place}
 use Rattle.std.specs.Cmp.{nat_eq_equiv}
 use Rattle.std.specs.List.{position_or_len, IsDistinct}
-use Rattle.std.specs.Map.{keys_of, lookup, values_of}
-use Rattle.indexmap.specs.IndexMap.{set_value_at}
-use Rattle.std.proofs.lemmas.Option.{slice_get-map, slice_get_within}
+use Rattle.std.specs.Map.{keys_of, lookup}
+use Rattle.std.proofs.lemmas.Option.{get_or_from_slice_get, slice_get_within}
 use Rattle.std.specs.Option.{is_some, option_map, option_map_or}
 use Rattle.nm_rndv.specs.Grants.{Granted, came, is_open, is_whole, is_unfinished, expected_in}
 use Rattle.nm_rndv.specs.Grants.{count_unfinished, due_in, has_unfinished}
 use Rattle.nm_rndv.specs.Grants.{due_of, first_unfinished, with_grant, AllWhole}
-use Rattle.nm_rndv.proofs.EntryLemmas.{entry_there, set_value-place}
+use Rattle.nm_rndv.specs.Kept.{SenderInvariant}
+use Rattle.nm_rndv.specs.Placing.{Placing, ArePlaces}
+use Rattle.nm_rndv.proofs.EntryLemmas.{set-set_value_at, set_value-place}
 use Rattle.nm_rndv.proofs.Places.{passes_there, find-first, none_found, found_none, none_within}
 
 -- a whole message is not open
@@ -142,18 +144,30 @@ module _ (es : List (ℕ × Granted)) (i : ℕ) (first : i ≡ position_or_len i
     within_there =
         let g = expected_there n named in slice_get_within es i (n, g.0) g.1
 
-    module _ (v : Granted) (value : slice_get (values_of es) i ≡ Some v) where
-      here : slice_get es i ≡ Some (n, v)
+    module _ (x : ℕ × Granted) (is : x ≡ get_or es i x) where
+      here : slice_get es i ≡ Some (n, x.1)
       here =
           let g = expected_there n named in
-          entry_there es i n v (slice_get-map (λ (e : ℕ × Granted). e.0) es i
-          ∙ ap (option_map (λ (e : ℕ × Granted). e.0)) g.1) value
+          let same : x ≡ (n, g.0) = is ∙ get_or_from_slice_get es i (n, g.0) x g.1 in
+          g.1 ∙ ap (λ (y : ℕ × Granted). Some (n, y.1)) (sym same)
 
-      pub grant_there : lookup (nat_eq n) es ≡ Some v
-      grant_there = lookup_from_place nat_eq_equiv es i n v distinct here
+      pub grant_there : lookup (nat_eq n) es ≡ Some x.1
+      grant_there = lookup_from_place nat_eq_equiv es i n x.1 distinct here
 
-      pub opens_there : is_open v ≡ true
-      opens_there = open_there (n, v) here
+      pub opens_there : is_open x.1 ≡ true
+      opens_there = open_there (n, x.1) here
 
-      pub written_there : (w : Granted) → set_value_at es i w ≡ with_grant es n w
-      written_there w = set_value-place es i n v w distinct here
+      pub written_there : (w : Granted) → set es i (x.0, w) ≡ with_grant es n w
+      written_there w =
+          let same : x ≡ (n, x.1) = is ∙ get_or_from_slice_get es i (n, x.1) x here in
+          ap (λ (y : ℕ × Granted). set es i (y.0, w)) same ∙ set-set_value_at es i (n, x.1) w here
+          ∙ set_value-place es i n x.1 w distinct here
+
+-- a sender's grants keep what is known of them, where one was written
+pub kept_written : (es new : List (ℕ × Granted)) (places : Placing) (n : ℕ) (w : Granted) (first : ℕ)
+    → ArePlaces places (keys_of es) → new ≡ with_grant es n w → first ≡ position_or_len is_unfinished new
+    → SenderInvariant new places first
+kept_written es new places n w first placed wrote first_is = record {
+  placed = subst (ArePlaces places) (sym (ap keys_of wrote ∙ keys-set_value (nat_eq n) es w)) placed;
+  first_is = first_is;
+}

@@ -12,7 +12,8 @@ use Rattle.std.proofs.lemmas.List.Sums.{fails_before_first, passes_at_first, pre
 use Rattle.std.proofs.lemmas.Option.{get_or_from_slice_get, slice_get-get_or, slice_get_within}
 use Rattle.std.proofs.lemmas.List.Folds.{find_at}
 
-some_is : {X : Type 0} (p : X → Bool) (o : Option X) → option_map_or p o false ≡ true →
+-- what passes is there
+pub some_is : {X : Type 0} (p : X → Bool) (o : Option X) → option_map_or p o false ≡ true →
     (x : X) × (o ≡ Some x) × (p x ≡ true)
 some_is p None h = absurd (true≢false (sym h))
 some_is p (Some x) h = (x, refl, h)

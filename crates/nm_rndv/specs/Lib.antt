@@ -3,3 +3,4 @@ pub mod Grants
 pub mod Kept
 pub mod Offers
 pub mod Pieces
+pub mod Placing

@@ -1,20 +1,19 @@
 //! What was asked of one destination, and what was recalled from it.
 
 ghost use Rattle.std.specs.Prelude.{◌≡◌, ℕ, false, Some, None, nat_eq, if◌then◌else◌, IsSome};
-ghost use Rattle.std.specs.Prelude.{OnOk, OnErr, IfSome, IfNone, slice_get};
+ghost use Rattle.std.specs.Prelude.{OnOk, OnErr};
 ghost use Rattle.std.specs.Option.{option_copied, option_map, option_map_or, option_and_then};
-ghost use Rattle.std.specs.Map.{keys_of};
 ghost use Rattle.nm_rndv.specs.Cuts.{offset_of, next_bytes};
 ghost use Rattle.nm_rndv.specs.Offers.{untold, state_in, recall_in, is_waiting};
 ghost use Rattle.nm_rndv.specs.Offers.{is_leaving as is_leaving_lem, is_out as is_out_lem};
 ghost use Rattle.nm_rndv.specs.Offers.{was_cleared as was_cleared_lem, is_unanswered, next_in};
 ghost use Rattle.nm_rndv.specs.Offers.{with_asked, with_recall, with_step, with_answer};
-ghost use Rattle.nm_rndv.specs.Offers.{after_clearance, after_piece};
+ghost use Rattle.nm_rndv.specs.Offers.{after_clearance, after_piece, after_withdrawal};
 
 use crate::asked::{State, cleared, popped, withdrawn};
 use crate::cuts::{Leaving, LongBody};
+use crate::placing::Places;
 use crate::recalls::Recalls;
-use indexmap::IndexMap;
 use nm_types::Memory;
 use std::alloc::Global;
 use std::marker::Model;
@@ -22,9 +21,9 @@ use std::mem;
 
 /// The messages asked of one destination and those recalled from it, each by its number, in order.
 pub struct Destination {
-    asked: IndexMap<u64, State>,
-    // by number, where the message may stand among those asked
-    hints: Vec<u32>,
+    asked: Vec<(u64, State)>,
+    // where each message stands among those asked
+    places: Places,
     recalls: Recalls,
 }
 
@@ -32,72 +31,31 @@ impl Drop for Destination {
     fn drop(self) {
         let Destination {
             asked: _,
-            hints: _,
+            places: _,
             recalls: _,
         } = self;
     }
 }
 
 impl Model for Destination {
+    ghost use Rattle.std.specs.Map.{keys_of};
     ghost use Rattle.nm_rndv.specs.Offers.{Destined};
+    ghost use Rattle.nm_rndv.specs.Placing.{ArePlaces};
 
     ghost Value = { Destined };
 
-    ghost view = { λ d. record { asked = d.asked.entries; recalls = d.recalls } };
-}
+    ghost view = { λ d. record { asked = d.asked.items; recalls = d.recalls } };
 
-/// The most numbers that have a hint.
-const HINTS: u64 = 1_048_576;
-
-/// Notes where the message of a number may stand.
-fn note(hints: &mut Vec<u32>, n: u64, place: usize) -> Result<(), Memory> {
-    if n >= HINTS {
-        return Ok(());
-    }
-    let number = n as usize;
-    if hints.len() <= number {
-        hints.resize(number + 1, 0)?;
-    }
-    if let Some(hint) = hints.get_mut(number) {
-        *hint = place.min(u32::MAX as usize) as u32;
-    }
-    Ok(())
+    ghost invariant = { λ d. ArePlaces d.places (keys_of d.asked.items) };
 }
 
 impl Destination {
-    /// Where the message may stand.
-    fn hint(&self, n: u64) -> usize {
-        match self.hints.get(n as usize) {
-            Some(place) => *place as usize,
-            None => 0,
-        }
-    }
-
     /// How far the message has come, if it was asked.
     fn state(&self, n: u64) -> Option<&State>
         ensures { option_copied result ≡ state_in self.now n }
     {
-        if let Some((number, state)) = self.asked.get_index(self.hint(n)) {
-            if *number == n {
-                return Some(state);
-            }
-        }
-        self.asked.get(&n)
-    }
-
-    /// Where the message stands among those asked.
-    fn place_of(&self, n: u64) -> Option<usize>
-        ensures some { IfSome result (λ place.
-            slice_get (keys_of self.now.asked) place ≡ Some n) }
-        ensures none { IfNone result (state_in self.now n ≡ None) }
-    {
-        let hint = self.hint(n);
-        if let Some((number, _)) = self.asked.get_index(hint) {
-            if *number == n {
-                return Some(hint);
-            }
-        }
-        self.asked.get_index_of(&n)
+        let place = self.places.get(n)?;
+        Some(&self.asked[place].1)
     }
 
     /// Nothing was asked, and nothing recalled.
@@ -105,8 +63,8 @@ impl Destination {
         ensures { result ≡ untold }
     {
         Destination {
-            asked: IndexMap::new(alloc),
-            hints: Vec::new(alloc),
+            asked: Vec::new(alloc),
+            places: Places::new(alloc),
             recalls: Recalls::new(alloc),
         }
     }
@@ -119,8 +77,9 @@ impl Destination {
             ≡ (if nat_eq n q then Some (State.Asked body) else state_in self.old q)) }
         ensures err { OnErr result (self.new ≡ self.old) }
     {
-        note(&mut self.hints, n, self.asked.len())?;
-        self.asked.insert(n, State::Asked(body))?;
+        self.asked.reserve(1)?;
+        self.places.note(n, self.asked.len())?;
+        self.asked.push_reserved((n, State::Asked(body)));
         Ok(())
     }
 
@@ -168,8 +127,8 @@ impl Destination {
         requires { IsSome (state_in self.old n) }
         ensures { self.new ≡ with_step self.old n after_clearance }
     {
-        let place = self.place_of(n).unwrap();
-        let state = self.asked.get_index_mut(place).unwrap();
+        let place = self.places.get(n).unwrap();
+        let state = &mut self.asked[place].1;
         *state = cleared(mem::replace(state, State::Out));
     }
 
@@ -178,9 +137,20 @@ impl Destination {
         requires { IsSome (state_in self.old n) }
         ensures { self.new ≡ with_step self.old n after_piece }
     {
-        let place = self.place_of(n).unwrap();
-        let state = self.asked.get_index_mut(place).unwrap();
+        let place = self.places.get(n).unwrap();
+        let state = &mut self.asked[place].1;
         *state = popped(mem::replace(state, State::Out));
+    }
+
+    /// Withdraws a message, if it was asked.
+    fn withdraw(&mut self, n: u64)
+        ensures { self.new ≡ with_step self.old n after_withdrawal }
+    {
+        let Some(place) = self.places.get(n) else {
+            return;
+        };
+        let state = &mut self.asked[place].1;
+        *state = withdrawn(mem::replace(state, State::Out));
     }
 
     /// Notes that a message was recalled.
@@ -206,9 +176,7 @@ impl Destination {
     {
         self.recalls.answer(n, done);
         if done {
-            if let Some(state) = self.asked.get_mut(&n) {
-                *state = withdrawn(mem::replace(state, State::Out));
-            }
+            self.withdraw(n);
         }
     }
 }

@@ -39,6 +39,7 @@ mod granting;
 pub mod laws;
 mod offering;
 mod parts;
+mod placing;
 mod recalls;
 mod senders;
 

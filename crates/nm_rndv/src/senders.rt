@@ -4,20 +4,22 @@ ghost use Rattle.std.specs.Prelude.{◌≡◌, ◌<◌, ◌≤◌, ◌++◌, [],
 ghost use Rattle.std.specs.Prelude.{length, slice_get, IsOk, IsTrue, IfOk, OnOk, OnErr};
 ghost use Rattle.std.specs.List.{position_or_len};
 ghost use Rattle.std.specs.Option.{option_map, option_map_or, option_and_then};
-ghost use Rattle.indexmap.specs.IndexMap.{spare};
+ghost use Rattle.std.specs.Option.{option_copied};
 ghost use Rattle.nm_rndv.specs.Grants.{fresh, is_unfinished, grant_in, is_open_in, is_whole_in};
 ghost use Rattle.nm_rndv.specs.Grants.{expected_in, due_in, taken_in, with_piece};
 ghost use Rattle.nm_rndv.specs.Grants.{has_unfinished as has_unfinished_lem};
 
 use crate::granted::Grant;
-use indexmap::IndexMap;
+use crate::placing::Places;
 use nm_types::{Bytes, Memory, Piece};
 use std::alloc::Global;
 use std::marker::Model;
 
 /// The grants of one sender in order, each by its message's number.
 pub struct Sender {
-    grants: IndexMap<u64, Grant>,
+    grants: Vec<(u64, Grant)>,
+    // where the grant of each message stands
+    places: Places,
     // The place of the first that is not whole: an empty message may be whole behind it.
     first_open: usize,
 }
@@ -26,29 +28,40 @@ impl Drop for Sender {
     fn drop(self) {
         let Sender {
             grants: _,
+            places: _,
             first_open: _,
         } = self;
     }
 }
 
 impl Model for Sender {
-    ghost use Rattle.std.specs.Prelude.{◌≡◌};
-    ghost use Rattle.std.specs.List.{position_or_len};
-    ghost use Rattle.indexmap.specs.IndexMap.{spare};
-    ghost use Rattle.nm_rndv.specs.Grants.{FromSender, is_unfinished};
+    ghost use Rattle.std.specs.Prelude.{◌-◌, length, min, vec_capacity};
+    ghost use Rattle.nm_rndv.specs.Grants.{FromSender};
+    ghost use Rattle.nm_rndv.specs.Kept.{SenderInvariant};
 
     ghost Value = { FromSender };
 
-    ghost view = { λ s. record { grants = s.grants.entries; spare = spare s.grants } };
+    ghost view = { λ s. record {
+      grants = s.grants.items;
+      spare = min (vec_capacity s.grants - length s.grants.items) s.places.spare;
+    } };
 
-    ghost invariant = { λ s. s.first_open ≡ position_or_len is_unfinished s.grants.entries };
+    ghost invariant = { λ s. SenderInvariant s.grants.items s.places s.first_open };
+}
+
+/// The grant at this place, with its message's number.
+fn grant_at(grants: &[(u64, Grant)], place: usize) -> Option<(u64, &Grant)>
+    ensures { option_map (λ e. (e.0, e.1.now)) result ≡ slice_get grants.now place }
+{
+    let (n, grant) = grants.get(place)?;
+    Some((*n, grant))
 }
 
 /// Whether the grant at this place is unfinished.
-fn is_open_at(grants: &IndexMap<u64, Grant>, place: usize) -> bool
-    ensures { result ≡ option_map_or is_unfinished (slice_get grants.now.entries place) false }
+fn is_open_at(grants: &[(u64, Grant)], place: usize) -> bool
+    ensures { result ≡ option_map_or is_unfinished (slice_get grants.now place) false }
 {
-    match grants.get_index(place) {
+    match grant_at(grants, place) {
         Some((_, grant)) => grant.is_open(),
         None => false,
     }
@@ -56,9 +69,9 @@ fn is_open_at(grants: &IndexMap<u64, Grant>, place: usize) -> bool
 
 /// The place of the first unfinished grant, which is not before this place; or the number of all
 /// grants.
-fn first_open(grants: &IndexMap<u64, Grant>, from: usize) -> usize
-    requires { from ≤ position_or_len is_unfinished grants.now.entries }
-    ensures { result ≡ position_or_len is_unfinished grants.now.entries }
+fn first_open(grants: &[(u64, Grant)], from: usize) -> usize
+    requires { from ≤ position_or_len is_unfinished grants.now }
+    ensures { result ≡ position_or_len is_unfinished grants.now }
 {
     for place in from..grants.len() {
         if is_open_at(grants, place) {
@@ -74,7 +87,8 @@ impl Sender {
         ensures { result.grants ≡ [] }
     {
         Sender {
-            grants: IndexMap::new(alloc),
+            grants: Vec::new(alloc),
+            places: Places::new(alloc),
             first_open: 0,
         }
     }
@@ -86,7 +100,7 @@ impl Sender {
         ensures kept { self.old.spare ≤ self.new.spare }
     {
         self.grants.reserve(1)?;
-        Ok(())
+        self.places.reserve()
     }
 
     /// Grants a message of this length. The answer is whether it is whole already.
@@ -98,7 +112,9 @@ impl Sender {
         ensures succeeds { 0 < self.old.spare → IsOk result }
     {
         let alloc = *self.grants.allocator();
-        self.grants.insert(n, Grant::new(alloc, len))?;
+        self.grants.reserve(1)?;
+        self.places.note(n, self.grants.len())?;
+        self.grants.push_reserved((n, Grant::new(alloc, len)));
         self.first_open = first_open(&self.grants, self.first_open);
         Ok(len == 0)
     }
@@ -110,33 +126,41 @@ impl Sender {
         self.first_open < self.grants.len()
     }
 
+    /// The grant of a message.
+    fn grant_of(&self, n: u64) -> Option<&Grant>
+        ensures { option_copied result ≡ grant_in self.now.grants n }
+    {
+        let place = self.places.get(n)?;
+        Some(&self.grants[place].1)
+    }
+
     /// Whether the message was granted and is not whole.
     pub fn is_open(&self, n: u64) -> bool
         ensures { result ≡ is_open_in self.now.grants n }
     {
-        self.grants.get(&n).is_some_and(|grant| grant.is_open())
+        self.grant_of(n).is_some_and(|grant| grant.is_open())
     }
 
     /// Whether the message is whole and was not taken.
     pub fn is_whole(&self, n: u64) -> bool
         ensures { result ≡ is_whole_in self.now.grants n }
     {
-        self.grants.get(&n).is_some_and(|grant| grant.is_whole())
+        self.grant_of(n).is_some_and(|grant| grant.is_whole())
     }
 
     /// Message and offset that the next piece must have.
     pub fn expected(&self) -> Option<(u64, u32)>
         ensures { result ≡ expected_in self.now.grants }
     {
-        let (n, grant) = self.grants.get_index(self.first_open)?;
-        Some((*n, grant.came()))
+        let (n, grant) = grant_at(&self.grants, self.first_open)?;
+        Some((n, grant.came()))
     }
 
     /// How many bytes the first unfinished message still lacks.
     pub fn due(&self) -> u32
         ensures { result ≡ due_in self.now.grants }
     {
-        match self.grants.get_index(self.first_open) {
+        match grant_at(&self.grants, self.first_open) {
             Some((_, grant)) => grant.due(),
             None => 0,
         }
@@ -150,8 +174,7 @@ impl Sender {
         ensures err { OnErr result (self.new.grants ≡ self.old.grants) }
         ensures room { self.new.spare ≡ self.old.spare }
     {
-        let grant = self.grants.get_index_mut(self.first_open).unwrap();
-        grant.add(p.bytes.as_slice())?;
+        self.grants[self.first_open].1.add(p.bytes.as_slice())?;
         self.first_open = first_open(&self.grants, self.first_open);
         Ok(())
     }
@@ -165,6 +188,7 @@ impl Sender {
             ≡ has_unfinished_lem self.old.grants }
         ensures room { self.new.spare ≡ self.old.spare }
     {
-        self.grants.get_mut(&n).unwrap().take()
+        let place = self.places.get(n).unwrap();
+        self.grants[place].1.take()
     }
 }

@@ -1,20 +1,35 @@
-use Rattle.std.proofs.Common.{◌≡◌, ◌∙◌, sym, ap, Some, slice_get}
-use Rattle.std.specs.Map.{keys_of, values_of}
-use Rattle.std.specs.Option.{option_copied_mut}
-use Rattle.nm_rndv.specs.Offers.{Destined, after_clearance}
-use Rattle.nm_rndv.proofs.EntryLemmas.{stepped}
+use Rattle.std.proofs.Common.{◌≡◌, ◌∙◌, sym, ap, subst, arith, IsSome}
+use Rattle.nm_rndv.specs.Offers.{Destined, state_in, after_clearance}
+use Rattle.nm_rndv.proofs.PlacingLemmas.{has_place, place_within, places_written, stepped}
 use Rattle.nm_rndv.proofs.destinations.Destination.clear.Goals as goal
+
+pub unwrap-place-requires : goal.unwrap-place-requires
+unwrap-place-requires c =
+    let a = c.self.inside in
+    let there = subst (λ (d : Destined). IsSome (state_in d c.args.n)) (sym c.self.view_is) c.requires in
+    rw c.get.ensures (has_place a.places a.asked.items c.self.invariant c.args.n there)
+
+pub index_mut-requires : goal.index_mut-requires
+index_mut-requires c =
+    let a = c.self.inside in
+    omega (
+      arith,
+      place_within a.places a.asked.items c.self.invariant c.args.n c.unwrap-place.result
+          (sym c.get.ensures ∙ c.unwrap-place.ensures),
+    )
+
+pub invariant_of-self : goal.invariant_of-self
+invariant_of-self c =
+    let a = c.self.inside in
+    places_written a.places a.asked.items c.self.invariant c.args.n c.unwrap-place.result
+    (sym c.get.ensures ∙ c.unwrap-place.ensures) c.index_mut.result.now c.index_mut.ensures.value c.cleared.result
 
 pub returns : goal.returns
 returns c =
-    let d : Destined = record { asked = c.self.inside.asked.entries; recalls = c.self.inside.recalls } in
-    let place = c.unwrap-place.result in
-    let state = c.unwrap-state.result.now in
-    let key : slice_get (keys_of d.asked) place ≡ Some c.args.n =
-    rw (c.unwrap-place.ensures, ← c.self.view_is) at c.place_of.ensures.some in
-    let value : slice_get (values_of d.asked) place ≡ Some state =
-    sym c.get_index_mut.ensures.value ∙ ap option_copied_mut c.unwrap-state.ensures in
-    let is : c.cleared.result ≡ after_clearance state =
+    let a = c.self.inside in
+    let d : Destined = record { asked = a.asked.items; recalls = a.recalls } in
+    let is : c.cleared.result ≡ after_clearance c.index_mut.result.now.1 =
     c.cleared.ensures ∙ ap after_clearance c.replace.ensures.value in
-    rw (← c.self.view_is) (stepped d place c.args.n state c.cleared.result after_clearance
-    c.get_index_mut.ensures.unique key value is)
+    rw (← c.self.view_is) (stepped d a.places c.self.invariant c.args.n c.unwrap-place.result
+    (sym c.get.ensures ∙ c.unwrap-place.ensures) c.index_mut.result.now c.index_mut.ensures.value
+    c.cleared.result after_clearance is)
