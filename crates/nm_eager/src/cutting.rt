@@ -14,10 +14,10 @@ use std::marker::Model;
 #[derive(Drop)]
 pub struct Cutter {
     n: u64,
-    tag: u16,
-    ctx: u8,
     body: Body,
     given: u32,
+    tag: u16,
+    ctx: u8,
 }
 
 impl Model for Cutter {

@@ -19,13 +19,13 @@ pub enum Matter {
 /// Packets to one rank that are to be sent, before they are made.
 #[derive(Drop)]
 pub struct Note {
-    pub to: u8,
     /// The number of the first one.
     pub seq: u64,
     pub stamp: u64,
+    pub matter: Matter,
     /// How many there are.
     pub left: u32,
-    pub matter: Matter,
+    pub to: u8,
     pub ghost some: { 0 < left },
     pub ghost numbers_in_range: { AreInRange seq left } by { AreInRange-prop seq left },
     pub ghost stamp_in_range: { stamp ≤ MAX_STAMP },
