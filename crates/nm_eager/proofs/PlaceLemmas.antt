@@ -1,15 +1,16 @@
 -- Messages that stand at the places of their numbers.
-use Rattle.std.proofs.Common.{◌≡◌, ◌≢◌, ℕ, ◌+◌, ◌-◌, ◌<◌, ◌≤◌, List, [], ◌∷◌, ◌++◌, length, Option, Some, None}
-use Rattle.std.proofs.Common.{IfSome, IsSomeAnd, find, ◌==◌, ap, ◌∙◌, refl, sym, append_assoc, arith, slice_get, set, zero, suc, replicate}
-use Rattle.std.proofs.Common.{length-append, ◌⊎◌, inl, inr}
-use Rattle.std.specs.List.{AllByRecursion, flat_map, remove}
-use Rattle.std.specs.Option.{option_to_list}
+use Rattle.std.proofs.Common.{◌≡◌, ℕ, ◌+◌, ◌-◌, ◌<◌, ◌≤◌, List, [], ◌∷◌, ◌++◌, length, Option, Some, None}
+use Rattle.std.proofs.Common.{ap, ◌∙◌, refl, sym, append_assoc, arith, slice_get, set, zero, suc, replicate}
+use Rattle.std.proofs.Common.{length-append, ◌⊎◌, inl, inr, ap₂}
+use Rattle.std.specs.List.{AllByRecursion, remove}
+use Rattle.std.specs.Option.{is_some, option_map, option_to_list}
 use Rattle.std.proofs.lemmas.Bool.{cases_lt}
 use Rattle.std.proofs.lemmas.Grind.{flat_map-append}
 use Rattle.std.proofs.lemmas.List.{append-nil, length-replicate, replicate-append-replicate}
 use Rattle.nm_types.specs.declared.limits.TheConstants.{MAX_PACKETS}
 use Rattle.nm_eager.specs.Streams.{Incoming, AreNumbered}
-use Rattle.nm_eager.specs.Senders.{AreAtNumbers, AreAtPlaces, AreReceived, IsPut, standing}
+use Rattle.nm_eager.specs.Senders.{AreAtNumbers, AreAtPlaces, AreReceived, IsPut, placed, standing, whole_message}
+use Rattle.nm_types.proofs.OptionLemmas.{some_mapped}
 use Rattle.nm_eager.proofs.MessageLemmas.{Lacks, Lacks-above, AreNumbered-wider, AreNumbered-push}
 use Rattle.nm_eager.proofs.MessageLemmas.{AllByRecursion-push}
 
@@ -86,23 +87,85 @@ standing-put whole gap m =
     ∙ ap (λ (l : List Incoming). l ++ m ∷ []) (flat_map-append option_to_list whole (replicate gap None)
     ∙ ap (λ (l : List Incoming). standing whole ++ l) (standing-empty gap) ∙ append-nil (standing whole))
 
+-- there are as many messages at places as there are places of their bytes
+pub placed-length : (first : ℕ) (places : List (Option (List ℕ))) → length (placed first places) ≡ length places
+placed-length first [] = refl
+placed-length first (place ∷ places) = omega (arith, placed-length (first + 1) places)
+
+-- a whole message's bytes at the place of its number are the message
+pub placed-put : (first : ℕ) (places : List (Option (List ℕ))) (gap : ℕ) (m : Incoming)
+    → m.n ≡ first + length places + gap → length m.bytes ≡ m.len
+    → placed first (places ++ replicate gap None ++ Some m.bytes ∷ [])
+    ≡ placed first places ++ replicate gap None ++ Some m ∷ []
+placed-put first [] zero m is full =
+    let number : first ≡ m.n = omega (arith, is) in
+    ap₂ (λ (n len : ℕ). let of : Incoming = record { n = n; len = len; bytes = m.bytes } in Some of ∷ []) number full
+placed-put first [] (suc gap) m is full =
+    ap (λ (l : List (Option Incoming)). None ∷ l) (placed-put (first + 1) [] gap m (omega (arith, is)) full)
+placed-put first (place ∷ places) gap m is full =
+    ap (λ (l : List (Option Incoming)). option_map (whole_message first) place ∷ l)
+    (placed-put (first + 1) places gap m (omega (arith, is)) full)
+
+-- to put a whole message's bytes behind the others, at the place of its number, is to put the message
+pub bytes-put : (old new : List (Option (List ℕ))) (m : Incoming) → length old ≤ m.n → length m.bytes ≡ m.len
+    → new ≡ old ++ replicate (m.n - length old) None ++ Some m.bytes ∷ [] → IsPut (placed 0 old) (placed 0 new) m None
+bytes-put old new m behind full is = record {
+  finished = λ _. (
+    refl,
+    rw (is, placed-length 0 old) (placed-put 0 old (m.n - length old) m (omega (arith, behind)) full),
+  );
+  unfinished = λ lacks. absurd (omega (arith, lacks, full));
+}
+
+-- an emptied place of bytes is an emptied place
+pub placed-emptied : (first : ℕ) (places : List (Option (List ℕ))) (i : ℕ)
+    → placed first (set places i None) ≡ set (placed first places) i None
+placed-emptied first [] i = refl
+placed-emptied first (place ∷ places) zero = refl
+placed-emptied first (place ∷ places) (suc i) =
+    ap (λ (l : List (Option Incoming)). option_map (whole_message first) place ∷ l)
+    (placed-emptied (first + 1) places i)
+
+-- where bytes stand a message stands
+pub placed-at : (first : ℕ) (places : List (Option (List ℕ))) (i : ℕ) (o : Option (List ℕ))
+    → slice_get places i ≡ Some o
+    → (m : Option Incoming) × (slice_get (placed first places) i ≡ Some m) × (is_some o ≡ is_some m)
+placed-at first [] i o here = absurd cc
+placed-at first (place ∷ places) zero o here =
+    let same : o ≡ place = cc in (
+      option_map (whole_message first) place,
+      refl,
+      ap (λ (x : Option (List ℕ)). is_some x) same ∙ sym (some_mapped (whole_message first) place),
+    )
+placed-at first (place ∷ places) (suc i) o here = placed-at (first + 1) places i o here
+
+-- and where a message stands its bytes do
+pub placed-from : (first : ℕ) (places : List (Option (List ℕ))) (i : ℕ) (m : Incoming)
+    → slice_get (placed first places) i ≡ Some (Some m) → slice_get places i ≡ Some (Some m.bytes)
+placed-from first [] i m here = absurd cc
+placed-from first (None ∷ places) zero m here = absurd cc
+placed-from first (Some bytes ∷ places) zero m here =
+    let same : whole_message first bytes ≡ m = cc in ap (λ (x : Incoming). Some (Some x.bytes)) same
+placed-from first (None ∷ places) (suc i) m here = placed-from (first + 1) places i m here
+placed-from first (Some bytes ∷ places) (suc i) m here = placed-from (first + 1) places i m here
+
 -- empty places behind others
-module _ (xs : List (Option Incoming)) (n : ℕ) where
+module _ (xs : List (Option (List ℕ))) (n : ℕ) where
   pub gap-none : n ≡ length xs → xs ≡ xs ++ replicate (n - length xs) None
   gap-none e = let none : n - length xs ≡ 0 = omega arith in rw none (sym (append-nil xs))
 
-  module _ (ys : List (Option Incoming)) (low : length xs ≤ n) (is : ys ≡ xs ++ replicate (n - length xs) None) where
+  module _ (ys : List (Option (List ℕ))) (low : length xs ≤ n) (is : ys ≡ xs ++ replicate (n - length xs) None) where
     pub gap-more : ys ++ None ∷ [] ≡ xs ++ replicate (n + 1 - length xs) None
     gap-more =
         let more : n + 1 - length xs ≡ (n - length xs) + 1 = omega arith in
         rw (more, is, append_assoc xs (replicate (n - length xs) None) (None ∷ []))
-        (ap (λ (l : List (Option Incoming)). xs ++ l) (replicate-append-replicate (n - length xs) 1 None))
+        (ap (λ (l : List (Option (List ℕ))). xs ++ l) (replicate-append-replicate (n - length xs) 1 None))
 
     pub gap-length : length ys ≡ n
     gap-length = rw is (omega (
       arith,
       length-append xs (replicate (n - length xs) None),
-      length-replicate {A = Option Incoming} (n - length xs) None,
+      length-replicate {A = Option (List ℕ)} (n - length xs) None,
     ))
 
 -- a message that was counted last is put

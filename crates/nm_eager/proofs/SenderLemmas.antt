@@ -1,7 +1,7 @@
 -- What the fields of a sender keep, step by step.
 use Rattle.std.proofs.Common.{◌≡◌, ◌≢◌, ℕ, ◌+◌, ◌<◌, ◌≤◌, ◌==◌, true, false, cond, not, IfSome}
 use Rattle.std.proofs.Common.{List, [], ◌∷◌, ◌++◌, length, map, filter, find, Option, Some, None}
-use Rattle.std.proofs.Common.{sym, ap, ◌∙◌, refl, inl, inr, arith, slice_get}
+use Rattle.std.proofs.Common.{ap, ◌∙◌, refl, inl, inr, arith, slice_get}
 use Rattle.std.proofs.Common.{Bool, IsTrue, length-append, length-set, set}
 use Rattle.std.specs.List.{AllByRecursion, remove, sum_by}
 use Rattle.std.specs.Option.{option_to_list, IsSomeAnd, is_some}
@@ -11,7 +11,7 @@ use Rattle.std.proofs.lemmas.List.Elements.{filter-append}
 use Rattle.std.proofs.lemmas.List.Folds.{find-append}
 use Rattle.std.proofs.lemmas.Option.{slice_get_past}
 use Rattle.nm_types.specs.declared.limits.TheConstants.{MAX_PACKETS}
-use Rattle.nm_eager.specs.Streams.{IsStream, IsWholeOrLast, Incoming, AreNumbered}
+use Rattle.nm_eager.specs.Streams.{IsStream, IsWholeOrLast, Incoming}
 use Rattle.nm_eager.specs.Streams.{lacking, with_more, IsWholeIn}
 use Rattle.nm_eager.specs.Streams.{Stream}
 use Rattle.nm_eager.specs.Senders.{AreAtNumbers, AreAtPlaces, AreReceived, IsLast, IsPut, standing}

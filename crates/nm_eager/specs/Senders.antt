@@ -2,6 +2,7 @@
 use Rattle.std.specs.Prelude.{◌≡◌, ℕ, ◌+◌, ◌-◌, ◌<◌, ◌≤◌, Option, Some, None, IfSome, List, [], ◌∷◌, ◌++◌, length}
 use Rattle.std.specs.Prelude.{option_to_list, replicate}
 use Rattle.std.specs.List.{AllByRecursion, flat_map}
+use Rattle.std.specs.Option.{option_map}
 use Rattle.nm_types.specs.declared.limits.TheConstants.{MAX_PACKETS}
 use Rattle.nm_types.specs.declared.packets.What.{What}
 use Rattle.nm_types.specs.declared.packets.What.TheVariants.{Head}
@@ -33,6 +34,15 @@ pub record SameReceived (old new : Received) : Type 0 where
   pub same : new.stream ≡ old.stream
   pub kept : old.places ≤ new.places
   pub buffered : old.room ≤ new.room
+
+-- the whole message with this number that has these bytes
+abbrev pub whole_message : ℕ → List ℕ → Incoming
+whole_message n bytes = record { n = n; len = length bytes; bytes = bytes }
+
+-- the whole messages whose bytes stand at places, where the first of these places has this number
+abbrev pub placed : ℕ → List (Option (List ℕ)) → List (Option Incoming)
+placed first [] = []
+placed first (place ∷ places) = option_map (whole_message first) place ∷ placed (first + 1) places
 
 -- the messages that stand at these places
 abbrev pub standing : List (Option Incoming) → List Incoming

@@ -6,7 +6,7 @@ ghost use Rattle.nm_types.specs.declared.limits.TheConstants.{MAX_PACKETS};
 ghost use Rattle.nm_eager.specs.Streams.{nothing_came, missing, begun, carried_on, skipped};
 ghost use Rattle.nm_eager.specs.Streams.{IsStream, message_of, IsWholeIn, without};
 ghost use Rattle.nm_eager.specs.Streams.{is_eager, continues, after, joined_by};
-ghost use Rattle.nm_eager.specs.Senders.{CanBegin, IsPut, IsReadyAt, SameReceived};
+ghost use Rattle.nm_eager.specs.Senders.{CanBegin, IsPut, IsReadyAt, SameReceived, placed};
 
 use crate::messages::Message;
 use nm_types::{Bytes, Joined, Memory, What};
@@ -17,8 +17,8 @@ use std::mem;
 /// What came from one sender: the whole messages that weren't taken, and one that is unfinished.
 pub struct Sender {
     count: u64,
-    /// By number: what is whole and wasn't taken.
-    whole: Vec<Option<Message>>,
+    /// By number: the bytes of what is whole and wasn't taken.
+    whole: Vec<Option<Bytes>>,
     unfinished: Option<Message>,
     /// Empty: the next message that begins gets it.
     buffer: Vec<u8>,
@@ -37,26 +37,26 @@ impl Drop for Sender {
 
 impl Model for Sender {
     ghost use Rattle.std.specs.Prelude.{◌≡◌, ◌++◌, [], option_to_list, vec_capacity};
-    ghost use Rattle.nm_eager.specs.Senders.{Received, AreReceived, AreAtPlaces, standing};
+    ghost use Rattle.nm_eager.specs.Senders.{Received, AreReceived, AreAtPlaces, placed, standing};
 
     ghost Value = { Received };
 
     ghost view = { λ a. record {
       stream = record {
         count = a.count;
-        messages = standing a.whole.items ++ option_to_list a.unfinished;
+        messages = standing (placed 0 a.whole.items) ++ option_to_list a.unfinished;
       };
       places = vec_capacity a.whole;
       room = vec_capacity a.buffer;
     } };
 
     ghost invariant = { λ a. (a.buffer.items ≡ [])
-        × AreReceived a.count (standing a.whole.items) a.unfinished (vec_capacity a.whole)
-        × AreAtPlaces a.count a.whole.items a.unfinished };
+        × AreReceived a.count (standing (placed 0 a.whole.items)) a.unfinished (vec_capacity a.whole)
+        × AreAtPlaces a.count (placed 0 a.whole.items) a.unfinished };
 }
 
 /// Leaves the places up to this one empty.
-fn leave_empty(whole: &mut Vec<Option<Message>>, place: usize)
+fn leave_empty(whole: &mut Vec<Option<Bytes>>, place: usize)
     requires behind { length whole.old.items ≤ place }
     requires room { place ≤ vec_capacity whole.old }
     ensures items { whole.new.items
@@ -68,19 +68,19 @@ fn leave_empty(whole: &mut Vec<Option<Message>>, place: usize)
     }
 }
 
-/// Puts a message behind those that are whole, at the place of its number, if it is whole, too.
+/// Puts a message's bytes behind those that are whole, at the place of its number, if it is whole, too.
 /// One that is unfinished comes back.
-fn put(whole: &mut Vec<Option<Message>>, message: Message) -> Option<Message>
-    requires behind { length whole.old.items ≤ message.n }
+fn put(whole: &mut Vec<Option<Bytes>>, message: Message) -> Option<Message>
+    requires behind { length (placed 0 whole.old.items) ≤ message.n }
     requires room { message.n < vec_capacity whole.old }
-    ensures put { IsPut whole.old.items whole.new.items message result }
+    ensures put { IsPut (placed 0 whole.old.items) (placed 0 whole.new.items) message result }
     ensures room { vec_capacity whole.new ≡ vec_capacity whole.old }
 {
     if message.lacking() > 0 {
         return Some(message);
     }
     leave_empty(whole, message.n() as usize);
-    whole.push_reserved(Some(message));
+    whole.push_reserved(Some(message.into_bytes()));
     None
 }
 
@@ -198,7 +198,7 @@ impl Sender {
         ensures { IsTrue result ↔ IsWholeIn self.now.stream n }
     {
         match self.whole.get(n as usize) {
-            Some(message) => message.is_some(),
+            Some(bytes) => bytes.is_some(),
             None => false,
         }
     }
@@ -209,6 +209,6 @@ impl Sender {
         ensures bytes { IsSomeAnd (message_of self.old.stream n) (λ m. result ≡ m.bytes) }
         ensures others { self.new.stream ≡ without self.old.stream n }
     {
-        self.whole[n as usize].take().unwrap().into_bytes()
+        self.whole[n as usize].take().unwrap()
     }
 }

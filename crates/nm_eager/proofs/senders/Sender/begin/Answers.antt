@@ -1,8 +1,7 @@
-use Rattle.std.proofs.Common.{◌≡◌, ◌+◌, ◌++◌, List, ap, sym, ◌∙◌}
+use Rattle.std.proofs.Common.{◌+◌, ◌++◌, List, ap, ◌∙◌}
 use Rattle.std.proofs.lemmas.List.{append-nil}
-use Rattle.std.specs.Option.{option_to_list}
 use Rattle.nm_eager.specs.Streams.{Incoming, Stream}
-use Rattle.nm_eager.specs.Senders.{standing}
+use Rattle.nm_eager.specs.Senders.{placed, standing}
 use Rattle.nm_eager.proofs.SenderLemmas.{begun-places, begun-received, begun-stream, none-closed}
 use Rattle.nm_eager.proofs.senders.Sender.begin.Goals as goal
 
@@ -13,11 +12,11 @@ invariant_of-self c =
     ∙ ap (λ (x : Incoming). record x { bytes = x.bytes ++ c.args.bytes.now }) c.new-message.ensures in
     let at = c.self.invariant.2 in (
       rw c.replace-buffer.ensures.after c.new.ensures.items,
-      rw c.put.ensures.room (begun-received s.count s.whole.items c.put.new.whole.items
+      rw c.put.ensures.room (begun-received s.count (placed 0 s.whole.items) (placed 0 c.put.new.whole.items)
           c.extend.new.self c.put.result c.args.len c.args.bytes.now at.numbers at.counted is
           c.requires.within c.put.ensures.put _ c.self.invariant.1.are_whole
           (rw (← c.self.view_is) at c.requires.room.kept)),
-      begun-places s.count s.whole.items c.put.new.whole.items
+      begun-places s.count (placed 0 s.whole.items) (placed 0 c.put.new.whole.items)
           c.extend.new.self c.put.result c.args.len c.args.bytes.now at.numbers at.counted is
           c.requires.within c.put.ensures.put (rw (← c.self.view_is) at c.requires.limit),
     )
@@ -28,10 +27,10 @@ returns c =
     let is = c.extend.ensures
     ∙ ap (λ (x : Incoming). record x { bytes = x.bytes ++ c.args.bytes.now }) c.new-message.ensures in
     let at = c.self.invariant.2 in
-    let closed = none-closed s.count (standing s.whole.items) _ s.unfinished c.self.invariant.1
+    let closed = none-closed s.count (standing (placed 0 s.whole.items)) _ s.unfinished c.self.invariant.1
     (rw (← c.self.view_is) at c.requires.closed) in
-    let stream = begun-stream s.count s.whole.items c.put.new.whole.items
+    let stream = begun-stream s.count (placed 0 s.whole.items) (placed 0 c.put.new.whole.items)
     c.extend.new.self c.put.result c.args.len c.args.bytes.now at.numbers at.counted is
     c.requires.within c.put.ensures.put in
-    rw (← c.self.view_is, closed, append-nil (standing s.whole.items))
+    rw (← c.self.view_is, closed, append-nil (standing (placed 0 s.whole.items)))
     (ap (λ (ms : List Incoming). let of : Stream = record { count = s.count + 1; messages = ms } in of) stream)

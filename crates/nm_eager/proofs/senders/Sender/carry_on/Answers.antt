@@ -1,4 +1,4 @@
-use Rattle.nm_eager.specs.Senders.{standing}
+use Rattle.nm_eager.specs.Senders.{placed, standing}
 use Rattle.std.proofs.Common.{◌≤◌, List, ap, length, arith, sym, ◌∙◌}
 use Rattle.nm_eager.specs.Streams.{Incoming, Stream, lacking}
 use Rattle.nm_eager.proofs.SenderLemmas.{some-open, lacking-open, carried-places, carried-received, carried-stream}
@@ -7,7 +7,7 @@ use Rattle.nm_eager.proofs.senders.Sender.carry_on.Goals as goal
 pub unreachable-requires : goal.unreachable-requires
 unreachable-requires c =
     let s = c.self.inside in
-    some-open s.count (standing s.whole.items) _ s.unfinished c.self.invariant.1
+    some-open s.count (standing (placed 0 s.whole.items)) _ s.unfinished c.self.invariant.1
     (rw (← c.self.view_is) at c.requires.open) (λ x is. c.in_default.not-Some x (c.take.ensures.value ∙ is))
 
 pub extend-requires : goal.extend-requires
@@ -17,7 +17,7 @@ extend-requires c =
     omega (
       arith,
       within,
-      lacking-open s.count (standing s.whole.items) _ s.unfinished c.in-Some.message
+      lacking-open s.count (standing (placed 0 s.whole.items)) _ s.unfinished c.in-Some.message
           c.self.invariant.1 (sym c.take.ensures.value ∙ c.in-Some.is),
     )
 
@@ -42,13 +42,13 @@ invariant_of-self c =
     let size : length c.args.bytes.now ≤ lacking m = omega (
       arith,
       rw (← c.self.view_is) at c.requires.within,
-      lacking-open s.count (standing s.whole.items) _ s.unfinished m c.self.invariant.1 open',
+      lacking-open s.count (standing (placed 0 s.whole.items)) _ s.unfinished m c.self.invariant.1 open',
     ) in (
       c.self.invariant.0,
-      rw c.put.ensures.room (carried-received s.count s.whole.items c.put.new.whole.items _ m
+      rw c.put.ensures.room (carried-received s.count (placed 0 s.whole.items) (placed 0 c.put.new.whole.items) _ m
           c.extend.new.self c.put.result c.args.bytes.now received at c.extend.ensures size
           c.put.ensures.put),
-      carried-places s.count s.whole.items c.put.new.whole.items _ m
+      carried-places s.count (placed 0 s.whole.items) (placed 0 c.put.new.whole.items) _ m
           c.extend.new.self c.put.result c.args.bytes.now received at c.extend.ensures size
           c.put.ensures.put,
     )
@@ -63,11 +63,11 @@ returns c = λ n e.
     let size : length c.args.bytes.now ≤ lacking m = omega (
       arith,
       rw (← c.self.view_is) at c.requires.within,
-      lacking-open s.count (standing s.whole.items) _ s.unfinished m c.self.invariant.1 open',
+      lacking-open s.count (standing (placed 0 s.whole.items)) _ s.unfinished m c.self.invariant.1 open',
     ) in
     rw (← c.self.view_is, open') (ap (λ (ms : List Incoming). let of : Stream = record {
       count = s.count;
       messages = ms;
-    } in of) (carried-stream s.count s.whole.items c.put.new.whole.items _ m
+    } in of) (carried-stream s.count (placed 0 s.whole.items) (placed 0 c.put.new.whole.items) _ m
     c.extend.new.self c.put.result c.args.bytes.now received at c.extend.ensures size
     c.put.ensures.put n (rw (← c.self.view_is) at e)))
