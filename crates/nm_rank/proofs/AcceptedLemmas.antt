@@ -1,14 +1,12 @@
 -- The steps of a packet that continues its stream.
-use Rattle.std.proofs.Common.{◌≡◌, ℕ, ◌+◌, ◌-◌, ◌<◌, ◌≤◌, true, List, ◌++◌, length, sym, ◌∙◌, ap, subst, arith}
-use Rattle.std.specs.Prelude.{map, max, nat_lt, option_to_list, Option, Some, None}
+use Rattle.std.proofs.Common.{◌≡◌, ℕ, ◌+◌, ◌-◌, ◌<◌, ◌≤◌, true, List, length, sym, ◌∙◌, ap, subst, arith}
+use Rattle.std.specs.Prelude.{map, nat_lt}
 use Rattle.std.proofs.lemmas.List.{length-map}
 use Rattle.nm_types.proofs.TruthLemmas.{and_left}
 use Rattle.nm_types.specs.Sizes.{Sizes}
 use Rattle.nm_types.specs.declared.limits.TheConstants.{MAX_PACKETS, MAX_STAMP}
 use Rattle.nm_types.specs.declared.packets.Packet.{Packet}
 use Rattle.nm_history.specs.declared.events.Event.{Event}
-use Rattle.nm_history.specs.declared.events.Happened.{Happened}
-use Rattle.nm_history.specs.Clock.{stamped}
 use Rattle.nm_history.specs.Continues.{continues, WORN_STAMP}
 use Rattle.nm_history.specs.Known.{Known}
 use Rattle.nm_rank.specs.Journals.{JournalView}
@@ -22,7 +20,7 @@ use Rattle.nm_rank.specs.Fields.{AreFields}
 use Rattle.nm_rank.specs.Ranks.{IsFresh, known_from, count_of, seen}
 use Rattle.nm_rank.specs.Takes.{MayBeAccepted}
 use Rattle.nm_rank.proofs.Goes.{sent-outbox}
-use Rattle.nm_rank.proofs.TakeLemmas.{known_of, two-events, at-most-one}
+use Rattle.nm_rank.proofs.TakeLemmas.{known_of}
 
 pub may-be-accepted : (me : ℕ) (sizes : Sizes) (j j' : JournalView) (s : SendingView) (r : ReceivingView)
     (known : List Known) (q : Live) (took pulled : List ℕ) (p : Packet)
@@ -73,50 +71,6 @@ pub sent-room : (s s' : SendingView) (h : List Event)
     → AreSent s h → AreSent s' h
 sent-room s s' h es sent = subst (λ (u : SendingView). AreSent u h) (sym es)
     (sent-outbox s (record s.outbox { spare = s'.outbox.spare }) h sent)
-
--- a journal whose clock was set forward
-pub record IsRaised (j j' : JournalView) (start : ℕ) : Type 0 where
-  pub events : j'.events ≡ j.events
-  pub clock : j'.clock ≡ start
-  pub spare : j'.spare ≡ j.spare
-
-pub raised-as : (j j' : JournalView) (stamp : ℕ) → j' ≡ record j { clock = max j.clock stamp }
-    → IsRaised j j' (max j.clock stamp)
-raised-as j j' stamp e = record {
-  events = ap (λ (x : JournalView). x.events) e;
-  clock = ap (λ (x : JournalView). x.clock) e;
-  spare = ap (λ (x : JournalView). x.spare) e;
-}
-
--- what was noted in two steps after that
-pub noted-twice : (j j' j'' j''' : JournalView) (start : ℕ) (first second : Option Happened)
-    → IsRaised j j' start
-    → j''.events ≡ j'.events ++ stamped j'.clock (option_to_list first)
-    → j''.clock ≡ j'.clock + length (option_to_list first)
-    → j'''.events ≡ j''.events ++ stamped j''.clock (option_to_list second)
-    → j'''.events ≡ j.events ++ stamped start (option_to_list first ++ option_to_list second)
-noted-twice j j' j'' j''' start first second raised e c e' =
-    rw (← raised.events, ← raised.clock)
-    (two-events j'.events j''.events j'''.events j'.clock j''.clock (option_to_list first)
-    (option_to_list second) e c e')
-
-pub noted-clock : (j j' j'' j''' : JournalView) (start : ℕ) (first second : Option Happened)
-    → IsRaised j j' start
-    → j''.clock ≡ j'.clock + length (option_to_list first)
-    → j'''.clock ≡ j''.clock + length (option_to_list second)
-    → j'''.clock ≡ start + length (option_to_list first ++ option_to_list second)
-noted-clock j j' j'' j''' start None None raised c c' = let s = raised.clock in omega arith
-noted-clock j j' j'' j''' start None (Some y) raised c c' = let s = raised.clock in omega arith
-noted-clock j j' j'' j''' start (Some x) None raised c c' = let s = raised.clock in omega arith
-noted-clock j j' j'' j''' start (Some x) (Some y) raised c c' = let s = raised.clock in omega arith
-
-pub noted-room : (j j' j'' j''' : JournalView) (start : ℕ) (first second : Option Happened)
-    → IsRaised j j' start
-    → j'.spare ≤ j''.spare + length (option_to_list first)
-    → j''.spare ≤ j'''.spare + length (option_to_list second)
-    → j.spare ≤ j'''.spare + 2
-noted-room j j' j'' j''' start first second raised room room' =
-    let s = raised.spare in let one = at-most-one first in let two = at-most-one second in omega arith
 
 low : (a b : ℕ) → nat_lt a b ≡ true → a < b
 low a b e = grind arith

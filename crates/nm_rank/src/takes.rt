@@ -1,16 +1,20 @@
 //! Packets and pieces that come.
 
-ghost use Rattle.std.specs.Prelude.{◌≡◌, ◌+◌, ◌<◌, ◌≤◌, ℕ, true, None, List, ◌++◌, length, max, option_to_list};
+ghost use Rattle.std.specs.Prelude.{◌≡◌, ◌+◌, ◌<◌, ◌≤◌, ℕ, true, None, List, ◌++◌, length, max};
+ghost use Rattle.std.specs.Prelude.{option_map, option_to_list};
 ghost use Rattle.std.specs.Prelude.{IfOk, OnErr, OnOk};
 ghost use Rattle.nm_types.specs.declared.limits.TheConstants.{MAX_PACKETS, MAX_STAMP};
 ghost use Rattle.nm_history.specs.declared.events.Event.{Event};
+ghost use Rattle.nm_history.specs.declared.events.Happened.TheVariants as event;
 ghost use Rattle.nm_history.specs.Sends.{Sent};
 ghost use Rattle.nm_history.specs.Clock.{stamped};
+ghost use Rattle.nm_history.specs.Effects.{packet_events, whole_if};
 ghost use Rattle.nm_history.specs.Known.{Known};
 ghost use Rattle.nm_sending.specs.Outboxes.{put_to};
 ghost use Rattle.nm_receiving.specs.StreamViews.{is_called_for as is_called_for_lem, is_done_at_once};
 ghost use Rattle.nm_sending.specs.Departures.{cleared_to};
 ghost use Rattle.nm_sending.specs.Sent.{AreSent, Puts};
+ghost use Rattle.nm_receiving.specs.Made.{all_made};
 ghost use Rattle.nm_receiving.specs.Receipts.{stream_of};
 ghost use Rattle.nm_receiving.specs.Received.{AreReceived};
 ghost use Rattle.nm_rank.specs.Calls.{TakesPacket, TakesPiece, strays_after as strays_after_lem, taken_of};
@@ -25,37 +29,95 @@ use nm_history::Happened;
 use nm_receiving::Receiving;
 use nm_receiving::streams::{Made, Stream};
 use nm_sending::Sending;
-use nm_types::{Memory, Packet, Piece, What};
+use nm_types::{Arrival, Memory, Packet, Piece, What};
 
-/// Records what happened, if something did.
-fn note(journal: &mut Journal, event: Option<Happened>)
+/// Records that a message arrived, if one did.
+fn note_arrival(journal: &mut Journal, arrival: Option<Arrival>)
     requires room { 0 < journal.old.spare }
     requires in_time { journal.old.clock < MAX_STAMP }
-    ensures events { journal.new.events
-        ≡ journal.old.events ++ stamped journal.old.clock (option_to_list event) }
-    ensures clock { journal.new.clock ≡ journal.old.clock + length (option_to_list event) }
-    ensures room { journal.old.spare ≤ journal.new.spare + length (option_to_list event) }
+    ensures events { journal.new.events ≡ journal.old.events
+        ++ stamped journal.old.clock (option_to_list (option_map event.Arrive arrival)) }
+    ensures clock { journal.new.clock
+        ≡ journal.old.clock + length (option_to_list (option_map event.Arrive arrival)) }
+    ensures room { journal.old.spare
+        ≤ journal.new.spare + length (option_to_list (option_map event.Arrive arrival)) }
 {
-    if let Some(event) = event {
-        journal.add(event);
+    if let Some(a) = arrival {
+        journal.add(Happened::Arrive { a });
     }
 }
 
-/// Sets the clock forward to a packet's stamp, and records what the packet made happen.
-fn note_made(journal: &mut Journal, stamp: u64, made: Made)
+/// Records that message `n` of a rank is here whole, if it is.
+fn note_whole(journal: &mut Journal, whole: bool, from: u8, n: u64)
+    requires room { 0 < journal.old.spare }
+    requires in_time { journal.old.clock < MAX_STAMP }
+    ensures events { journal.new.events
+        ≡ journal.old.events ++ stamped journal.old.clock (whole_if whole from n) }
+    ensures clock { journal.new.clock ≡ journal.old.clock + length (whole_if whole from n) }
+    ensures room { journal.old.spare ≤ journal.new.spare + length (whole_if whole from n) }
+{
+    if whole {
+        journal.add(Happened::Whole { from, n });
+    }
+}
+
+/// Records what a packet of a message made happen.
+fn note_message(journal: &mut Journal, from: u8, made: Made)
     requires room { 2 ≤ journal.old.spare }
     requires in_time { journal.old.clock + 2 ≤ MAX_STAMP }
-    requires early { stamp + 2 ≤ MAX_STAMP }
-    ensures events { journal.new.events ≡ journal.old.events
-        ++ stamped (max journal.old.clock stamp)
-        (option_to_list made.first ++ option_to_list made.second) }
-    ensures clock { journal.new.clock ≡ max journal.old.clock stamp
-        + length (option_to_list made.first ++ option_to_list made.second) }
+    ensures events { journal.new.events
+        ≡ journal.old.events ++ stamped journal.old.clock (all_made from made) }
+    ensures clock { journal.new.clock ≡ journal.old.clock + length (all_made from made) }
     ensures room { journal.old.spare ≤ journal.new.spare + 2 }
 {
-    journal.raise(stamp);
-    note(journal, made.first);
-    note(journal, made.second);
+    note_arrival(journal, made.arrival);
+    note_whole(journal, made.whole, from, made.n);
+}
+
+/// Records what a packet makes happen that continues its stream, before it is learned, at a rank where
+/// what it asks for is done at once or is not.
+fn note_events(journal: &mut Journal, stream: &Stream, p: &Packet, done_at_once: bool)
+    requires room { 2 ≤ journal.old.spare }
+    requires in_time { journal.old.clock + 2 ≤ MAX_STAMP }
+    ensures events { (h : List Event) → done_at_once ≡ is_done_at_once h p.now.from p.now.what
+        → journal.new.events ≡ journal.old.events ++ stamped journal.old.clock
+        (packet_events stream.now.known h p.now.from p.now.what (length p.now.payload)) }
+    ensures clock { (h : List Event) → done_at_once ≡ is_done_at_once h p.now.from p.now.what
+        → journal.new.clock ≡ journal.old.clock + length
+        (packet_events stream.now.known h p.now.from p.now.what (length p.now.payload)) }
+    ensures room { journal.old.spare ≤ journal.new.spare + 2 }
+{
+    let from = p.from;
+    match p.what {
+        What::Head { .. } | What::More { .. } | What::Ask { .. } => {
+            note_message(journal, from, stream.events(p, done_at_once));
+        }
+        What::Clear { n } if done_at_once => journal.add(Happened::Out { to: from, n }),
+        What::Clear { .. } => {}
+        What::Withdraw { n } => journal.add(Happened::Withdraw {
+            from,
+            n,
+            done: done_at_once,
+        }),
+        What::Withdrawn { n, done } => journal.add(Happened::Undone { to: from, n, done }),
+    }
+}
+
+/// Sets the clock forward to a packet's stamp, and records what the packet makes happen.
+fn note_packet(journal: &mut Journal, stream: &Stream, p: &Packet, done_at_once: bool)
+    requires room { 2 ≤ journal.old.spare }
+    requires in_time { journal.old.clock + 2 ≤ MAX_STAMP }
+    requires early { p.now.stamp + 2 ≤ MAX_STAMP }
+    ensures events { (h : List Event) → done_at_once ≡ is_done_at_once h p.now.from p.now.what
+        → journal.new.events ≡ journal.old.events ++ stamped (max journal.old.clock p.now.stamp)
+        (packet_events stream.now.known h p.now.from p.now.what (length p.now.payload)) }
+    ensures clock { (h : List Event) → done_at_once ≡ is_done_at_once h p.now.from p.now.what
+        → journal.new.clock ≡ max journal.old.clock p.now.stamp + length
+        (packet_events stream.now.known h p.now.from p.now.what (length p.now.payload)) }
+    ensures room { journal.old.spare ≤ journal.new.spare + 2 }
+{
+    journal.raise(p.stamp);
+    note_events(journal, stream, p, done_at_once);
 }
 
 /// Whether this rank called for a packet: it clears a message that was sent by asking, or answers a
@@ -157,9 +219,8 @@ impl Rank {
         let n = stream.count();
         stream.reserve(p.what)?;
         let done_at_once = accept(&mut self.sending, &mut self.receiving, p)?;
-        let made = stream.events(p, done_at_once);
+        note_packet(&mut self.journal, stream, p, done_at_once);
         stream.learn(p);
-        note_made(&mut self.journal, p.stamp, made);
         reply(&mut self.sending, p, n, done_at_once, self.journal.clock());
         self.took[p.from as usize] = p.seq + 1;
         Ok(())
@@ -177,7 +238,7 @@ impl Rank {
         sides_stay();
         make_room(&mut self.journal, &mut self.sending, &mut self.requests)?;
         let drawn = self.receiving.draw(p)?;
-        note(&mut self.journal, drawn.event);
+        note_whole(&mut self.journal, drawn.whole, p.from, p.n);
         self.strays = strays_after(drawn.continued, self.strays);
         self.pulled[p.from as usize] = p.number + 1;
         Ok(())

@@ -5,7 +5,7 @@ use Rattle.std.proofs.Common.{Some, None, List, [], ◌∷◌, ◌++◌}
 use Rattle.std.proofs.Common.{length, get_or, refl, sym, ◌∙◌, ap, subst, append-nil, arith, length-append}
 use Rattle.std.specs.Cmp.{nat_eq_equiv}
 use Rattle.std.specs.List.{slice_get}
-use Rattle.std.specs.Option.{option_map_or, option_to_list}
+use Rattle.std.specs.Option.{option_map_or}
 use Rattle.std.proofs.Math.ListN.{set}
 use Rattle.std.proofs.lemmas.Bool.{eqb-false, eqb-true}
 use Rattle.std.proofs.lemmas.List.{length-set}
@@ -15,7 +15,6 @@ use Rattle.nm_types.specs.declared.packets.Joined.{Joined}
 use Rattle.nm_types.specs.declared.packets.Joined.TheVariants as joined
 use Rattle.nm_types.specs.declared.packets.Piece.{Piece}
 use Rattle.nm_history.specs.declared.events.Event.{Event}
-use Rattle.nm_history.specs.declared.events.Happened.{Happened}
 use Rattle.nm_history.specs.declared.events.Happened.TheVariants.{Whole}
 use Rattle.nm_history.proofs.SelectionLemmas.{find_contains}
 use Rattle.nm_history.specs.Bytes.{pulled_bytes}
@@ -74,17 +73,17 @@ keeps-stray v h events happens received right =
     unstamp-none (λ events. AreReceived v (h ++ events) × AreRight v.sizes.ranks h events) events
     (subst (λ (k : List Event). AreReceived v k) (sym (append-nil h)) received, tt) happens
 
-made_some : (b : Bool) (from n : ℕ) (o : Option Happened) → whole_if b from n ≡ option_to_list o → is_some o ≡ b
-made_some true from n None is = absurd (let h : ⊥ = cc in h)
-made_some true from n (Some w) is = refl
-made_some false from n None is = refl
-made_some false from n (Some w) is = absurd (let h : ⊥ = cc in h)
+same_whole : (b d : Bool) (from n : ℕ) → whole_if b from n ≡ whole_if d from n → d ≡ b
+same_whole true true from n is = refl
+same_whole true false from n is = absurd (let h : ⊥ = cc in h)
+same_whole false true from n is = absurd (let h : ⊥ = cc in h)
+same_whole false false from n is = refl
 
 module _ (v : ReceivingView) (kept : ReceivingInvariant v) (gs : Granting) (p : Piece) (same : gs.grants ≡ v.grants)
     (fits : Continues gs p)
-    (sender : p.from < v.sizes.ranks) (did : Joined) (event : Option Happened)
+    (sender : p.from < v.sizes.ranks) (did : Joined) (whole : Bool)
     (joins : did ≡ joined_by (due_in (grants_from gs p.from)) p.at (length p.bytes))
-    (makes : option_to_list event ≡ piece_makes p.from (slice_get (due_of_grants (grants_from gs p.from)) 0) p) where
+    (makes : whole_if whole p.from p.n ≡ piece_makes p.from (slice_get (due_of_grants (grants_from gs p.from)) 0) p) where
   abbrev row : List (ℕ × Granted)
   row = granted_to v p.from
 
@@ -159,8 +158,8 @@ module _ (v : ReceivingView) (kept : ReceivingInvariant v) (gs : Granting) (p : 
   not_begun true is = let h : ⊥ = cc in h
   not_begun false is = let h : ⊥ = cc in h
 
-  pub event_is : whole_if ends p.from p.n ≡ option_to_list event
-  event_is =
+  pub whole_is : whole_if ends p.from p.n ≡ whole_if whole p.from p.n
+  whole_is =
       joined-made gs p did fits joins ends
       (λ is. joins ∙ ap (λ (b : Bool). if b then joined.Whole else (if p.at == 0 then joined.Begun else joined.More))
       is)
@@ -169,8 +168,8 @@ module _ (v : ReceivingView) (kept : ReceivingInvariant v) (gs : Granting) (p : 
       is) ∙ whole))
       ∙ sym makes
 
-  pub ends_is : is_some event ≡ ends
-  ends_is = made_some ends p.from p.n event event_is
+  pub ends_is : whole ≡ ends
+  ends_is = same_whole ends whole p.from p.n whole_is
 
   pub piece_came : IsSome (receipt_of v p.from p.n)
   piece_came = ap (λ (o : Option Receipt). is_some o) found.3.here
@@ -189,9 +188,9 @@ module _ (v : ReceivingView) (kept : ReceivingInvariant v) (gs : Granting) (p : 
     },
   )
 
-  pub keeps-draw : Preserves v drawn_view (option_to_list event)
+  pub keeps-draw : Preserves v drawn_view (whole_if whole p.from p.n)
   keeps-draw h events happens received right =
-      keeps-marked piecing p.from p.n ends h events (happens ∙ sym event_is) (received1 h received) right
+      keeps-marked piecing p.from p.n ends h events (happens ∙ sym whole_is) (received1 h received) right
       (λ _. may_end h received)
 
   pub kept-draw : ReceivingInvariant drawn_view

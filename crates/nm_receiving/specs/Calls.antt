@@ -1,6 +1,6 @@
 -- What each call does to a rank's receiving side. MPI 3.1, 3.5, 3.7.3, 3.8.
 use Rattle.std.specs.Prelude.{◌≡◌, ℕ, ◌+◌, ◌<◌, true, false, if◌then◌else◌, Option, List, [], ◌∷◌, ◌++◌}
-use Rattle.std.specs.Prelude.{length, map, option_map, option_to_list, slice_set, IfSome, IsNone, IsSome}
+use Rattle.std.specs.Prelude.{length, map, option_map, slice_set, IfSome, IsNone, IsSome}
 use Rattle.std.specs.List.{slice_get}
 use Rattle.std.specs.Option.{option_map_or}
 use Rattle.nm_types.specs.declared.answers.Answer.{Answer}
@@ -13,6 +13,7 @@ use Rattle.nm_history.specs.Answers.{without_bytes}
 use Rattle.nm_history.specs.Bytes.{bytes_in, pulled_bytes}
 use Rattle.nm_history.specs.Completion.{result_of}
 use Rattle.nm_history.specs.Completion.Request.{Receiving}
+use Rattle.nm_history.specs.Effects.{whole_if}
 use Rattle.nm_history.specs.Known.{Known}
 use Rattle.nm_history.specs.Pieces.{due_pieces, is_due, piece_makes}
 use Rattle.nm_eager.specs.Streams.{after, continues, is_kept, missing}
@@ -69,11 +70,11 @@ pub record DrawsPiece (p : Piece) (d : Drawn) (old new : ReceivingView) : Type 0
       (h : List Event) → AreReceived old h →
       d.continued
       ≡ option_map_or (is_due p) (slice_get (due_pieces h p.from) (drawn_from old p.from)) false
-  pub event :
+  pub whole :
       (h : List Event) → AreReceived old h →
-      option_to_list d.event
+      whole_if d.whole p.from p.n
       ≡ piece_makes p.from (slice_get (due_pieces h p.from) (drawn_from old p.from)) p
-  pub kept : Preserves old new (option_to_list d.event)
+  pub kept : Preserves old new (whole_if d.whole p.from p.n)
   pub stray : d.continued ≡ false → new ≡ old
   pub counted :
       new.drawn

@@ -31,7 +31,6 @@ use crate::receipts::{Receipt, Receipts, Receive, give};
 use crate::streams::{arrival, pieces};
 use crate::telling::packets_tell;
 use nm_eager::Joiner;
-use nm_history::Happened;
 use nm_match::Matcher;
 use nm_rndv::Grants;
 use nm_types::{Answer, Arrival, How, Memory, Packet, Peer, Piece, Post, Shape, TagPick, What};
@@ -45,11 +44,11 @@ pub struct Started {
     pub taken: Option<Arrival>,
 }
 
-/// What a piece did: whether it continued its message, and what that made happen.
-#[derive(Drop)]
+/// What a piece did: whether it continued its message, and whether the message is whole with it.
+#[derive(Clone, Copy)]
 pub struct Drawn {
     pub continued: bool,
-    pub event: Option<Happened>,
+    pub whole: bool,
 }
 
 /// The receiving side of a rank: the messages that come to it, and its receives.
@@ -351,16 +350,16 @@ impl Receiving {
         if !self.grants.fits(p) {
             return Ok(Drawn {
                 continued: false,
-                event: None,
+                whole: false,
             });
         }
         let joined = self.grants.piece(p)?;
-        let event = pieces::event(p, joined);
-        self.receipts.make_whole_if(event.is_some(), p.from, p.n);
+        let whole = pieces::is_whole(joined);
+        self.receipts.make_whole_if(whole, p.from, p.n);
         self.drawn[p.from as usize] += 1;
         Ok(Drawn {
             continued: true,
-            event,
+            whole,
         })
     }
 

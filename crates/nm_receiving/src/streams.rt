@@ -3,7 +3,7 @@
 //! MPI 3.1, sections 3.4 (communication modes), 3.5 (order) and 3.8.4 (cancel of a send). A rank has
 //! one `Stream` for each rank that sends to it, itself too. It tells of each packet whether it
 //! continues its stream; one that doesn't is a stray, which teaches nothing and makes nothing
-//! happen. `pieces` tells what each piece of a long message makes happen.
+//! happen. `pieces` tells whether a long message is whole with a piece of it.
 //!
 //! # What a contract sees
 //! A `Stream` is seen as what the packets told, by the words of the protocol (`nm_history::protocol`), and as
@@ -14,8 +14,8 @@
 //! - `continues` is the protocol's answer, on every history of which the answer that was passed is
 //!   true.
 //! - `learn` is the protocol's step, and takes no memory after `reserve`.
-//! - `events` gives what the protocol says that the packet makes happen, on every such history.
-//! - The event of a piece that continues is the protocol's.
+//! - `events` gives what the protocol says that a packet of a message makes happen, on every such history.
+//! - Whether a message is whole with a piece that continues it is the protocol's.
 //! - After want of memory nothing that is known has changed.
 //! # What is only tested
 //! That calls which take memory succeed with ample memory.

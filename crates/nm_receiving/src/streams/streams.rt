@@ -1,19 +1,19 @@
 //! What a rank knows of another by its packets.
 
-ghost use Rattle.std.specs.Prelude.{◌≡◌, ◌≤◌, ◌==◌, ◌&&◌, List, length, not, IsTrue, OnOk};
+ghost use Rattle.std.specs.Prelude.{◌≡◌, ◌≤◌, ◌==◌, ◌&&◌, true, false, [], List, length, not, IsTrue, OnOk};
 ghost use Rattle.nm_history.specs.declared.events.Event.{Event};
 ghost use Rattle.nm_history.specs.Continues.{continues as continues_lem};
 ghost use Rattle.nm_history.specs.Continues.{has};
 ghost use Rattle.nm_history.specs.Continues.{continues_stream as continues_stream_lem};
 ghost use Rattle.nm_history.specs.Effects.{packet_events};
 ghost use Rattle.nm_history.specs.Known.{learned, nothing_known};
+ghost use Rattle.nm_eager.specs.Streams.{is_kept};
 ghost use Rattle.nm_receiving.specs.Made.{all_made};
 ghost use Rattle.nm_receiving.specs.StreamViews.{HasRoom, IsContinued, is_called_for, is_done_at_once};
 
-use crate::streams::effects::{Made, arrival, whole_if};
+use crate::streams::effects::{Made, arrival};
 use crate::streams::numbers::Numbers;
 use nm_eager::continues;
-use nm_history::Happened;
 use nm_types::{How, MAX_STAMP, Memory, Packet, What};
 use std::alloc::Global;
 use std::marker::Model;
@@ -194,37 +194,41 @@ impl Stream {
         }
     }
 
-    /// What a packet makes happen that continues its stream, before it is learned, at a rank where
-    /// what it asks for is done at once or is not.
+    /// What a packet of a message makes happen that continues its stream, before it is learned, at a
+    /// rank where what it asks for is done at once or is not. A packet of another kind makes no
+    /// message arrive, and none whole.
     pub fn events(&self, packet: &Packet, done_at_once: bool) -> Made
-        ensures { (h : List Event)
+        ensures message { (h : List Event)
             → done_at_once ≡ is_done_at_once h packet.now.from packet.now.what
-            → all_made result ≡ packet_events self.now.known h packet.now.from packet.now.what
-            (length packet.now.payload) }
+            → is_kept packet.now.what ≡ true
+            → all_made packet.now.from result ≡ packet_events self.now.known h packet.now.from
+            packet.now.what (length packet.now.payload) }
+        ensures other { is_kept packet.now.what ≡ false → all_made packet.now.from result ≡ [] }
     {
         let from = packet.from;
         let size = packet.payload.as_slice().len() as u32;
+        let next = self.count;
         match packet.what {
             What::Head { tag, ctx, len } => Made {
-                first: Some(Happened::Arrive {
-                    a: arrival(self.count, from, tag, ctx, len, How::Eager),
-                }),
-                second: whole_if(len == size, from, self.count),
+                arrival: Some(arrival(next, from, tag, ctx, len, How::Eager)),
+                n: next,
+                whole: len == size,
             },
-            What::More { n } => Made::one(whole_if(self.missing == size, from, n)),
+            What::More { n } => Made {
+                arrival: None,
+                n,
+                whole: self.missing == size,
+            },
             What::Ask { tag, ctx, len } => Made {
-                first: Some(Happened::Arrive {
-                    a: arrival(self.count, from, tag, ctx, len, How::Ask),
-                }),
-                second: whole_if(len == 0 && done_at_once, from, self.count),
+                arrival: Some(arrival(next, from, tag, ctx, len, How::Ask)),
+                n: next,
+                whole: len == 0 && done_at_once,
             },
-            What::Clear { n } if done_at_once => Made::one(Some(Happened::Out { to: from, n })),
-            What::Clear { .. } => Made::one(None),
-            What::Withdraw { n } => {
-                let done = done_at_once;
-                Made::one(Some(Happened::Withdraw { from, n, done }))
-            }
-            What::Withdrawn { n, done } => Made::one(Some(Happened::Undone { to: from, n, done })),
+            What::Clear { n } | What::Withdraw { n } | What::Withdrawn { n, .. } => Made {
+                arrival: None,
+                n,
+                whole: false,
+            },
         }
     }
 }

@@ -1,5 +1,5 @@
 use Rattle.std.proofs.Common.{◌≡◌, ◌<◌, ◌≤◌, ◌∙◌, ◌+◌, ◌++◌, ℕ, true, List, length, sym, ap, subst, rules, arith}
-use Rattle.std.specs.Prelude.{None, map, max, slice_set, option_to_list}
+use Rattle.std.specs.Prelude.{None, map, max, slice_set}
 use Rattle.nm_history.specs.Clock.{stamped}
 use Rattle.nm_history.specs.Continues.{continues, WORN_STAMP}
 use Rattle.nm_history.specs.Effects.{packet_events}
@@ -147,27 +147,26 @@ invariant_of-self-2 c = let a = c.self.inside in
     same-events a.journal c.make_room.new.journal c.make_room.ensures.events in
     let cont' : continues a.shape.eager (known_from known p.from) c.make_room.new.journal.events p ≡ true =
     rw h cont in
-    let made = c.events-made.ensures c.make_room.new.journal.events
-    (c.in_ok-done_at_once.ensures.at_once c.make_room.new.journal.events roomy.history.sent
-    roomy.history.received) in
+    let at_once = c.in_ok-done_at_once.ensures.at_once c.make_room.new.journal.events roomy.history.sent
+    roomy.history.received in
     let puts = c.reply.ensures.puts 0 (omega arith) in
-    let first = c.events-made.result.first in
-    let second = c.events-made.result.second in
     let start = max c.make_room.new.journal.clock p.stamp in
-    let clock = c.note_made.ensures.clock in
-    subst (λ (k : List Known). AreFields a.me a.shape c.note_made.new.journal c.reply.new.sending
+    let clock = c.note_packet.ensures.clock c.make_room.new.journal.events at_once in
+    subst (λ (k : List Known). AreFields a.me a.shape c.note_packet.new.journal c.reply.new.sending
     c.accept.new.receiving k c.make_room.new.requests (slice_set a.took.items p.from (p.seq + 1))
     a.pulled.items)
     (sym (known-set a.streams.items p.from c.index_mut-stream.result.now c.reserve.new.self c.learn.new.self
     p.what (length p.payload) low c.index_mut-stream.ensures.value c.reserve.ensures.same c.learn.ensures))
-    (fields-take a.me a.shape c.make_room.new.journal c.note_made.new.journal c.make_room.new.sending
+    (fields-take a.me a.shape c.make_room.new.journal c.note_packet.new.journal c.make_room.new.sending
     c.accept.new.sending c.reply.new.sending a.receiving c.accept.new.receiving known
     c.make_room.new.requests a.took.items a.pulled.items p start
-    (option_to_list first ++ option_to_list second) roomy within number cont'
-    (made ∙ ap (λ (k : Known). packet_events k c.make_room.new.journal.events p.from p.what
+    (packet_events c.reserve.new.self.known c.make_room.new.journal.events p.from p.what (length p.payload))
+    roomy within number cont'
+    (ap (λ (k : Known). packet_events k c.make_room.new.journal.events p.from p.what
     (length p.payload)) (sym here))
-    c.note_made.ensures.events (omega (arith, clock)) c.in_ok-make_room.ensures.two c.note_made.ensures.room
-    c.in_ok-done_at_once.ensures.accepts c.reply.ensures.same puts.me puts.popped)
+    (c.note_packet.ensures.events c.make_room.new.journal.events at_once) (omega (arith, clock))
+    c.in_ok-make_room.ensures.two c.note_packet.ensures.room c.in_ok-done_at_once.ensures.accepts
+    c.reply.ensures.same puts.me puts.popped)
 
 pub returns-clause-taken : goal.returns-clause-taken
 returns-clause-taken c = let a = c.self.inside in
@@ -187,31 +186,29 @@ returns-clause-taken c = let a = c.self.inside in
     let at_once = c.in_ok-done_at_once.ensures.at_once a.journal.events
     (sent-room a.sending c.make_room.new.sending a.journal.events c.make_room.ensures.letters
     c.self.invariant.history.sent) c.self.invariant.history.received in
-    let made = c.events-made.ensures a.journal.events at_once in
-    let first = c.events-made.result.first in
-    let second = c.events-made.result.second in
+    let ws = packet_events c.reserve.new.self.known a.journal.events p.from p.what (length p.payload) in
     let clock : c.make_room.new.journal.clock ≡ a.journal.clock =
     same-clock a.journal c.make_room.new.journal c.make_room.ensures.events in
     subst (λ (v : RankView). TakesPacket c.args.p.now v
-    (seen a.me a.shape c.note_made.new.journal c.reply.new.sending c.accept.new.receiving
+    (seen a.me a.shape c.note_packet.new.journal c.reply.new.sending c.accept.new.receiving
     (map known_of (slice_set a.streams.items c.args.p.now.from c.learn.new.self)) c.make_room.new.requests
     (slice_set a.took.items c.args.p.now.from (c.args.p.now.seq + 1)) a.pulled.items a.strays))
     c.self.view_is
-    (takes-packet a.me a.shape a.journal c.make_room.new.journal c.note_made.new.journal a.sending
+    (takes-packet a.me a.shape a.journal c.make_room.new.journal c.note_packet.new.journal a.sending
     c.make_room.new.sending c.accept.new.sending c.reply.new.sending a.receiving c.accept.new.receiving known
     _ a.requests c.make_room.new.requests a.took.items a.pulled.items a.strays p
-    (option_to_list first ++ option_to_list second) c.in_ok-done_at_once.done_at_once
+    ws c.in_ok-done_at_once.done_at_once
     c.count-n.result
     c.make_room.ensures.events c.make_room.ensures.letters c.make_room.ensures.requests cont
-    (made ∙ ap (λ (k : Known). packet_events k a.journal.events p.from p.what (length p.payload)) (sym here))
+    (ap (λ (k : Known). packet_events k a.journal.events p.from p.what (length p.payload)) (sym here))
     at_once
     (c.count-n.ensures ∙ ap (λ (k : Known). k.count) (sym (known-at a.streams.items p.from
     c.index_mut-stream.result.now low c.index_mut-stream.ensures.value)))
-    (subst (λ (k : ℕ). c.note_made.new.journal.events
-    ≡ c.make_room.new.journal.events ++ stamped (max k p.stamp) (option_to_list first ++ option_to_list second))
-    clock c.note_made.ensures.events)
-    (subst (λ (k : ℕ). c.note_made.new.journal.clock
-    ≡ max k p.stamp + length (option_to_list first ++ option_to_list second)) clock c.note_made.ensures.clock)
+    (subst (λ (k : ℕ). c.note_packet.new.journal.events
+    ≡ c.make_room.new.journal.events ++ stamped (max k p.stamp) ws)
+    clock (c.note_packet.ensures.events a.journal.events at_once))
+    (subst (λ (k : ℕ). c.note_packet.new.journal.clock ≡ max k p.stamp + length ws)
+    clock (c.note_packet.ensures.clock a.journal.events at_once))
     c.in_ok-done_at_once.ensures.accepts.outbox
     (subst (λ (t : ℕ). (called : ℕ) → called ≤ t →
     Puts (reply_of c.count-n.result p.from p.what c.in_ok-done_at_once.done_at_once called) None t
@@ -223,14 +220,14 @@ returns-clause-taken c = let a = c.self.inside in
     p.what (length p.payload) low c.index_mut-stream.ensures.value c.reserve.ensures.same c.learn.ensures)
     number c.in_ok-done_at_once.ensures.accepts.drawn)
 
-pub note_made-requires-clause-in_time : goal.note_made-requires-clause-in_time
-note_made-requires-clause-in_time c = let a = c.self.inside in
+pub note_packet-requires-clause-in_time : goal.note_packet-requires-clause-in_time
+note_packet-requires-clause-in_time c = let a = c.self.inside in
     let fresh = subst (λ (v : RankView). v.clock < WORN_STAMP) (sym c.self.view_is) c.requires.fresh.clock in
     let clock = same-clock a.journal c.make_room.new.journal c.make_room.ensures.events in
     omega (arith, fresh, clock)
 
-pub note_made-requires-clause-early : goal.note_made-requires-clause-early
-note_made-requires-clause-early c = let a = c.self.inside in
+pub note_packet-requires-clause-early : goal.note_packet-requires-clause-early
+note_packet-requires-clause-early c = let a = c.self.inside in
     let p = c.args.p.now in
     let cont = subst (λ (v : RankView). (taken_of v c.args.p.now).continued ≡ true) (sym c.self.view_is)
     c.requires.continues in

@@ -1,5 +1,6 @@
 use Rattle.std.proofs.Common.{◌≡◌, ◌<◌, sym, subst}
-use Rattle.std.specs.Prelude.{map, option_to_list}
+use Rattle.std.specs.Prelude.{map}
+use Rattle.nm_history.specs.Effects.{whole_if}
 use Rattle.nm_receiving.specs.Receipts.{ReceivingView}
 use Rattle.nm_rank.specs.Fields.{AreFields}
 use Rattle.nm_rank.specs.Ranks.{RankView, count_of}
@@ -28,10 +29,10 @@ invariant_of-self-2 c =
     let number : c.args.p.now.number ≡ count_of a.pulled.items c.args.p.now.from =
     subst (λ (v : RankView). c.args.p.now.number ≡ count_of v.pulled c.args.p.now.from) (sym c.self.view_is)
     c.requires.number in
-    fields-draw a.me a.shape c.make_room.new.journal c.note.new.journal c.make_room.new.sending a.receiving
+    fields-draw a.me a.shape c.make_room.new.journal c.note_whole.new.journal c.make_room.new.sending a.receiving
     c.draw.new.self _ c.make_room.new.requests a.took.items a.pulled.items c.args.p.now
-    (option_to_list c.in_ok-drawn.drawn.event) c.in_ok-drawn.drawn.continued _ roomy
-    c.note.ensures.events c.note.ensures.clock c.note.ensures.room c.in_ok-make_room.ensures.two
-    (c.in_ok-drawn.ensures.drew.event c.make_room.new.journal.events roomy.history.received)
+    (whole_if c.in_ok-drawn.drawn.whole c.args.p.now.from c.args.p.now.n) c.in_ok-drawn.drawn.continued _ roomy
+    c.note_whole.ensures.events c.note_whole.ensures.clock c.note_whole.ensures.room c.in_ok-make_room.ensures.two
+    (c.in_ok-drawn.ensures.drew.whole c.make_room.new.journal.events roomy.history.received)
     c.in_ok-drawn.ensures.drew.kept c.in_ok-drawn.ensures.drew.same c.in_ok-drawn.ensures.drew.counted within number
     c.sides_stay.ensures.sent

@@ -1,6 +1,6 @@
 use Rattle.std.proofs.Common.{◌≡◌, ◌+◌, ◌<◌, ℕ, true, false, Option, List, length, get_or, refl, sym, ◌∙◌}
 use Rattle.std.proofs.Common.{ap, subst, add-zero, arith}
-use Rattle.std.specs.Option.{option_map_or, option_to_list}
+use Rattle.std.specs.Option.{option_map_or}
 use Rattle.std.proofs.Math.ListN.{set}
 use Rattle.std.proofs.lemmas.Bool.{true≢false}
 use Rattle.std.proofs.lemmas.List.{get_or_read, set-get_or}
@@ -8,6 +8,7 @@ use Rattle.nm_types.specs.declared.messages.Arrival.{Arrival}
 use Rattle.nm_types.specs.declared.packets.Piece.{Piece}
 use Rattle.nm_history.specs.declared.events.Event.{Event}
 use Rattle.nm_history.specs.Bytes.{pulled_bytes}
+use Rattle.nm_history.specs.Effects.{whole_if}
 use Rattle.nm_history.specs.Pieces.{Due, due_pieces, is_due, piece_makes}
 use Rattle.std.specs.List.{slice_get}
 use Rattle.nm_receiving.specs.declared.receivings.Drawn.{Drawn}
@@ -28,9 +29,9 @@ make_whole_if-requires c =
     let fits = c.fits.ensures.0 c.if-not-fits.false in
     let gs = c.self.inside.grants in
     let sender = subst (λ (w : ReceivingView). p.from < w.sizes.ranks) (sym c.self.view_is) c.requires.sender in
-    piece_came (seen c.self.inside) c.self.invariant gs p refl fits sender c.in_ok-joined.joined c.event-event.result
+    piece_came (seen c.self.inside) c.self.invariant gs p refl fits sender c.in_ok-joined.joined c.is_whole-whole.result
     c.in_ok-joined.ensures.joined
-    (c.event-event.ensures gs fits c.in_ok-joined.ensures.joined)
+    (c.is_whole-whole.ensures gs p fits c.in_ok-joined.ensures.joined)
 
 -- the fields afterwards
 sender_of : (c : goal.After-self-1) → c.args.p.now.from < c.self.inside.joiner.sizes.ranks
@@ -47,8 +48,9 @@ after_view c =
 view_is : (c : goal.After-self-1) →
     drawn_view (seen c.self.inside) c.self.invariant c.self.inside.grants c.args.p.now refl
     (c.fits.ensures.0 c.if-not-fits.false) (sender_of c)
-    c.in_ok-joined.joined c.event-event.result c.in_ok-joined.ensures.joined
-    (c.event-event.ensures c.self.inside.grants (c.fits.ensures.0 c.if-not-fits.false) c.in_ok-joined.ensures.joined)
+    c.in_ok-joined.joined c.is_whole-whole.result c.in_ok-joined.ensures.joined
+    (c.is_whole-whole.ensures c.self.inside.grants c.args.p.now (c.fits.ensures.0 c.if-not-fits.false)
+    c.in_ok-joined.ensures.joined)
     ≡ after_view c
 view_is c =
     let p : Piece = c.args.p.now in
@@ -57,14 +59,14 @@ view_is c =
     let sender = sender_of c in
     let rows = c.self.invariant.tables.drawn in
     let inside : p.from < length c.self.inside.drawn.items = omega (arith, sender, rows) in
-    drawn_is (seen c.self.inside) c.self.invariant gs p refl fits sender c.in_ok-joined.joined c.event-event.result
+    drawn_is (seen c.self.inside) c.self.invariant gs p refl fits sender c.in_ok-joined.joined c.is_whole-whole.result
     c.in_ok-joined.ensures.joined
-    (c.event-event.ensures gs fits c.in_ok-joined.ensures.joined)
-    c.is_some.result c.piece.new.self.grants c.make_whole_if.new.self.rows
+    (c.is_whole-whole.ensures gs p fits c.in_ok-joined.ensures.joined)
+    c.is_whole-whole.result c.piece.new.self.grants c.make_whole_if.new.self.rows
     (set c.self.inside.drawn.items p.from (c.index_mut.result.now + 1))
-    (c.is_some.ensures ∙ ends_is (seen c.self.inside) c.self.invariant gs p refl fits sender c.in_ok-joined.joined
-    c.event-event.result
-    c.in_ok-joined.ensures.joined (c.event-event.ensures gs fits c.in_ok-joined.ensures.joined))
+    (ends_is (seen c.self.inside) c.self.invariant gs p refl fits sender c.in_ok-joined.joined
+    c.is_whole-whole.result
+    c.in_ok-joined.ensures.joined (c.is_whole-whole.ensures gs p fits c.in_ok-joined.ensures.joined))
     c.in_ok-joined.ensures.ok c.make_whole_if.ensures
     (ap (λ (k : ℕ). set c.self.inside.drawn.items p.from (k + 1))
     (get_or_read c.self.inside.drawn.items p.from c.index_mut.result.now inside c.index_mut.ensures.value 0))
@@ -74,8 +76,9 @@ invariant_of-self-2 c =
     subst (λ (w : ReceivingView). ReceivingInvariant w) (view_is c)
     (kept-draw (seen c.self.inside) c.self.invariant c.self.inside.grants c.args.p.now refl
     (c.fits.ensures.0 c.if-not-fits.false) (sender_of c)
-    c.in_ok-joined.joined c.event-event.result c.in_ok-joined.ensures.joined
-    (c.event-event.ensures c.self.inside.grants (c.fits.ensures.0 c.if-not-fits.false) c.in_ok-joined.ensures.joined))
+    c.in_ok-joined.joined c.is_whole-whole.result c.in_ok-joined.ensures.joined
+    (c.is_whole-whole.ensures c.self.inside.grants c.args.p.now (c.fits.ensures.0 c.if-not-fits.false)
+    c.in_ok-joined.ensures.joined))
 
 pub returns-then-not-fits-clause-drew : goal.returns-then-not-fits-clause-drew
 returns-then-not-fits-clause-drew c =
@@ -90,7 +93,7 @@ returns-then-not-fits-clause-drew c =
     false) c.self.view_is in
     record {
       continued = stray;
-      event = λ h received. stray_makes p.from (slice_get (due_pieces h p.from) (drawn_from v p.from)) p
+      whole = λ h received. stray_makes p.from (slice_get (due_pieces h p.from) (drawn_from v p.from)) p
           (stray h received);
       kept = keeps-stray v;
       stray = λ _. refl;
@@ -109,22 +112,22 @@ returns-clause-drew c =
     let sender = sender_of c in
     let rows = c.self.invariant.tables.drawn in
     let inside : p.from < length c.self.inside.drawn.items = omega (arith, sender, rows) in
-    let made = c.event-event.ensures gs fits c.in_ok-joined.ensures.joined in
-    let d : Drawn = record { continued = true; event = c.event-event.result } in
+    let made = c.is_whole-whole.ensures gs p fits c.in_ok-joined.ensures.joined in
+    let d : Drawn = record { continued = true; whole = c.is_whole-whole.result } in
     let more : Arrival → List ℕ =
     of_asked p.from (λ n. pulled_bytes n (record { piece = p; continued = true })) in
     subst (λ (u : ReceivingView). DrawsPiece p d u (after_view c)) c.self.view_is
     (record {
       continued = λ h here. sym c.if-not-fits.false ∙ continued_at v gs p c.fits.result refl c.fits.ensures h here;
-      event = λ h here. made ∙ ap (λ (o : Option Due). piece_makes p.from o p) (due_at v h here p.from);
-      kept = subst (λ (w : ReceivingView). Preserves v w (option_to_list d.event)) (view_is c)
-          (keeps-draw v c.self.invariant gs p refl fits sender c.in_ok-joined.joined c.event-event.result
+      whole = λ h here. made ∙ ap (λ (o : Option Due). piece_makes p.from o p) (due_at v h here p.from);
+      kept = subst (λ (w : ReceivingView). Preserves v w (whole_if d.whole p.from p.n)) (view_is c)
+          (keeps-draw v c.self.invariant gs p refl fits sender c.in_ok-joined.joined c.is_whole-whole.result
           c.in_ok-joined.ensures.joined made);
       stray = λ lie. absurd (true≢false lie);
       counted = ap (λ (k : ℕ). set c.self.inside.drawn.items p.from (k + 1))
           (get_or_read c.self.inside.drawn.items p.from c.index_mut.result.now inside c.index_mut.ensures.value 0);
       same = refl;
       bytes = subst (λ (w : ReceivingView). AddsBytes more v w) (view_is c)
-          (bytes-draw v c.self.invariant gs p refl fits sender c.in_ok-joined.joined c.event-event.result
+          (bytes-draw v c.self.invariant gs p refl fits sender c.in_ok-joined.joined c.is_whole-whole.result
           c.in_ok-joined.ensures.joined made);
     })
