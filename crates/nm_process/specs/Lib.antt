@@ -1,3 +1,4 @@
+pub mod Hashes
 pub mod Lines
 pub mod Names
 pub mod Places

@@ -18,8 +18,8 @@ ghost use Rattle.nm_process.specs.Starts.{HasTriedMprobe, HasTriedMrecv, HasTrie
 ghost use Rattle.nm_process.specs.Starts.{HasTriedSend, HasTriedTest, HasTriedWait, IsNull};
 ghost use Rattle.nm_process.specs.Starts.{IsPending, StandsStill, answer_for as answer_for_lem};
 
+use crate::names::Named;
 use crate::{Handle, Process, Step};
-use indexmap::IndexMap;
 use nm_rank::{CancelFault, Cancelled, FinishFault, Rank, Req};
 use nm_types::{Answer, Arrival, Body, Memory, Peer, Seen, TagPick};
 
@@ -46,14 +46,14 @@ fn answer_for(cancelled: Cancelled) -> Answer
 }
 
 /// The request that was last started under this name, if one was. It may have ended.
-pub(crate) fn request_of_name(requests: &IndexMap<u16, Req>, q: u16) -> Option<Req>
+pub(crate) fn request_of_name(requests: &Named<Req>, q: u16) -> Option<Req>
     ensures { result ≡ lookup (nat_eq q) requests.now.entries }
 {
     requests.get(&q).copied()
 }
 
 /// The message of this handle, if it has one.
-fn message_of_handle(handles: &IndexMap<u16, Handle>, m: u16) -> Option<Handle>
+fn message_of_handle(handles: &Named<Handle>, m: u16) -> Option<Handle>
     ensures { result ≡ lookup (nat_eq m) handles.now.entries }
 {
     handles.get(&m).copied()

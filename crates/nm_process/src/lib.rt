@@ -19,6 +19,7 @@
 
 mod commands;
 pub mod laws;
+mod names;
 mod passing;
 mod processes;
 mod steps;

@@ -22,6 +22,7 @@ ghost use Rattle.std.specs.Option.{option_map_or};
 ghost use Rattle.nm_process.specs.Work.{IsAtWork};
 
 use crate::commands::request_of_name;
+use crate::names::{ByName, Named};
 use crate::{Handle, Step};
 use indexmap::IndexMap;
 use nm_history::History;
@@ -35,9 +36,9 @@ pub struct Process {
     pub(crate) me: u8,
     pub(crate) rank: Rank,
     // by name, also of requests that have ended
-    pub(crate) requests: IndexMap<u16, Req>,
+    pub(crate) requests: Named<Req>,
     // by name of a handle
-    pub(crate) handles: IndexMap<u16, Handle>,
+    pub(crate) handles: Named<Handle>,
     // where its commands stand in the script, in order
     own: Vec<u32>,
     // where its next command stands there, past all lines if there is none
@@ -63,8 +64,8 @@ impl Drop for Process {
 /// What a process kept beside its history: nothing that can be used.
 pub struct Leavings {
     rank: nm_rank::Leavings,
-    requests: IndexMap<u16, Req>,
-    handles: IndexMap<u16, Handle>,
+    requests: Named<Req>,
+    handles: Named<Handle>,
     own: Vec<u32>,
 }
 
@@ -171,12 +172,12 @@ impl Process {
         ensures begins { IfOk result (λ p. (p.at ≡ 0) × IsAtWork shape lines.now p) }
     {
         let next = place_at(&own, lines, 0);
-        let requests = IndexMap::with_capacity(alloc, own.len() / 2)?;
+        let requests = IndexMap::with_capacity_and_hasher(alloc, own.len() / 2, ByName)?;
         Ok(Process {
             me,
             rank: Rank::new(alloc, shape, me)?,
             requests,
-            handles: IndexMap::new(alloc),
+            handles: IndexMap::with_hasher(alloc, ByName),
             own,
             next,
             at: 0,
