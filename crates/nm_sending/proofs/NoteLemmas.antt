@@ -1,12 +1,12 @@
 -- The letters that notes stand for.
-use Rattle.std.proofs.Common.{◌≡◌, ℕ, zero, suc, ◌+◌, ◌-◌, ◌<◌, ◌≤◌, ◌==◌, cond, Option, Some, None, List, []}
-use Rattle.std.proofs.Common.{◌∷◌, ◌++◌, length, map, drop, get_or, refl, sym, ◌∙◌, ap, ap₂, subst, arith}
-use Rattle.std.proofs.Common.{append_assoc, append-nil, slice_get}
-use Rattle.std.specs.Prelude.{option_to_list, replicate, MatchOption}
+use Rattle.std.proofs.Common.{◌≡◌, ℕ, zero, suc, ◌+◌, ◌<◌, ◌≤◌, ◌==◌, cond, Option, Some, None, List, []}
+use Rattle.std.proofs.Common.{◌∷◌, ◌++◌, length, map, drop, refl, sym, ◌∙◌, ap, ap₂, subst, arith}
+use Rattle.std.proofs.Common.{append_assoc, append-nil}
+use Rattle.std.specs.Prelude.{option_to_list}
 use Rattle.std.specs.List.{AllByRecursion}
 use Rattle.std.specs.Coded.{le_prop}
 use mathlib.Core.HLevel.{is_prop→PathP}
-use Rattle.std.proofs.lemmas.List.{drop_all, drop_more, length-append}
+use Rattle.std.proofs.lemmas.List.{drop_all, drop_more}
 use Rattle.std.proofs.lemmas.List.FromFn.{length-map-range_with_len}
 use Rattle.std.proofs.lemmas.Option.{get_or_from_slice_get, slice_get_within}
 use Rattle.nm_types.specs.declared.limits.TheConstants.{MAX_PACKETS, MAX_PAYLOAD, MAX_STAMP}
@@ -16,8 +16,7 @@ use Rattle.nm_history.specs.Outgoing.{AreCalled, Called, IsCalled, eager_packets
 use Rattle.nm_history.specs.Sends.{Sent}
 use Rattle.nm_eager.specs.Cutting.{Cutting, IsMessageOf, packet_count}
 use Rattle.nm_eager.proofs.CutLemmas.{packet-at}
-use Rattle.nm_sending.specs.declared.outbox.notes.Matter.{Matter}
-use Rattle.nm_sending.specs.declared.outbox.notes.Matter.TheVariants.{Bare, Cut}
+use Rattle.nm_sending.specs.Notes.{Bare, Cut, Matter, left_of, matter_of, to_of}
 use Rattle.nm_sending.specs.declared.outbox.notes.Note.{Note}
 use Rattle.nm_sending.specs.Letters.{AreNumbered, Fits, HasNext, IsRest, Letter, last_ends, letters_by, letters_in}
 use Rattle.nm_sending.specs.Letters.{letters_of, message_of, next_of, payload_of, what_of}
@@ -152,22 +151,27 @@ rest_none (suc (suc k)) me to seq stamp matter n t some one = absurd (omega (ari
 
 -- the first letter of a note
 abbrev pub first_of : (me : ℕ) (note : Note)
-    → First note.left me note.to note.seq note.stamp note.matter (letters_of me note)
+    → First (left_of note.load) me (to_of note.load) note.seq note.stamp (matter_of note.load) (letters_of me note)
 first_of me note =
-    first_by note.left me note.to note.seq note.stamp note.matter note.numbers_in_range note.stamp_in_range note.some
+    first_by (left_of note.load) me (to_of note.load) note.seq note.stamp (matter_of note.load) note.numbers_in_range
+    note.stamp_in_range note.some
 
 -- the other letters are those of what is left of it
 pub rest_of : (me : ℕ) (note : Note) (rest : Option Note) → IsRest note rest
     → (first_of me note).rest ≡ letters_in me (option_to_list rest)
 rest_of me note None is =
-    rest_none note.left me note.to note.seq note.stamp note.matter note.numbers_in_range note.stamp_in_range
+    rest_none (left_of note.load) me (to_of note.load) note.seq note.stamp (matter_of note.load)
+    note.numbers_in_range note.stamp_in_range
     note.some is
 rest_of me note (Some r) is =
-    let next = range_rest note.seq (note.seq + 1) note.left r.left is.3 refl note.numbers_in_range in
-    rest_by note.left r.left me note.to note.seq note.stamp note.matter note.numbers_in_range note.stamp_in_range
+    let next = range_rest note.seq (note.seq + 1) (left_of note.load) (left_of r.load) is.3 refl
+    note.numbers_in_range in
+    rest_by (left_of note.load) (left_of r.load) me (to_of note.load) note.seq note.stamp (matter_of note.load)
+    note.numbers_in_range note.stamp_in_range
     note.some is.3 next note.stamp_in_range
-    ∙ sym (letters-cong r.left r.left me note.to r.to (note.seq + 1) r.seq note.stamp r.stamp (next_of note.matter)
-    r.matter next note.stamp_in_range refl is.0 is.1 is.2 is.4 r.numbers_in_range r.stamp_in_range)
+    ∙ sym (letters-cong (left_of r.load) (left_of r.load) me (to_of note.load) (to_of r.load) (note.seq + 1) r.seq
+    note.stamp r.stamp (next_of (matter_of note.load))
+    (matter_of r.load) next note.stamp_in_range refl is.0 is.1 is.2 is.4 r.numbers_in_range r.stamp_in_range)
     ∙ sym (append-nil (letters_of me r))
 
 -- notes behind others

@@ -2,24 +2,21 @@
 use Rattle.std.proofs.Common.{◌≡◌, ℕ, ◌+◌, ◌-◌, ◌<◌, ◌≤◌, ◌==◌, Bool, true, false, cond, Bor, Option, Some, None}
 use Rattle.std.proofs.Common.{List, []}
 use Rattle.std.proofs.Common.{◌∷◌, ◌++◌, length, map, drop, get_or, refl, sym, ◌∙◌, ap, ap₂, subst, arith, max}
-use Rattle.std.proofs.Common.{append_assoc, slice_get}
+use Rattle.std.proofs.Common.{slice_get}
 use Rattle.std.specs.Prelude.{option_to_list, IsSome, MatchOption}
 use Rattle.std.specs.List.{AllByRecursion}
 use Rattle.std.specs.Option.{option_map}
 use Rattle.std.proofs.Math.ListN.{set}
-use Rattle.nm_types.specs.declared.limits.TheConstants.{MAX_PACKETS, MAX_STAMP}
 use Rattle.nm_types.specs.declared.packets.Packet.{Packet}
 use Rattle.nm_types.specs.declared.packets.What.{What}
 use Rattle.nm_history.specs.Outgoing.{AreCalled, Called, eager_packets}
 use Rattle.nm_history.specs.Sends.{Sent}
 use Rattle.nm_eager.specs.Cutting.{Cutting, IsMessageOf, packet_count}
-use Rattle.nm_sending.specs.declared.outbox.notes.Matter.{Matter}
-use Rattle.nm_sending.specs.declared.outbox.notes.Matter.TheVariants.{Bare, Cut}
+use Rattle.nm_sending.specs.Notes.{Bare, Cut, Matter, left_of, matter_of, to_of}
 use Rattle.nm_sending.specs.declared.outbox.notes.Note.{Note}
 use Rattle.nm_sending.specs.Letters.{Fits, IsRest, Letter, last_ends, letters_by, letters_in, letters_of}
 use Rattle.nm_sending.specs.Letters.{message_of, packets_for, payload_of, what_of}
 use Rattle.nm_sending.specs.Outboxes.{AreFields, AreNotes, OutboxView, Pops, PutsBare, PutsPackets, put_to}
-use Rattle.nm_sending.specs.Outboxes.{popped_to}
 use Rattle.nm_sending.proofs.LetterLemmas.{fields-more, fields-pop, number_first}
 use Rattle.nm_sending.proofs.NoteLemmas.{First, called_by, ends_by, first_of, fits_rest, letters_append}
 use Rattle.nm_sending.proofs.NoteLemmas.{letters_push, many_by, numbered_by, receiver_by, rest_of, same_packet}
@@ -33,23 +30,26 @@ notes-none me n notes popped put most none fields = rw none (record { fields = f
 
 -- the notes after one more
 pub notes-put : (me : ℕ) (notes : List Note) (popped put : List ℕ) (most : ℕ) (note : Note) (last : ℕ)
-    → AreNotes me notes popped put most → note.to < length popped
-    → note.seq ≡ get_or popped note.to 0 + length (packets_for note.to (letters_in me notes))
-    → Fits note.left note.matter → last ≡ note.seq + note.left
-    → AreNotes me (notes ++ note ∷ []) popped (set put note.to last) (max most last)
+    → AreNotes me notes popped put most → to_of note.load < length popped
+    → note.seq ≡ get_or popped (to_of note.load) 0 + length (packets_for (to_of note.load) (letters_in me notes))
+    → Fits (left_of note.load) (matter_of note.load) → last ≡ note.seq + left_of note.load
+    → AreNotes me (notes ++ note ∷ []) popped (set put (to_of note.load) last) (max most last)
 notes-put me notes popped put most note last are inside next fits is =
-    subst (λ (k : ℕ). AreNotes me (notes ++ note ∷ []) popped (set put note.to k) (max most k)) (sym is) (record {
-      fields = subst (λ (ls : List Letter). AreFields me ls popped (set put note.to (note.seq + note.left))
-          (max most (note.seq + note.left))) (sym (letters_push me notes note))
-          (fields-more me (letters_in me notes) popped put most are.fields (letters_of me note) note.to note.seq
-          note.left inside
-          (receiver_by note.left me note.to note.seq note.stamp note.matter note.numbers_in_range
-          note.stamp_in_range)
-          (numbered_by note.left me note.to note.seq note.stamp note.matter note.numbers_in_range
-          note.stamp_in_range)
-          (many_by note.left me note.to note.seq note.stamp note.matter note.numbers_in_range note.stamp_in_range)
+    subst (λ (k : ℕ). AreNotes me (notes ++ note ∷ []) popped (set put (to_of note.load) k) (max most k)) (sym is)
+    (record {
+      fields = subst (λ (ls : List Letter). AreFields me ls popped
+          (set put (to_of note.load) (note.seq + left_of note.load))
+          (max most (note.seq + left_of note.load))) (sym (letters_push me notes note))
+          (fields-more me (letters_in me notes) popped put most are.fields (letters_of me note) (to_of note.load)
+          note.seq (left_of note.load) inside
+          (receiver_by (left_of note.load) me (to_of note.load) note.seq note.stamp (matter_of note.load)
+          note.numbers_in_range note.stamp_in_range)
+          (numbered_by (left_of note.load) me (to_of note.load) note.seq note.stamp (matter_of note.load)
+          note.numbers_in_range note.stamp_in_range)
+          (many_by (left_of note.load) me (to_of note.load) note.seq note.stamp (matter_of note.load)
+          note.numbers_in_range note.stamp_in_range)
           next);
-      fit = all_push (λ (x : Note). Fits x.left x.matter) notes note are.fit fits;
+      fit = all_push (λ (x : Note). Fits (left_of x.load) (matter_of x.load)) notes note are.fit fits;
     })
 
 -- what is seen of an outbox after one note more
@@ -67,8 +67,8 @@ view-put old me notes notes' popped spare spare' note view items room =
     (ap (λ (ns : List Note). letters_in me ns) items ∙ letters_push me notes note) room)
 
 -- what a packet without bytes puts
-pub bare_put : (to stamp : ℕ) (w : What) (old new : OutboxView) (note : Note) → note.to ≡ to
-    → note.seq ≡ put_to old to → note.stamp ≡ stamp → note.left ≡ 1 → note.matter ≡ Bare w
+pub bare_put : (to stamp : ℕ) (w : What) (old new : OutboxView) (note : Note) → to_of note.load ≡ to
+    → note.seq ≡ put_to old to → note.stamp ≡ stamp → left_of note.load ≡ 1 → matter_of note.load ≡ Bare w
     → new ≡ record old { letters = old.letters ++ letters_of old.me note; spare = old.spare - 1 }
     → PutsBare to stamp w old new
 bare_put to stamp w old new note to_is number stamped one is put =
@@ -78,7 +78,8 @@ bare_put to stamp w old new note to_is number stamped one is put =
     first.is ∙ ap (λ (ls : List Letter). first.letter ∷ ls) rest in
     record {
       letter = first.letter;
-      outbox = put ∙ ap (λ (ls : List Letter). record old { letters = old.letters ++ ls; spare = old.spare - 1 }) whole;
+      outbox = put ∙ ap (λ (ls : List Letter). record old { letters = old.letters ++ ls; spare = old.spare - 1 })
+          whole;
       receiver = first.to_is ∙ to_is;
       carried = λ called before. record {
         sender = first.from;
@@ -88,8 +89,8 @@ bare_put to stamp w old new note to_is number stamped one is put =
         bytes = first.bytes ∙ ap (λ (m : Matter). payload_of m) is;
       };
       stamped = first.stamped ∙ stamped;
-      left = first.ends ∙ ap (λ (m : Matter). cond (note.left == 1) (message_of m) None) is
-          ∙ by_test (note.left == 1);
+      left = first.ends ∙ ap (λ (m : Matter). cond (left_of note.load == 1) (message_of m) None) is
+          ∙ by_test (left_of note.load == 1);
     }
   where
     by_test : (b : Bool) → ◌≡◌ {A = Option ℕ} (cond b None None) None
@@ -97,9 +98,10 @@ bare_put to stamp w old new note to_is number stamped one is put =
     by_test false = refl
 
 -- what an eager message puts
-module _ (cutting : Cutting) (to stamp : ℕ) (old new : OutboxView) (note : Note) (to_is : note.to ≡ to)
+module _ (cutting : Cutting) (to stamp : ℕ) (old new : OutboxView) (note : Note) (to_is : to_of note.load ≡ to)
     (number : note.seq ≡ put_to old to) (stamped : note.stamp ≡ stamp)
-    (all : note.left ≡ packet_count cutting) (is : note.matter ≡ Cut cutting) (none : cutting.given ≡ 0)
+    (all : left_of note.load ≡ packet_count cutting) (is : matter_of note.load ≡ Cut cutting)
+    (none : cutting.given ≡ 0)
     (put : new ≡ record old { letters = old.letters ++ letters_of old.me note; spare = old.spare - 1 }) where
   called : (s : Sent) → IsMessageOf cutting s → s.stamp ≤ stamp
       → AreCalled old.me (put_to old to) (eager_packets s cutting.body)
@@ -109,12 +111,14 @@ module _ (cutting : Cutting) (to stamp : ℕ) (old new : OutboxView) (note : Not
       let whole : drop cutting.given list ≡ list = ap (λ (k : ℕ). drop k list) none in
       subst (λ (k : ℕ). AreCalled old.me k list (map (λ l. l.packet) (letters_of old.me note))) number
       (subst (λ (x : Matter). AreCalled old.me note.seq list (map (λ l. l.packet)
-      (letters_by note.left old.me note.to note.seq note.stamp x note.numbers_in_range note.stamp_in_range)))
+      (letters_by (left_of note.load) old.me (to_of note.load) note.seq note.stamp x note.numbers_in_range
+      note.stamp_in_range)))
       (sym is)
       (subst (λ (cs : List Called). AreCalled old.me note.seq cs (map (λ l. l.packet)
-      (letters_by note.left old.me note.to note.seq note.stamp (Cut cutting) note.numbers_in_range
+      (letters_by (left_of note.load) old.me (to_of note.load) note.seq note.stamp (Cut cutting) note.numbers_in_range
       note.stamp_in_range))) whole
-      (called_by s old.me note.to note.stamp (omega (arith, later, stamped)) note.left note.seq cutting
+      (called_by s old.me (to_of note.load) note.stamp (omega (arith, later, stamped)) (left_of note.load) note.seq
+      cutting
       note.numbers_in_range note.stamp_in_range m (omega (arith, none, all)))))
 
   pub message_put : PutsPackets cutting to stamp old new
@@ -122,17 +126,19 @@ module _ (cutting : Cutting) (to stamp : ℕ) (old new : OutboxView) (note : Not
     added = letters_of old.me note;
     outbox = put;
     receiver = subst (λ (k : ℕ). AllByRecursion (λ l. l.to ≡ k) (letters_of old.me note)) to_is
-        (receiver_by note.left old.me note.to note.seq note.stamp note.matter note.numbers_in_range
-        note.stamp_in_range);
-    many = many_by note.left old.me note.to note.seq note.stamp note.matter note.numbers_in_range
-        note.stamp_in_range ∙ all;
+        (receiver_by (left_of note.load) old.me (to_of note.load) note.seq note.stamp (matter_of note.load)
+        note.numbers_in_range note.stamp_in_range);
+    many = many_by (left_of note.load) old.me (to_of note.load) note.seq note.stamp (matter_of note.load)
+        note.numbers_in_range note.stamp_in_range ∙ all;
     carried = called;
     stamps = subst (λ (k : ℕ). AllByRecursion (λ l. l.packet.stamp ≡ k) (letters_of old.me note)) stamped
-        (stamped_by note.left old.me note.to note.seq note.stamp note.matter note.numbers_in_range
-        note.stamp_in_range);
-    left = subst (λ (x : Matter). map (λ l. l.ends) (letters_by note.left old.me note.to note.seq note.stamp x
-        note.numbers_in_range note.stamp_in_range) ≡ last_ends note.left (Some cutting.n)) (sym is)
-        (ends_by note.left old.me note.to note.seq note.stamp cutting note.numbers_in_range note.stamp_in_range)
+        (stamped_by (left_of note.load) old.me (to_of note.load) note.seq note.stamp (matter_of note.load)
+        note.numbers_in_range note.stamp_in_range);
+    left = subst (λ (x : Matter). map (λ l. l.ends) (letters_by (left_of note.load) old.me (to_of note.load) note.seq
+        note.stamp x note.numbers_in_range note.stamp_in_range) ≡ last_ends (left_of note.load) (Some cutting.n))
+        (sym is)
+        (ends_by (left_of note.load) old.me (to_of note.load) note.seq note.stamp cutting note.numbers_in_range
+        note.stamp_in_range)
         ∙ ap (λ (k : ℕ). last_ends k (Some cutting.n)) all;
   }
 
@@ -151,10 +157,12 @@ first_note (note ∷ notes) o x is some read = (notes, ap (λ (y : Note). y ∷ 
 -- the first note pops its first letter
 module _ (me : ℕ) (notes : List Note) (note : Note) (tail : List Note) (rest : Option Note)
     (popped put : List ℕ) (most : ℕ) (are : AreNotes me notes popped put most) (split : notes ≡ note ∷ tail) where
-  pub first_fits : Fits note.left note.matter
-  first_fits = (subst (λ (ns : List Note). AllByRecursion (λ (x : Note). Fits x.left x.matter) ns) split are.fit).0
+  pub first_fits : Fits (left_of note.load) (matter_of note.load)
+  first_fits = (subst (λ (ns : List Note). AllByRecursion (λ (x : Note). Fits (left_of x.load) (matter_of x.load))
+      ns) split are.fit).0
 
-  abbrev pub first : First note.left me note.to note.seq note.stamp note.matter (letters_of me note)
+  abbrev pub first : First (left_of note.load) me (to_of note.load) note.seq note.stamp (matter_of note.load)
+      (letters_of me note)
   first = first_of me note
 
   -- the letters, the first one and the others
@@ -166,10 +174,10 @@ module _ (me : ℕ) (notes : List Note) (note : Note) (tail : List Note) (rest :
   fields : AreFields me (first.letter ∷ (first.rest ++ letters_in me tail)) popped put most
   fields = subst (λ (ls : List Letter). AreFields me ls popped put most) letters_split are.fields
 
-  pub first_inside : note.to < length popped
+  pub first_inside : to_of note.load < length popped
   first_inside = subst (λ (k : ℕ). k < length popped) first.to_is fields.lawful.in_range.0
 
-  pub first_number : note.seq ≡ get_or popped note.to 0
+  pub first_number : note.seq ≡ get_or popped (to_of note.load) 0
   first_number =
       sym first.number ∙ number_first me first.letter (first.rest ++ letters_in me tail) popped put most fields
       ∙ ap (λ (k : ℕ). get_or popped k 0) first.to_is
@@ -180,22 +188,25 @@ module _ (me : ℕ) (notes : List Note) (note : Note) (tail : List Note) (rest :
         ap (λ (ls : List Letter). ls ++ letters_in me tail) (rest_of me note rest is)
         ∙ sym (letters_append me (option_to_list rest) tail)
 
-    fit : AllByRecursion (λ (x : Note). Fits x.left x.matter) (option_to_list rest ++ tail)
+    fit : AllByRecursion (λ (x : Note). Fits (left_of x.load) (matter_of x.load)) (option_to_list rest ++ tail)
     fit = fit_by rest is
-        (subst (λ (ns : List Note). AllByRecursion (λ (x : Note). Fits x.left x.matter) ns) split are.fit).1
+        (subst (λ (ns : List Note). AllByRecursion (λ (x : Note). Fits (left_of x.load) (matter_of x.load)) ns) split
+        are.fit).1
       where
-        fit_by : (o : Option Note) → IsRest note o → AllByRecursion (λ (x : Note). Fits x.left x.matter) tail
-            → AllByRecursion (λ (x : Note). Fits x.left x.matter) (option_to_list o ++ tail)
+        fit_by : (o : Option Note) → IsRest note o
+            → AllByRecursion (λ (x : Note). Fits (left_of x.load) (matter_of x.load)) tail
+            → AllByRecursion (λ (x : Note). Fits (left_of x.load) (matter_of x.load)) (option_to_list o ++ tail)
         fit_by None one each = each
         fit_by (Some r) i each = (
-          subst (λ (m : Matter). Fits r.left m) (sym i.4)
-              (fits_rest note.left r.left note.matter first_fits i.3 r.some),
+          subst (λ (m : Matter). Fits (left_of r.load) m) (sym i.4)
+              (fits_rest (left_of note.load) (left_of r.load) (matter_of note.load) first_fits i.3 r.some),
           each,
         )
 
-    pub notes-pop : AreNotes me (option_to_list rest ++ tail) (set popped note.to (note.seq + 1)) put most
+    pub notes-pop : AreNotes me (option_to_list rest ++ tail) (set popped (to_of note.load) (note.seq + 1)) put most
     notes-pop = record {
-      fields = subst (λ (ls : List Letter). AreFields me ls (set popped note.to (note.seq + 1)) put most) others
+      fields = subst (λ (ls : List Letter). AreFields me ls (set popped (to_of note.load) (note.seq + 1)) put most)
+          others
           (subst (λ (k : ℕ). AreFields me (first.rest ++ letters_in me tail) (set popped k (note.seq + 1)) put most)
           first.to_is
           (subst (λ (k : ℕ). AreFields me (first.rest ++ letters_in me tail)
@@ -207,12 +218,13 @@ module _ (me : ℕ) (notes : List Note) (note : Note) (tail : List Note) (rest :
 
     pub pops_first : (spare spare' : ℕ) (notes' : List Note) (ended : Option (ℕ × ℕ))
         → notes' ≡ option_to_list rest ++ tail → spare ≤ spare'
-        → ended ≡ cond (note.left == 1) (option_map (λ n. (note.to, n)) (message_of note.matter)) None
+        → ended ≡ cond (left_of note.load == 1)
+        (option_map (λ n. (to_of note.load, n)) (message_of (matter_of note.load))) None
         → Pops ended (record { me = me; letters = letters_in me notes; popped = popped; spare = spare })
         (record {
           me = me;
           letters = letters_in me notes';
-          popped = set popped note.to (note.seq + 1);
+          popped = set popped (to_of note.load) (note.seq + 1);
           spare = spare';
         })
     pops_first spare spare' notes' ended now room is_ended = record {
@@ -224,7 +236,7 @@ module _ (me : ℕ) (notes : List Note) (note : Note) (tail : List Note) (rest :
           (ap₂ (λ (a b : ℕ). set popped a (b + 1)) (sym first.to_is)
           (first_number ∙ ap (λ (k : ℕ). get_or popped k 0) (sym first.to_is)));
       room = room;
-      left = is_ended ∙ by_map (note.left == 1) note.to (message_of note.matter)
+      left = is_ended ∙ by_map (left_of note.load == 1) (to_of note.load) (message_of (matter_of note.load))
           ∙ ap₂ (λ (k : ℕ) (o : Option ℕ). option_map {U = ℕ × ℕ} (λ n. (k, n)) o) (sym first.to_is) (sym first.ends);
     } where
       by_map : (b : Bool) (to : ℕ) (m : Option ℕ)
@@ -234,19 +246,21 @@ module _ (me : ℕ) (notes : List Note) (note : Note) (tail : List Note) (rest :
 
   -- a packet that is made of the first note is the first letter's
   pub front_first : (N : Type 0) (p : Packet) → p.from ≡ me → p.seq ≡ note.seq → p.stamp ≡ note.stamp
-      → p.what ≡ what_of note.matter → p.payload ≡ payload_of note.matter
-      → MatchOption (slice_get (letters_in me notes) 0) N (λ letter. (note.to ≡ letter.to) × (p ≡ letter.packet))
+      → p.what ≡ what_of (matter_of note.load) → p.payload ≡ payload_of (matter_of note.load)
+      → MatchOption (slice_get (letters_in me notes) 0) N
+      (λ letter. (to_of note.load ≡ letter.to) × (p ≡ letter.packet))
   front_first N p from number stamped is bytes =
-      subst (λ (ls : List Letter). MatchOption (slice_get ls 0) N (λ letter. (note.to ≡ letter.to)
+      subst (λ (ls : List Letter). MatchOption (slice_get ls 0) N (λ letter. (to_of note.load ≡ letter.to)
       × (p ≡ letter.packet))) (sym letters_split) (
         sym first.to_is,
         same_packet p first.letter.packet (from ∙ sym first.from) (number ∙ sym first.number)
             (stamped ∙ sym first.stamped) (is ∙ sym first.same) (bytes ∙ sym first.bytes),
       )
 
-  pub front_goes : (N : Type 0) → MatchOption (slice_get (letters_in me notes) 0) N (λ letter. note.to ≡ letter.to)
+  pub front_goes : (N : Type 0) → MatchOption (slice_get (letters_in me notes) 0) N
+      (λ letter. to_of note.load ≡ letter.to)
   front_goes N =
-      subst (λ (ls : List Letter). MatchOption (slice_get ls 0) N (λ letter. note.to ≡ letter.to))
+      subst (λ (ls : List Letter). MatchOption (slice_get ls 0) N (λ letter. to_of note.load ≡ letter.to))
       (sym letters_split) (sym first.to_is)
 
 -- where there is no note there is no letter

@@ -8,8 +8,7 @@ use Rattle.nm_types.specs.declared.packets.What.{What}
 use Rattle.nm_history.specs.Outgoing.{part_at}
 use Rattle.nm_eager.specs.Cutting.{next_what, packet_count}
 use Rattle.nm_sending.specs.Numbers.{AreInRange}
-use Rattle.nm_sending.specs.declared.outbox.notes.Matter.{Matter}
-use Rattle.nm_sending.specs.declared.outbox.notes.Matter.TheVariants.{Bare, Cut}
+use Rattle.nm_sending.specs.Notes.{Bare, Cut, Matter, left_of, matter_of, to_of}
 use Rattle.nm_sending.specs.declared.outbox.notes.Note.{Note}
 
 -- a packet with the rank that it goes to, and the number of the eager message whose last packet it is, if
@@ -90,7 +89,7 @@ letters_by (suc more) me to seq stamp matter numbers in_time =
 -- the letters that a note of a rank stands for
 abbrev pub letters_of : ℕ → Note → List Letter
 letters_of me note =
-    letters_by note.left me note.to note.seq note.stamp note.matter note.numbers_in_range
+    letters_by (left_of note.load) me (to_of note.load) note.seq note.stamp (matter_of note.load) note.numbers_in_range
     note.stamp_in_range
 
 -- the letters that notes of a rank stand for, in order
@@ -101,8 +100,9 @@ letters_in me (note ∷ notes) = letters_of me note ++ letters_in me notes
 -- this is what is left of a note after its first packet, if there are more
 abbrev pub IsRest : Note → Option Note → Type 0
 IsRest note rest =
-    MatchOption rest (note.left ≡ 1) (λ r. (r.to ≡ note.to) × (r.seq ≡ note.seq + 1)
-    × (r.stamp ≡ note.stamp) × (r.left + 1 ≡ note.left) × (r.matter ≡ next_of note.matter))
+    MatchOption rest (left_of note.load ≡ 1) (λ r. (to_of r.load ≡ to_of note.load) × (r.seq ≡ note.seq + 1)
+    × (r.stamp ≡ note.stamp) × (left_of r.load + 1 ≡ left_of note.load)
+    × (matter_of r.load ≡ next_of (matter_of note.load)))
 
 -- the messages that leave with so many letters: this one, if there is one, with the last, and none with
 -- those before it

@@ -8,6 +8,7 @@ use Rattle.nm_history.specs.Outgoing.{AreCalled, IsCalled, bare, eager_packets}
 use Rattle.nm_history.specs.Sends.{Sent}
 use Rattle.nm_eager.specs.Cutting.{Cutting, IsMessageOf, packet_count}
 use Rattle.nm_sending.specs.Letters.{AreLetters, Fits, Letter, last_ends, letters_in, packets_for}
+use Rattle.nm_sending.specs.Notes.{left_of, matter_of}
 use Rattle.nm_sending.specs.declared.outbox.notes.Note.{Note}
 
 -- the rank, its letters in the order in which they were put, by rank how many packets were popped, and
@@ -38,7 +39,7 @@ pub record AreFields (me : ℕ) (letters : List Letter) (popped put : List ℕ) 
 -- the letters of these notes are an outbox's, and each note stands for as many as are left of it
 pub record AreNotes (me : ℕ) (notes : List Note) (popped put : List ℕ) (most : ℕ) : Type 0 where
   pub fields : AreFields me (letters_in me notes) popped put most
-  pub fit : AllByRecursion (λ note. Fits note.left note.matter) notes
+  pub fit : AllByRecursion (λ note. Fits (left_of note.load) (matter_of note.load)) notes
 
 -- One packet without bytes was put for a rank, with its next number and this stamp. No message leaves
 -- with it.

@@ -9,9 +9,10 @@ ghost use Rattle.std.specs.VecDeque.{deque_capacity, deque_len};
 ghost use Rattle.nm_types.specs.declared.limits.TheConstants.{MAX_PACKETS, MAX_STAMP};
 ghost use Rattle.nm_eager.specs.Cutting.{packet_count};
 ghost use Rattle.nm_sending.specs.Letters.{AreLetters, Fits, letters_of, packets_for};
+ghost use Rattle.nm_sending.specs.Notes.{left_of, matter_of, to_of};
 ghost use Rattle.nm_sending.specs.Outboxes.{Pops, PutsBare, PutsPackets, popped_to, put_to};
 
-use crate::outbox::notes::{Matter, Note};
+use crate::outbox::notes::Note;
 use nm_eager::Cutter;
 use nm_types::{Memory, Packet, What};
 use std::alloc::Global;
@@ -136,10 +137,10 @@ impl Outbox {
     /// Puts a note behind the others. Its first number is the rank's next one to that rank, and there is
     /// room for it.
     fn put(&mut self, note: Note)
-        requires to { note.to < length self.old.popped }
-        requires number { note.seq ≡ put_to self.old note.to }
-        requires few { note.seq + note.left ≤ MAX_PACKETS }
-        requires fits { Fits note.left note.matter }
+        requires to { to_of note.load < length self.old.popped }
+        requires number { note.seq ≡ put_to self.old (to_of note.load) }
+        requires few { note.seq + left_of note.load ≤ MAX_PACKETS }
+        requires fits { Fits (left_of note.load) (matter_of note.load) }
         requires room { 0 < self.old.spare }
         ensures { self.new
             ≡ record self.old {
@@ -147,8 +148,8 @@ impl Outbox {
               spare = self.old.spare - 1;
             } }
     {
-        let to = note.to as usize;
-        let put = note.seq + u64::from(note.left);
+        let to = note.to() as usize;
+        let put = note.seq + u64::from(note.left());
         self.put[to] = put;
         self.most = self.most.max(put);
         self.notes.push_back_reserved(note);
@@ -163,7 +164,7 @@ impl Outbox {
         ensures { PutsBare to stamp what self.old self.new }
     {
         let number = self.next_number(to);
-        let note = Note::new(to, number, stamp, 1, Matter::Bare(what));
+        let note = Note::bare(to, number, stamp, what);
         self.put(note);
     }
 
@@ -179,7 +180,7 @@ impl Outbox {
     {
         let number = self.next_number(to);
         let count = cutter.count();
-        let note = Note::new(to, number, stamp, count, Matter::Cut(cutter));
+        let note = Note::cut(to, number, stamp, count, cutter);
         self.put(note);
     }
 
@@ -190,7 +191,7 @@ impl Outbox {
         ensures to { IfSome result (λ to. to < length self.now.popped) }
     {
         let note = self.notes.front()?;
-        Some(note.to)
+        Some(note.to())
     }
 
     /// Makes it the first packet, if there is one, and answers the rank that this goes to.
@@ -205,7 +206,7 @@ impl Outbox {
     {
         let note = self.notes.front()?;
         note.fill(self.me, into);
-        Some(note.to)
+        Some(note.to())
     }
 
     /// Takes the first packet away, and answers the eager message that leaves with it, if one does: its
@@ -216,7 +217,7 @@ impl Outbox {
     {
         let note = self.notes.pop_front().unwrap();
         let last = note.ended();
-        self.popped[note.to as usize] = note.seq + 1;
+        self.popped[note.to() as usize] = note.seq + 1;
         put_back(&mut self.notes, note.rest());
         last
     }

@@ -1,5 +1,7 @@
-use Rattle.std.specs.Prelude.{IfSome}
-use Rattle.std.proofs.Common.{◌≡◌, ◌<◌, ◌∙◌, Bor, Option, None, get_or, length, is_some, subst, arith, sym, ap, true≢false}
+use Rattle.std.specs.Prelude.{IfSome, MatchOption}
+use Rattle.std.proofs.Common.{◌≡◌, ℕ, ◌<◌, ◌∙◌, Bor, Option, Some, None, get_or, length, is_some, slice_get, subst}
+use Rattle.std.proofs.Common.{arith, sym, ap, true≢false}
+use Rattle.nm_sending.specs.Letters.{letters_in}
 use Rattle.nm_sending.specs.declared.outbox.notes.Note.{Note}
 use Rattle.nm_sending.proofs.OutboxLemmas.{first_fits, first_inside, first_note, first_number, front_first, no_notes}
 use Rattle.nm_sending.proofs.outbox.outboxes.Outbox.fill_front.Goals as goal
@@ -31,9 +33,11 @@ returns-clause-first c =
     (subst (λ (r : Option (Bor Note)). IfSome r (λ x. x.now ≡ get_or o.notes.items 0 x.now)) c.in_ok-note.was
     c.front.ensures.lookup) in
     rw (← c.self.view_is)
+    (subst (λ (to : ℕ). MatchOption (slice_get (letters_in o.me o.notes.items) 0) (◌≡◌ {A = Option ℕ} (Some to) None)
+    (λ letter. (to ≡ letter.to) × (c.fill.new.into ≡ letter.packet))) (sym c.to.ensures)
     (front_first o.me o.notes.items c.in_ok-note.note.now f.0 None o.popped.items o.put.items o.most
     c.self.invariant f.1 _ c.fill.new.into c.fill.ensures.from c.fill.ensures.number c.fill.ensures.stamp
-    c.fill.ensures.what c.fill.ensures.bytes)
+    c.fill.ensures.what c.fill.ensures.bytes))
 
 pub returns-clause-to : goal.returns-clause-to
 returns-clause-to c =
@@ -43,8 +47,9 @@ returns-clause-to c =
     (subst (λ (r : Option (Bor Note)). IfSome r (λ x. x.now ≡ get_or o.notes.items 0 x.now)) c.in_ok-note.was
     c.front.ensures.lookup) in
     rw (← c.self.view_is)
+    (subst (λ (to : ℕ). to < length o.popped.items) (sym c.to.ensures)
     (first_inside o.me o.notes.items c.in_ok-note.note.now f.0 None o.popped.items o.put.items o.most
-    c.self.invariant f.1)
+    c.self.invariant f.1))
 
 pub returns-clause-number : goal.returns-clause-number
 returns-clause-number c =
@@ -55,7 +60,7 @@ returns-clause-number c =
     c.front.ensures.lookup) in
     rw (← c.self.view_is)
     (c.fill.ensures.number ∙ first_number o.me o.notes.items c.in_ok-note.note.now f.0 None o.popped.items
-    o.put.items o.most c.self.invariant f.1)
+    o.put.items o.most c.self.invariant f.1 ∙ ap (λ (to : ℕ). get_or o.popped.items to 0) (sym c.to.ensures))
 
 pub returns-clause-from : goal.returns-clause-from
 returns-clause-from c = rw (← c.self.view_is) c.fill.ensures.from

@@ -2,6 +2,7 @@ use Rattle.std.specs.Prelude.{option_to_list}
 use Rattle.std.specs.VecDeque.{deque_len}
 use Rattle.std.proofs.Common.{◌≡◌, ◌+◌, ◌++◌, Option, None, List, length, subst, arith}
 use Rattle.nm_sending.specs.declared.outbox.notes.Note.{Note}
+use Rattle.nm_sending.specs.Notes.{left_of}
 use Rattle.nm_sending.proofs.NoteLemmas.{range_first}
 use Rattle.nm_sending.proofs.OutboxLemmas.{at_most_one, first_fits, first_inside, notes-pop, pops_first, some_note}
 use Rattle.nm_sending.proofs.outbox.outboxes.Outbox.pop_front.Goals as goal
@@ -15,7 +16,7 @@ unwrap-note-requires c =
 pub overflow_add-note : goal.overflow_add-note
 overflow_add-note c =
     let note = c.unwrap-note.result in
-    let low = range_first note.seq note.left note.some note.numbers_in_range in
+    let low = range_first note.seq (left_of note.load) note.some note.numbers_in_range in
     omega (arith, low)
 
 pub index_mut-requires : goal.index_mut-requires
@@ -51,7 +52,7 @@ invariant_of-self c =
     let tail : List Note = c.pop_front.new.self.items in
     let split = subst (λ (first : Option Note). o.notes.items ≡ option_to_list first ++ tail)
     c.unwrap-note.ensures c.pop_front.ensures.items in
-    rw c.put_back.ensures.items
+    rw (c.put_back.ensures.items, c.to.ensures)
     (notes-pop o.me o.notes.items c.unwrap-note.result tail c.rest.result o.popped.items o.put.items o.most
     c.self.invariant split c.rest.ensures)
 
@@ -64,7 +65,7 @@ returns c =
     let one : deque_len c.pop_front.new.self + 1 ≡ deque_len o.notes =
     subst (λ (first : Option Note). deque_len c.pop_front.new.self + length (option_to_list first)
     ≡ deque_len o.notes) c.unwrap-note.ensures c.pop_front.ensures.len in
-    rw (← c.self.view_is)
+    rw (← c.self.view_is, c.to.ensures)
     (pops_first o.me o.notes.items c.unwrap-note.result tail c.rest.result o.popped.items o.put.items o.most
     c.self.invariant split c.rest.ensures _ _ c.put_back.new.notes.items c.ended-last.result
     c.put_back.ensures.items

@@ -1,14 +1,14 @@
-use Rattle.std.proofs.Common.{◌+◌, ap, arith}
+use Rattle.std.proofs.Common.{◌+◌, ◌∙◌, ap, arith}
 use Rattle.nm_sending.proofs.OutboxLemmas.{notes-put, view-put}
 use Rattle.nm_sending.proofs.outbox.outboxes.Outbox.put.Goals as goal
 
 pub invariant_of-self : goal.invariant_of-self
 invariant_of-self c =
     let o = c.self.inside in
-    rw (c.push_back_reserved.ensures.items, c.max-self-inside.ensures)
+    rw (c.push_back_reserved.ensures.items, c.max-self-inside.ensures, c.to-to.ensures)
     (notes-put o.me o.notes.items o.popped.items o.put.items o.most c.args.note _ c.self.invariant
     (rw (← c.self.view_is) at c.requires.to) (rw (← c.self.view_is) at c.requires.number) c.requires.fits
-    (ap (λ n. c.args.note.seq + n) c.from.ensures))
+    (ap (λ n. c.args.note.seq + n) (c.from.ensures ∙ c.left.ensures)))
 
 pub returns : goal.returns
 returns c =
