@@ -3,6 +3,7 @@
 ghost use Rattle.std.specs.Prelude.{length, map};
 ghost use Rattle.nm_cells.specs.PathLists.{seen_in, Tallied};
 
+use crate::remains::Remains;
 use crate::tallies::Tally;
 use atomic_table::Badge;
 use nm_chain::seats::View;
@@ -10,13 +11,14 @@ use nm_chain::table::{Entry, Item};
 use nm_types::Account;
 
 /// A fabric that is closed. It keeps what its ports knew, of which no value is made, and what they
-/// counted.
+/// counted. It keeps its table's memory, too, and lets it go where it is dropped.
 #[derive(Drop)]
 pub struct Closed<I> {
     pub(crate) badge: Badge<View<Entry<I>>>,
     pub(crate) cells: Account,
     /// What each port counted of each rank, in rank order.
     pub(crate) counted: Vec<Vec<Tally>>,
+    pub(crate) remains: Remains<I>,
     pub ghost tallied: { Tallied (seen_in badge.views) (map (λ v. v.items) counted.items)
         (length (seen_in badge.views)) },
 }

@@ -60,6 +60,7 @@ mod counts;
 mod loose;
 mod port;
 mod produce;
+mod remains;
 mod slots;
 mod tallies;
 

@@ -22,8 +22,8 @@ split_seat-requires g c = let f = c.args.self in let z = f.sizes.0 in let some =
       sealed_off f.board.shared.key seat.result.0.id seat.result.0.me.0,
     )
 
-pub settle-cells-requires-clause-all : goal.settle-cells-requires-clause-all
-settle-cells-requires-clause-all g c = let items = c.args.ports.items in
+pub settle-remains-requires-clause-all : goal.settle-remains-requires-clause-all
+settle-remains-requires-clause-all g c = let items = c.args.ports.items in
     let whole : c.split_seat.new.seat.me.0 ≡ view (map knows items) =
     ap (λ m. m.0) c.split_seat.ensures.2 ∙ ap (λ m. m.0) c.gather-seat.ensures.all in
     let is : c.split_seat.new.seat.me.0.entries ≡ map knows items = ap (λ v. v.entries) whole in (
@@ -48,8 +48,8 @@ returns-clause-settled g c = let items = c.args.ports.items in
     let listed : seen_in c.into_badge-badge.result.views ≡ map knows items =
     ap seen_in c.into_badge-badge.ensures.2 ∙ ap (λ m. m.0.seen) c.split_seat.ensures.4
     ∙ ap (λ m. m.0.entries) c.gather-seat.ensures.all in
-    subst (λ es. Settled g.I.Item.boxable c.args.self.board.shared.key es c.settle-cells.result.home)
-    (is ∙ sym listed) c.settle-cells.ensures.settled
+    subst (λ es. Settled g.I.Item.boxable c.args.self.board.shared.key es c.settle-remains.result.0.home)
+    (is ∙ sym listed) c.settle-remains.ensures.settled
 
 pub returns-clause-paths : goal.returns-clause-paths
 returns-clause-paths g c = let items = c.args.ports.items in
@@ -59,7 +59,7 @@ returns-clause-paths g c = let items = c.args.ports.items in
     let listed : seen_in c.into_badge-badge.result.views ≡ map knows items =
     ap seen_in c.into_badge-badge.ensures.2 ∙ ap (λ m. m.0.seen) c.split_seat.ensures.4
     ∙ ap (λ m. m.0.entries) c.gather-seat.ensures.all in
-    subst (λ es. Prefixed c.args.self.ranks es) (is ∙ sym listed) c.settle-cells.ensures.paths
+    subst (λ es. Prefixed c.args.self.ranks es) (is ∙ sym listed) c.settle-remains.ensures.paths
 
 pub returns-clause-home : goal.returns-clause-home
 returns-clause-home g c all = let items = c.args.ports.items in
@@ -69,7 +69,7 @@ returns-clause-home g c all = let items = c.args.ports.items in
     let listed : seen_in c.into_badge-badge.result.views ≡ map knows items =
     ap seen_in c.into_badge-badge.ensures.2 ∙ ap (λ m. m.0.seen) c.split_seat.ensures.4
     ∙ ap (λ m. m.0.entries) c.gather-seat.ensures.all in
-    c.settle-cells.ensures.home (subst (λ es. AllCame c.args.self.ranks es) (listed ∙ sym is) all)
+    c.settle-remains.ensures.home (subst (λ es. AllCame c.args.self.ranks es) (listed ∙ sym is) all)
 
 pub invariant_of-result : goal.invariant_of-result
 invariant_of-result g c = let f = c.args.self in let items = c.args.ports.items in
@@ -82,9 +82,9 @@ invariant_of-result g c = let f = c.args.self in let items = c.args.ports.items 
     ap seen_in c.into_badge-badge.ensures.2 ∙ ap (λ m. m.0.seen) c.split_seat.ensures.4
     ∙ ap (λ m. m.0.entries) c.gather-seat.ensures.all in
     let counted : ps ≡ counts_of items = ap (map (λ v. v.items)) c.gather-seat.ensures.counted in
-    let home = c.settle-cells.result.home in
+    let home = c.settle-remains.result.0.home in
     let settled = subst (λ l. Settled g.I.Item.boxable f.board.shared.key l home)
-    (is ∙ sym listed) c.settle-cells.ensures.settled in
+    (is ∙ sym listed) c.settle-remains.ensures.settled in
     record {
       tallied = tallied f items c.requires.count c.requires.ports es ps home listed counted
           settled;
@@ -101,9 +101,9 @@ returns-clause-counts g c = let f = c.args.self in let items = c.args.ports.item
     ap seen_in c.into_badge-badge.ensures.2 ∙ ap (λ m. m.0.seen) c.split_seat.ensures.4
     ∙ ap (λ m. m.0.entries) c.gather-seat.ensures.all in
     let counted : ps ≡ counts_of items = ap (map (λ v. v.items)) c.gather-seat.ensures.counted in
-    let home = c.settle-cells.result.home in
+    let home = c.settle-remains.result.0.home in
     let settled = subst (λ l. Settled g.I.Item.boxable f.board.shared.key l home)
-    (is ∙ sym listed) c.settle-cells.ensures.settled in
+    (is ∙ sym listed) c.settle-remains.ensures.settled in
     counts f items c.requires.count c.requires.ports es ps home listed counted settled
 
 pub returns-clause-prefix : goal.returns-clause-prefix
@@ -117,9 +117,9 @@ returns-clause-prefix g c = let f = c.args.self in let items = c.args.ports.item
     ap seen_in c.into_badge-badge.ensures.2 ∙ ap (λ m. m.0.seen) c.split_seat.ensures.4
     ∙ ap (λ m. m.0.entries) c.gather-seat.ensures.all in
     let counted : ps ≡ counts_of items = ap (map (λ v. v.items)) c.gather-seat.ensures.counted in
-    let home = c.settle-cells.result.home in
+    let home = c.settle-remains.result.0.home in
     let settled = subst (λ l. Settled g.I.Item.boxable f.board.shared.key l home)
-    (is ∙ sym listed) c.settle-cells.ensures.settled in
+    (is ∙ sym listed) c.settle-remains.ensures.settled in
     prefix f items c.requires.count c.requires.ports es ps home listed counted settled
 
 pub returns-clause-all_taken : goal.returns-clause-all_taken
@@ -133,8 +133,8 @@ returns-clause-all_taken g c even = let f = c.args.self in let items = c.args.po
     ap seen_in c.into_badge-badge.ensures.2 ∙ ap (λ m. m.0.seen) c.split_seat.ensures.4
     ∙ ap (λ m. m.0.entries) c.gather-seat.ensures.all in
     let counted : ps ≡ counts_of items = ap (map (λ v. v.items)) c.gather-seat.ensures.counted in
-    let home = c.settle-cells.result.home in
+    let home = c.settle-remains.result.0.home in
     let settled = subst (λ l. Settled g.I.Item.boxable f.board.shared.key l home)
-    (is ∙ sym listed) c.settle-cells.ensures.settled in
-    c.settle-cells.ensures.home (subst (AllCame f.ranks) (listed ∙ sym is)
+    (is ∙ sym listed) c.settle-remains.ensures.settled in
+    c.settle-remains.ensures.home (subst (AllCame f.ranks) (listed ∙ sym is)
     (all_came f items c.requires.count c.requires.ports es ps home listed counted settled even))
