@@ -43,6 +43,7 @@ mod closing;
 mod counts;
 mod pieces;
 mod port;
+mod remains;
 mod slots;
 mod steps;
 mod table;
