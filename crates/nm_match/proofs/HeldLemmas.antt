@@ -20,8 +20,8 @@ use Rattle.nm_match.proofs.ListLemmas.{none_passes}
 use Rattle.nm_match.proofs.TurnLemmas.{others_message, others_number}
 use Rattle.nm_types.proofs.TruthLemmas.{and_left, and_right}
 
--- where the bucket of a key and the others are the same, all are
-pub all_same : {X : Type 0} (m m' : Picks → List (ℕ × X)) (k : Picks) →
+-- where what is under a key and under the others is the same, all is
+pub all_same : {X : Type 0} (m m' : Picks → X) (k : Picks) →
     m' k ≡ m k →
     ((l : Picks) → same_picks k l ≡ false → m' l ≡ m l) → (l : Picks) →
     m' l ≡ m l

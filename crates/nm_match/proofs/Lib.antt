@@ -14,6 +14,9 @@ pub mod StandsLemmas
 mod StepLemmas
 pub mod TurnLemmas
 mod EventLemmas
+mod PostedLemmas
+mod RingLemmas
+mod RingQueueLemmas
 mod RowLemmas
 mod SearchLemmas
 mod SeenLemmas

@@ -1,6 +1,6 @@
 -- A queue in buckets, whose names are known: what waits at a place, and what is left after each change.
 pub use Rattle.nm_match.specs.SameKeys.{same_message-true}
-use Rattle.std.proofs.Common.{◌≡◌, ℕ, ◌+◌, ◌<◌, ◌≤◌, ◌==◌, Bool, true, false, cond, Option, Some, None}
+use Rattle.std.proofs.Common.{◌≡◌, ℕ, ◌+◌, ◌<◌, ◌==◌, Bool, true, false, cond, Option, Some, None}
 use Rattle.std.proofs.Common.{List, [], ◌∷◌, ◌++◌, refl, sym, ◌∙◌, ap, subst, arith, not, ◌&&◌, ◌||◌, is_some}
 use Rattle.std.specs.BTreeMap.{is_at}
 use Rattle.std.specs.List.{All, filter, find, list_any}
@@ -113,17 +113,6 @@ module _ {X K : Type 0} {known : X → K → Bool} {key : X → Picks} {items : 
   waits_not_aside name (Waits k order) says some = refl
   waits_not_aside name Aside says some = absurd (false≢true (sym (ap is_some (no_place name (says
       ∙ sym (ap (λ (o : Option Standing). option_map (λ s. Aside) o) says)))) ∙ some))
-
-  -- the same buckets after more deeds
-  pub named_aged : (later : ℕ) → next ≤ later → IsNamedQueue known key items aside later m stands_at
-  named_aged later after = record {
-    is = record {
-      queue = is.is.queue;
-      are = kept is.is.are m later after (λ k. refl);
-      same = is.is.same;
-    };
-    stands = is.stands;
-  }
 
   -- where no bucket and no standing changed
   pub named_kept : (m' : Picks → List (ℕ × X)) (stands_at' : K → Option Standing) → ((k : Picks) → m' k ≡ m k) →

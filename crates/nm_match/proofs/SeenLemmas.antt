@@ -6,7 +6,8 @@ use Rattle.std.specs.List.{All, AllByRecursion, IsDistinct, cons_option, list_an
 use Rattle.std.proofs.Math.Bool.{or-false}
 use Rattle.std.proofs.lemmas.Bool.{eqb-true, false≢true, false_from_ne_true, or_cases}
 use Rattle.std.proofs.lemmas.List.{length-append, length-map}
-use Rattle.std.proofs.lemmas.List.Elements.{All-append, All-cons, All-head, All-nil, All-tail}
+use Rattle.std.proofs.lemmas.List.Elements.{All-append, All-cons, All-head, All-nil, All-tail, All-weaker}
+use Rattle.std.proofs.lemmas.List.Kept.{AllPairs-cons}
 use Rattle.std.proofs.lemmas.List.Folds.{list_any-append}
 use Rattle.std.proofs.lemmas.Map.Steps.{length-le_from_distinct_below}
 use Rattle.nm_types.specs.declared.messages.Arrival.{Arrival}
@@ -18,11 +19,13 @@ use Rattle.nm_match.specs.declared.deeds.Deed.TheVariants as deed
 use Rattle.nm_match.specs.declared.names.Message.{Message}
 use Rattle.nm_match.specs.declared.seen.Seen.{Seen}
 use Rattle.nm_match.specs.Deeds.{event_of, happened_by, history_of, is_deed_of_message, is_deed_of_receive}
+use Rattle.nm_match.specs.Deeds.{is_known_receive}
 use Rattle.nm_match.specs.Names.{id_of_arrival, id_of_receive, same_message}
 use Rattle.nm_match.specs.Queues.{TwoMessages, TwoReceives}
 use Rattle.nm_match.specs.Seen.{AreNames, has_seen}
 use Rattle.nm_match.proofs.BucketLemmas.{pairs_head, pairs_tail}
 use Rattle.nm_match.proofs.DeedLemmas.{history_of-push}
+use Rattle.nm_match.proofs.TurnLemmas.{others_number}
 
 -- a receive's number is below 2^64
 abbrev IsSmallPost : post.Post → Type 0
@@ -49,11 +52,12 @@ any_deed test deeds d before same =
 
 -- nothing is taken where nothing was done
 pub names_none : (r m : Seen) → ((i : Message) → has_seen r i ≡ false) → ((i : Message) → has_seen m i ≡ false) →
-    AreNames [] 0 r m
+    AreNames [] 0 0 r m
 unfolding history_of
 names_none r m no_receive no_message = record {
   receives = λ number. no_receive (id_of_receive number);
   messages = λ from n. no_message (record { rank = from; n = n });
+  ordered = omega arith;
   counted = omega arith;
   small_receives = All-nil IsSmallPost;
   small_messages = All-nil IsSmallMessage;
@@ -68,19 +72,21 @@ seen_more r r1 r2 {id} {id'} same room add i =
     add i ∙ ap (λ b. b || same_message id i) (room i)
     ∙ ap (λ (m : Message). has_seen r i || same_message m i) same
 
-module _ (deeds : List Deed) {next : ℕ} {r m : Seen} (names : AreNames deeds next r m) where
+module _ (deeds : List Deed) {order next : ℕ} {r m : Seen} (names : AreNames deeds order next r m) where
   -- room that was made takes no name
   pub names_kept : (r' m' : Seen) → ((i : Message) → has_seen r' i ≡ has_seen r i) →
-      ((i : Message) → has_seen m' i ≡ has_seen m i) → AreNames deeds next r' m'
+      ((i : Message) → has_seen m' i ≡ has_seen m i) → AreNames deeds order next r' m'
   names_kept r' m' same_r same_m = record {
     receives = λ number. same_r (id_of_receive number) ∙ names.receives number;
     messages = λ from n. same_m (record { rank = from; n = n }) ∙ names.messages from n;
+    ordered = names.ordered;
     counted = names.counted;
     small_receives = names.small_receives;
     small_messages = names.small_messages;
   }
 
-  names_push : (d : Deed) (later : ℕ) (r' m' : Seen) →
+  names_push : (d : Deed) (later_order later : ℕ) (r' m' : Seen) →
+      later_order ≤ order + length (cons_option (post_of (happened_by d)) []) →
       later ≤ next + (length (cons_option (post_of (happened_by d)) [])
       + length (cons_option (arrival_of (happened_by d)) [])) →
       All IsSmallPost (cons_option (post_of (happened_by d)) []) →
@@ -89,13 +95,17 @@ module _ (deeds : List Deed) {next : ℕ} {r m : Seen} (names : AreNames deeds n
       ≡ (has_seen r (id_of_receive number) || is_deed_of_receive number d)) →
       ((from n : ℕ) → has_seen m' (record { rank = from; n = n })
       ≡ (has_seen m (record { rank = from; n = n }) || is_deed_of_message from n d)) →
-      AreNames (deeds ++ d ∷ []) later r' m'
-  names_push d later r' m' few small_post small_message seen_r seen_m = record {
+      AreNames (deeds ++ d ∷ []) later_order later r' m'
+  names_push d later_order later r' m' ordered few small_post small_message seen_r seen_m = record {
     receives = λ number. seen_r number
         ∙ any_deed (is_deed_of_receive number) deeds d (has_seen r (id_of_receive number)) (names.receives number);
     messages = λ from n. seen_m from n
         ∙ any_deed (is_deed_of_message from n) deeds d (has_seen m (record { rank = from; n = n }))
         (names.messages from n);
+    ordered =
+        let ps = length-append (posts (history_of deeds)) (cons_option (post_of (happened_by d)) []) in
+        let was = names.ordered in
+        rw (posts_deed deeds d) (omega (arith, ps, was, ordered));
     counted =
         let ps = length-append (posts (history_of deeds)) (cons_option (post_of (happened_by d)) []) in
         let as' = length-append (messages (history_of deeds)) (cons_option (arrival_of (happened_by d)) []) in
@@ -108,45 +118,49 @@ module _ (deeds : List Deed) {next : ℕ} {r m : Seen} (names : AreNames deeds n
   }
 
   -- after a receive was posted
-  pub names_post : (p : post.Post) (later : ℕ) (r' : Seen) → p.number < 2 ^ 64 → later ≤ next + 1 →
+  pub names_post : (p : post.Post) (later : ℕ) (r' : Seen) → p.number < 2 ^ 64 → later ≤ order + 1 →
       ((i : Message) → has_seen r' i ≡ (has_seen r i || same_message (id_of_receive p.number) i)) →
-      AreNames (deeds ++ deed.Post p ∷ []) later r' m
+      AreNames (deeds ++ deed.Post p ∷ []) later next r' m
   names_post p later r' small few seen =
-      names_push (deed.Post p) later r' m (omega (arith, few))
+      names_push (deed.Post p) later next r' m (omega (arith, few)) (omega arith)
       (All-cons IsSmallPost p [] small (All-nil IsSmallPost)) (All-nil IsSmallMessage)
       (λ number. seen (id_of_receive number)) (λ from n. sym (or-false _))
 
   -- after a message came
   pub names_arrive : (a : Arrival) (later : ℕ) (m' : Seen) → a.env.from < 2 ^ 8 → a.n < 2 ^ 64 → later ≤ next + 1 →
       ((i : Message) → has_seen m' i ≡ (has_seen m i || same_message (id_of_arrival a) i)) →
-      AreNames (deeds ++ deed.Arrive a ∷ []) later r m'
+      AreNames (deeds ++ deed.Arrive a ∷ []) order later r m'
   names_arrive a later m' small_from small_n few seen =
-      names_push (deed.Arrive a) later r m' (omega (arith, few)) (All-nil IsSmallPost)
+      names_push (deed.Arrive a) order later r m' (omega arith) (omega (arith, few)) (All-nil IsSmallPost)
       (All-cons IsSmallMessage a [] (small_from, small_n) (All-nil IsSmallMessage))
       (λ number. sym (or-false _)) (λ from n. seen (record { rank = from; n = n }))
 
   -- after a claimed message was received
   pub names_matched : (number from n : ℕ) (r' : Seen) →
       ((i : Message) → has_seen r' i ≡ (has_seen r i || same_message (id_of_receive number) i)) →
-      AreNames (deeds ++ deed.Match number from n ∷ []) next r' m
+      AreNames (deeds ++ deed.Match number from n ∷ []) order next r' m
   names_matched number from n r' seen =
-      names_push (deed.Match number from n) next r' m (omega arith) (All-nil IsSmallPost) (All-nil IsSmallMessage)
+      names_push (deed.Match number from n) order next r' m (omega arith) (omega arith) (All-nil IsSmallPost)
+      (All-nil IsSmallMessage)
       (λ other. seen (id_of_receive other)) (λ from n. sym (or-false _))
 
   -- the other deeds take no number
-  pub names_cancel : (number : ℕ) → AreNames (deeds ++ deed.Cancel number ∷ []) next r m
+  pub names_cancel : (number : ℕ) → AreNames (deeds ++ deed.Cancel number ∷ []) order next r m
   names_cancel number =
-      names_push (deed.Cancel number) next r m (omega arith) (All-nil IsSmallPost) (All-nil IsSmallMessage)
+      names_push (deed.Cancel number) order next r m (omega arith) (omega arith) (All-nil IsSmallPost)
+      (All-nil IsSmallMessage)
       (λ other. sym (or-false _)) (λ from n. sym (or-false _))
 
-  pub names_withdraw : (from n : ℕ) → AreNames (deeds ++ deed.Withdraw from n ∷ []) next r m
+  pub names_withdraw : (from n : ℕ) → AreNames (deeds ++ deed.Withdraw from n ∷ []) order next r m
   names_withdraw from n =
-      names_push (deed.Withdraw from n) next r m (omega arith) (All-nil IsSmallPost) (All-nil IsSmallMessage)
+      names_push (deed.Withdraw from n) order next r m (omega arith) (omega arith) (All-nil IsSmallPost)
+      (All-nil IsSmallMessage)
       (λ other. sym (or-false _)) (λ from n. sym (or-false _))
 
-  pub names_claim : (from n : ℕ) → AreNames (deeds ++ deed.Claim from n ∷ []) next r m
+  pub names_claim : (from n : ℕ) → AreNames (deeds ++ deed.Claim from n ∷ []) order next r m
   names_claim from n =
-      names_push (deed.Claim from n) next r m (omega arith) (All-nil IsSmallPost) (All-nil IsSmallMessage)
+      names_push (deed.Claim from n) order next r m (omega arith) (omega arith) (All-nil IsSmallPost)
+      (All-nil IsSmallMessage)
       (λ other. sym (or-false _)) (λ from n. sym (or-false _))
 
 module _ {X : Type 0} (f : X → ℕ) (R : X → X → Type 0) (P : X → Type 0)
@@ -187,7 +201,7 @@ abbrev place : Arrival → ℕ
 place a = a.env.from * 18446744073709551616 + a.n
 
 -- the next order number is far below 2^128
-pub next_small : (deeds : List Deed) {next : ℕ} {r m : Seen} → AreNames deeds next r m →
+pub next_small : (deeds : List Deed) {order next : ℕ} {r m : Seen} → AreNames deeds order next r m →
     AllPairs TwoReceives (posts (history_of deeds)) → AllPairs TwoMessages (messages (history_of deeds)) →
     next < 2 ^ 73
 next_small deeds names two_receives two_messages =
@@ -200,3 +214,17 @@ next_small deeds names two_receives two_messages =
     two_messages in
     let counted = names.counted in
     omega (arith, receives, came, counted)
+
+-- the order number of a new receive fits 64 bits, since the receives before it have as many numbers, all below 2^64
+pub order_small : (deeds : List Deed) {order next : ℕ} {r m : Seen} → AreNames deeds order next r m →
+    AllPairs TwoReceives (posts (history_of deeds)) → (p : post.Post) → p.number < 2 ^ 64 →
+    is_known_receive (history_of deeds) p.number ≡ false → order < 2 ^ 64
+order_small deeds names two p small new =
+    let all = few (λ (q : post.Post). q.number) TwoReceives IsSmallPost (λ q s small_q small_s apart. apart)
+    (2 ^ 64) (λ q small. small) (p ∷ posts (history_of deeds))
+    (All-cons IsSmallPost p (posts (history_of deeds)) small names.small_receives)
+    (AllPairs-cons TwoReceives p (posts (history_of deeds))
+    (All-weaker (λ (q : post.Post). q.number ≢ p.number) (λ (q : post.Post). TwoReceives p q)
+    (λ q other same. other (sym same)) (posts (history_of deeds))
+    (others_number (history_of deeds) p.number new)) two) in
+    let ordered = names.ordered in omega (arith, all, ordered)

@@ -11,16 +11,16 @@ use Rattle.nm_match.specs.Queues.{AreQueuesOf}
 use Rattle.nm_match.specs.Seen.{AreNames}
 
 -- The posted receive queue and the unexpected message queue of these deeds are in buckets. Each
--- receive or message that waits has an order number, below the next one. Beside them stand the
+-- receive or message that waits has an order number, below the next one of its queue. Beside them stand the
 -- messages that are claimed and not yet received, the numbers of the cancelled receives, and the
 -- numbers that are taken.
-pub record AreHeld (deeds : List Deed) (next : ℕ) (p : Posted) (u : Unexpected) (r m : Seen)
+pub record AreHeld (deeds : List Deed) (order next : ℕ) (p : Posted) (u : Unexpected) (r m : Seen)
     : Type 0 where
   pub posted : List post.Post
   pub unexpected : List Arrival
   pub claimed : List Arrival
   pub cancelled : List ℕ
-  pub receives : ArePosted posted cancelled next p
+  pub receives : ArePosted posted cancelled order p
   pub messages : AreUnexpected unexpected claimed next u
   pub queues : AreQueuesOf deeds posted unexpected claimed cancelled
-  pub names : AreNames deeds next r m
+  pub names : AreNames deeds order next r m

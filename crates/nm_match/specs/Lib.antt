@@ -4,6 +4,7 @@ pub mod Held
 pub mod Names
 pub mod Picks
 pub mod Queues
+pub mod Rings
 pub mod Seen
 pub mod Standings
 pub mod InTurn

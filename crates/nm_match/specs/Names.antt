@@ -15,8 +15,9 @@ use Rattle.nm_match.specs.declared.posted.Posted.{Posted}
 use Rattle.nm_match.specs.declared.unexpected.Unexpected.{Unexpected}
 use Rattle.nm_match.specs.Buckets.{IsQueue, bucket_of}
 use Rattle.nm_match.specs.Deeds.{is_message}
-use Rattle.nm_match.specs.Picks.{names_both, picks_of_arrival, picks_of_post}
-use Rattle.nm_match.specs.Standings.{standing_at}
+use Rattle.nm_match.specs.Picks.{names_both, picks_of_arrival, picks_of_post, same_picks}
+use Rattle.nm_match.specs.Rings.{AreRings}
+use Rattle.nm_match.specs.Standings.{receive_at, standing_at}
 
 -- the same message of the same rank
 abbrev pub same_message : Message → Message → Bool
@@ -61,16 +62,16 @@ pub record IsNamedQueue {X K : Type 0} (known : X → K → Bool) (key : X → P
   pub is : IsQueue key items next bucket
   pub stands : (name : K) → standing name ≡ standing_of known key is.queue aside name
 
--- the receives that wait under a key: those that name a source and a tag stand apart from the others
-abbrev pub posted_under : Posted → Picks → List (ℕ × post.Post)
-posted_under p key =
-    if names_both key then bucket_of p.named.map key else bucket_of p.wild.map key
+-- the number of the oldest receive under a key: those that name a source and a tag stand apart from the others
+abbrev pub fronts_of : Posted → Picks → Option ℕ
+fronts_of p key = if names_both key then get same_picks p.named.map key else get same_picks p.wild.map key
 
--- these receives wait, and these numbers are of cancelled ones
-abbrev pub ArePosted : List post.Post → List ℕ → ℕ → Posted → Type 0
-ArePosted posts cancelled next p =
-    IsNamedQueue has_number picks_of_post posts (has cancelled) next (posted_under p)
-    (standing_at p.standings)
+-- these receives wait, in rings by what they name, and these numbers are of cancelled ones
+pub record ArePosted (posts : List post.Post) (cancelled : List ℕ) (next : ℕ) (p : Posted) : Type 0 where
+  pub under : Picks → List (ℕ × post.Post)
+  pub is :
+      IsNamedQueue has_number picks_of_post posts (has cancelled) next under (standing_at p.standings)
+  pub rings : AreRings (fronts_of p) (receive_at p.standings) under
 
 -- these messages wait, and these are claimed
 abbrev pub AreUnexpected : List Arrival → List Arrival → ℕ → Unexpected → Type 0

@@ -27,13 +27,15 @@ abbrev pub HasRoom : Seen → Message → Type 0
 HasRoom s id = (id.rank < length s.next.items) × (is_next s id ≡ false → 0 < spare s.apart)
 
 -- The names of these deeds are taken, and no others. Numbers are below 2^64, and ranks below 2^8; so
--- the order number of the next that waits, which counts some of them, is below 2^73.
-pub record AreNames (deeds : List Deed) (next : ℕ) (r m : Seen) : Type 0 where
+-- the order number of the next message that waits, which counts some of them, is below 2^73, and that of
+-- a new receive, which counts some of those before it, below 2^64.
+pub record AreNames (deeds : List Deed) (order next : ℕ) (r m : Seen) : Type 0 where
   pub receives :
       (number : ℕ) → has_seen r (id_of_receive number) ≡ list_any (is_deed_of_receive number) deeds
   pub messages :
       (from n : ℕ) → has_seen m (record { rank = from; n = n })
       ≡ list_any (is_deed_of_message from n) deeds
+  pub ordered : order ≤ length (posts (history_of deeds))
   pub counted : next ≤ length (posts (history_of deeds)) + length (messages_of (history_of deeds))
   pub small_receives : All (λ p. p.number < 2 ^ 64) (posts (history_of deeds))
   pub small_messages :

@@ -2,8 +2,9 @@
 //! takes.
 //!
 //! MPI 3.1, sections 3.2.4, 3.5 and 3.8. A `Matcher` has the posted receive queue and the
-//! unexpected message queue of one rank. Each is kept in buckets by source, tag and context, in
-//! order of age. It knows envelopes alone: bodies, requests and threads are above.
+//! unexpected message queue of one rank. Each is kept by source, tag and context, in order of age: the
+//! receives in rings, the messages in buckets. It knows envelopes alone: bodies, requests and threads are
+//! above.
 //!
 //! # What a contract sees
 //! The list of the deeds so far, oldest first: the receives that were posted, the messages that
@@ -22,12 +23,13 @@
 //! - `laws` lets a caller that keeps a history of its own speak of that history in place of the
 //!   deeds; proofs above cite the lemmas that it comes to.
 //! # What a call looks at
-//! An arrival looks at the bucket of its own key, and where a receive waits that takes any source or
+//! An arrival looks at the ring of its own key, and where a receive waits that takes any source or
 //! any tag at the four that can have its receive. A receive, a probe or a claim that names a source
-//! and a tag looks at one; a wildcard looks at the first message of each bucket of its queue. A
-//! cancel, a withdrawal, `is_claimed` and `take_claimed` look up one name. A bucket is found by
-//! hashing, and an entry leaves it in steps that grow with the logarithm of what is there. No bucket
-//! is empty, which its type says: its oldest entry stands by itself, and an emptied bucket goes.
+//! and a tag looks at one bucket; a wildcard looks at the first message of each bucket. A
+//! cancel, a withdrawal, `is_claimed` and `take_claimed` look up one name. A ring and a bucket are found
+//! by hashing. A receive has the numbers of those before and behind it in its ring, and leaves it in a
+//! few steps; a message leaves its bucket in steps that grow with the logarithm of what is there. No
+//! ring and no bucket is empty, which the types say: an emptied one goes.
 //! `knows_post` and `knows_arrival` look up one number. Receives whose numbers come one after another
 //! stand in a row, where a number is its place, and nothing is hashed.
 //! # What it holds
@@ -42,6 +44,7 @@
 mod buckets;
 mod deeds;
 mod done;
+mod fronts;
 pub mod laws;
 mod matching;
 mod names;

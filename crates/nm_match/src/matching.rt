@@ -30,11 +30,12 @@ use std::marker::Model;
 /// is paired, claimed or withdrawn.
 ///
 /// Receives are known by their numbers, and messages by their sender and their place among the
-/// messages of that sender. What waits is in buckets by source, tag and context, and has an order
-/// number, which grows with age: an arrival looks at the four buckets of receives that can select
+/// messages of that sender. What waits is found by source, tag and context, and has an order
+/// number, which grows with age: an arrival looks at the four rings of receives that can select
 /// it, a source and a tag that are named at one bucket of messages, and a wildcard at the first
-/// message of each bucket. Of receives it is known by their numbers, and of messages by a map, which
-/// bucket each is in, and under which order number, and what is cancelled or claimed: so `cancel`,
+/// message of each bucket. Receives that name the same are a ring: what is kept of each is found by
+/// its number, and tells the ones before and behind it. Of messages a map tells which bucket each is in,
+/// and under which order number. What is cancelled or claimed is told there, too: so `cancel`,
 /// `withdraw`, `is_claimed` and `take_claimed` walk nothing.
 ///
 /// What is paired, withdrawn or received takes no place. Which numbers are taken is known by the
@@ -47,7 +48,9 @@ pub struct Matcher {
     unexpected: Unexpected,
     receives: Seen,
     messages: Seen,
-    /// The order number of the next that waits.
+    /// The order number of the next receive that waits.
+    order: u128,
+    /// The order number of the next message that waits.
     next: u128,
 }
 
@@ -59,6 +62,7 @@ impl Drop for Matcher {
             unexpected: _,
             receives: _,
             messages: _,
+            order: _,
             next: _,
         } = self;
     }
@@ -73,8 +77,8 @@ impl Model for Matcher {
 
     ghost view = { λ m. m.done.deeds };
 
-    ghost invariant = { λ m. AreHeld m.done.deeds m.next m.posted m.unexpected m.receives
-        m.messages };
+    ghost invariant = { λ m. AreHeld m.done.deeds m.order m.next m.posted m.unexpected
+        m.receives m.messages };
 }
 
 impl Matcher {
@@ -88,6 +92,7 @@ impl Matcher {
             unexpected: Unexpected::new(alloc),
             receives: Seen::new(alloc),
             messages: Seen::new(alloc),
+            order: 0,
             next: 0,
         }
     }
@@ -110,8 +115,8 @@ impl Matcher {
                 Ok(Some(a))
             }
             None => {
-                self.posted.put(self.next, p)?;
-                self.next += 1;
+                self.posted.put(self.order as u64, p)?;
+                self.order += 1;
                 self.receives.add(id);
                 self.done = self.done.then(&Deed::Post(p));
                 Ok(None)

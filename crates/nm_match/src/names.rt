@@ -2,10 +2,11 @@
 
 ghost use Rattle.std.specs.Prelude.{◌≡◌, ◌<◌, ◌^◌, ◌+◌, ◌*◌};
 ghost use Rattle.std.specs.Hash as fed;
+ghost use Rattle.nm_match.specs.Rings.{is_cancelled as is_cancelled_lem, with_before, with_next};
 ghost use Rattle.nm_match.specs.Names.{id_of_arrival, id_of_receive, is_aside as is_aside_lem};
 
 use crate::picks::Picks;
-use nm_types::Arrival;
+use nm_types::{Arrival, Peer, TagPick};
 use std::hash::{Hash, Hasher};
 
 /// A message, by the other rank of it and its number among those of the two.
@@ -83,4 +84,51 @@ pub(crate) fn receive_id(number: u64) -> Message
     ensures small { number < 2 ^ 64 }
 {
     Message { rank: 0, n: number }
+}
+
+/// What is kept of a receive that is in no pair.
+///
+/// Those that wait and name the same are a ring: each knows the numbers of the one before it and of the
+/// one behind it, and the oldest is behind the newest.
+#[derive(Clone, Copy)]
+pub enum Receive {
+    /// It waits, under this order number.
+    Waits {
+        ctx: u8,
+        from: Peer,
+        tag: TagPick,
+        cap: u32,
+        order: u64,
+        before: u64,
+        next: u64,
+    },
+    /// It was cancelled.
+    Cancelled,
+}
+
+impl Receive {
+    /// Whether it was cancelled.
+    pub(crate) fn is_cancelled(&self) -> bool
+        ensures { result ≡ is_cancelled_lem self.now }
+    {
+        matches!(self, Receive::Cancelled)
+    }
+
+    /// Puts another one behind it, if it waits.
+    pub(crate) fn set_next(&mut self, number: u64)
+        ensures { self.new ≡ with_next number self.old }
+    {
+        if let Receive::Waits { next, .. } = self {
+            *next = number;
+        }
+    }
+
+    /// Puts another one before it, if it waits.
+    pub(crate) fn set_before(&mut self, number: u64)
+        ensures { self.new ≡ with_before number self.old }
+    {
+        if let Receive::Waits { before, .. } = self {
+            *before = number;
+        }
+    }
 }

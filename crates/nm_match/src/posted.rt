@@ -1,21 +1,23 @@
-//! The posted receive queue: the open receives, in buckets by what they name.
+//! The posted receive queue: the open receives, in rings by what they name.
 
 ghost use Rattle.std.specs.Prelude.{◌≡◌, ℕ, ◌+◌, ◌++◌, [], ◌∷◌, ◌==◌, false, None};
-ghost use Rattle.std.specs.Prelude.{AllPairs, IfSome, IsTrue, List, MatchOption, OnErr, OnOk, Some};
+ghost use Rattle.std.specs.Prelude.{AllPairs, IfOk, IfSome, IsTrue, List, MatchOption, OnErr, OnOk, Some};
 ghost use Rattle.std.specs.Prelude.{find, is_some, option_map};
+ghost use Rattle.std.specs.Option.{option_map_or};
+ghost use Rattle.indexmap.specs.IndexMap.{get};
 ghost use Rattle.nm_types.specs.declared.messages.Post as post;
-ghost use Rattle.nm_history.specs.Selection.{matches};
-ghost use Rattle.nm_match.specs.declared.names.Standing.TheVariants as standing;
-ghost use Rattle.nm_match.specs.Buckets.{AreBuckets, IsPutLast, IsTaken, front_of, oldest_of};
 ghost use Rattle.nm_history.specs.Continues.{has};
+ghost use Rattle.nm_history.specs.Selection.{matches};
 ghost use Rattle.nm_match.specs.declared.picks.Picks as picks;
-ghost use Rattle.nm_match.specs.Names.{ArePosted, posted_under};
+ghost use Rattle.nm_match.specs.Buckets.{AreBuckets, front_of, oldest_of};
+ghost use Rattle.nm_match.specs.Names.{ArePosted, fronts_of};
 ghost use Rattle.nm_match.specs.Picks.{picks_of_post, same_picks};
 ghost use Rattle.nm_match.specs.Queues.{TwoReceives, without_first};
-ghost use Rattle.nm_match.specs.Standings.{standing_at};
+ghost use Rattle.nm_match.specs.Rings.{AreRings, HasLeft, waiting_at};
+ghost use Rattle.nm_match.specs.Standings.{receive_at};
 
-use crate::buckets::{Buckets, earlier};
-use crate::names::Standing;
+use crate::buckets::earlier;
+use crate::fronts::Fronts;
 use crate::picks::{Picks, is_named, of_post};
 use crate::standings::Standings;
 use nm_types::{Envelope, Memory, Peer, Post, TagPick};
@@ -23,11 +25,11 @@ use std::alloc::Global;
 
 /// The receives that wait, and those that are cancelled.
 pub struct Posted {
-    /// Those that name a source and a tag.
-    pub named: Buckets<Post>,
-    /// Those that take any source or any tag.
-    pub wild: Buckets<Post>,
-    /// Where each of them stands, by its number.
+    /// The oldest of each ring of those that name a source and a tag.
+    pub named: Fronts,
+    /// The oldest of each ring of those that take any source or any tag.
+    pub wild: Fronts,
+    /// What is kept of each of them, by its number.
     pub standings: Standings,
 }
 
@@ -47,31 +49,43 @@ impl Posted {
         ensures none { (next : ℕ) → ArePosted [] [] next result }
     {
         Posted {
-            named: Buckets::new(alloc),
-            wild: Buckets::new(alloc),
+            named: Fronts::new(alloc),
+            wild: Fronts::new(alloc),
             standings: Standings::new(alloc),
+        }
+    }
+
+    /// The number of the oldest receive under a key.
+    fn first(&self, key: Picks) -> Option<u64>
+        ensures { result ≡ fronts_of self.now key }
+    {
+        if is_named(&key) {
+            self.named.get(key)
+        } else {
+            self.wild.get(key)
         }
     }
 
     /// The oldest receive that names this source and this tag, in the context of a message.
     fn front(&self, from: Peer, tag: TagPick, env: &Envelope) -> Option<(u128, Post)>
-        ensures { result ≡ front_of (posted_under self.now) from tag env.now }
+        ensures { (under : picks.Picks → List (ℕ × post.Post)) →
+            AreRings (fronts_of self.now) (receive_at self.now.standings) under →
+            result ≡ front_of under from tag env.now }
     {
-        let key = Picks {
+        let number = self.first(Picks {
             from,
             tag,
             ctx: env.ctx,
-        };
-        if is_named(&key) {
-            self.named.front(key)
-        } else {
-            self.wild.front(key)
-        }
+        })?;
+        let (order, p) = self.standings.waiting(number)?;
+        Some((u128::from(order), p))
     }
 
     /// The oldest receive that selects a message: the oldest under the four keys that select it.
     fn oldest(&self, env: &Envelope) -> Option<(u128, Post)>
-        ensures { result ≡ oldest_of (posted_under self.now) env.now }
+        ensures { (under : picks.Picks → List (ℕ × post.Post)) →
+            AreRings (fronts_of self.now) (receive_at self.now.standings) under →
+            result ≡ oldest_of under env.now }
     {
         let from = Peer::One(env.from);
         let tag = TagPick::One(env.tag);
@@ -83,38 +97,27 @@ impl Posted {
         earlier(named, any_tag)
     }
 
-    /// Puts a receive last into the bucket of its key.
-    fn put_under(&mut self, key: Picks, order: u128, p: Post) -> Result<(), Memory>
-        ensures own { OnOk result
-            (IsPutLast order p (posted_under self.old key) (posted_under self.new key)) }
+    /// Enters a receive that comes last under a key, and answers the number of the oldest.
+    fn enter(&mut self, key: Picks, number: u64) -> Result<u64, Memory>
+        ensures first { IfOk result (λ first.
+            first ≡ option_map_or (λ n. n) (fronts_of self.old key) number) }
+        ensures own { IfOk result (λ first. fronts_of self.new key ≡ Some first) }
         ensures others { (k : picks.Picks) → same_picks key k ≡ false →
-            posted_under self.new k ≡ posted_under self.old k }
-        ensures err { OnErr result (posted_under self.new key ≡ posted_under self.old key) }
+            fronts_of self.new k ≡ fronts_of self.old k }
+        ensures err { OnErr result (fronts_of self.new key ≡ fronts_of self.old key) }
         ensures standings { self.new.standings ≡ self.old.standings }
     {
         if is_named(&key) {
-            self.named.put(key, order, p)
+            self.named.enter(key, number)
         } else {
-            self.wild.put(key, order, p)
+            self.wild.enter(key, number)
         }
     }
 
-    /// Takes the receive of this order number out of the bucket of a key.
-    fn take_under(&mut self, key: Picks, order: u128)
-        ensures taken { IsTaken key order (posted_under self.old) (posted_under self.new) }
-        ensures standings { self.new.standings ≡ self.old.standings }
-    {
-        if is_named(&key) {
-            self.named.take(key, order);
-        } else {
-            self.wild.take(key, order);
-        }
-    }
-
-    /// Puts a receive whose number is new last.
-    pub(crate) fn put(&mut self, order: u128, p: Post) -> Result<(), Memory>
+    /// Puts a receive last under its key.
+    pub(crate) fn put(&mut self, order: u64, p: Post) -> Result<(), Memory>
         ensures ok { OnOk result ((posts : List post.Post) (cancelled : List ℕ) →
-            ArePosted posts cancelled order self.old →
+            AllPairs TwoReceives posts → ArePosted posts cancelled order self.old →
             find (λ q. q.number == p.number) posts ≡ None →
             ArePosted (posts ++ p ∷ []) cancelled (order + 1) self.new) }
         ensures err { OnErr result ((posts : List post.Post) (cancelled : List ℕ) (next : ℕ) →
@@ -122,32 +125,67 @@ impl Posted {
     {
         self.standings.make_room(p.number)?;
         let key = of_post(&p);
-        self.put_under(key, order, p)?;
-        self.standings.put(p.number, Standing::Waits { key, order });
+        let next = self.enter(key, p.number)?;
+        self.standings.let_in(order, p, next);
         Ok(())
     }
 
-    /// Takes the oldest receive that selects a message out of its bucket. Where no receive takes any
-    /// source or any tag, one bucket can have it.
-    fn take_waiting(&mut self, env: &Envelope) -> Option<(u128, Post)>
-        ensures oldest { result ≡ oldest_of (posted_under self.old) env.now }
-        ensures taken { (queue : List (ℕ × post.Post)) (next : ℕ) →
-            AreBuckets picks_of_post queue next (posted_under self.old) →
-            IfSome result (λ x. IsTaken (picks_of_post x.1) x.0 (posted_under self.old)
-            (posted_under self.new)) }
+    /// Takes the receive of this number, which waits under a key, out of its ring.
+    fn leave(&mut self, key: Picks, number: u64)
+        ensures { HasLeft key number (fronts_of self.old) (fronts_of self.new)
+            (receive_at self.old.standings) (receive_at self.new.standings) }
+    {
+        let next = self.standings.shut_out(number);
+        if is_named(&key) {
+            self.named.pass(key, number, next);
+        } else {
+            self.wild.pass(key, number, next);
+        }
+    }
+
+    /// Takes the oldest receive of those that name this source and this tag out of its ring.
+    fn take_named(&mut self, key: Picks) -> Option<Post>
+        ensures oldest { result ≡ option_map (λ x. x.1)
+            (waiting_at (receive_at self.old.standings) (get same_picks self.old.named.map key)) }
+        ensures left { IfSome result (λ p. HasLeft key p.number (get same_picks self.old.named.map)
+            (get same_picks self.new.named.map) (receive_at self.old.standings)
+            (receive_at self.new.standings)) }
+        ensures wild { self.new.wild ≡ self.old.wild }
         ensures none { result ≡ None → self.new ≡ self.old }
-        ensures standings { self.new.standings ≡ self.old.standings }
+    {
+        if self.named.is_empty() {
+            return None;
+        }
+        let place = self.named.place(key)?;
+        let (_, p) = self.standings.waiting(self.named.number(place))?;
+        let next = self.standings.shut_out(p.number);
+        self.named.pass_at(place, p.number, next);
+        Some(p)
+    }
+
+    /// Takes the oldest receive that selects a message out of its ring. Where no receive takes any
+    /// source or any tag, one ring can have it.
+    fn take_waiting(&mut self, env: &Envelope) -> Option<Post>
+        ensures oldest { (under : picks.Picks → List (ℕ × post.Post)) →
+            AreRings (fronts_of self.old) (receive_at self.old.standings) under →
+            result ≡ option_map (λ x. x.1) (oldest_of under env.now) }
+        ensures left { (under : picks.Picks → List (ℕ × post.Post)) (queue : List (ℕ × post.Post))
+            (next : ℕ) → AreBuckets picks_of_post queue next under →
+            AreRings (fronts_of self.old) (receive_at self.old.standings) under →
+            IfSome result (λ p. HasLeft (picks_of_post p) p.number (fronts_of self.old)
+            (fronts_of self.new) (receive_at self.old.standings) (receive_at self.new.standings)) }
+        ensures none { result ≡ None → self.new ≡ self.old }
     {
         if self.wild.is_empty() {
-            return self.named.take_front(Picks {
+            return self.take_named(Picks {
                 from: Peer::One(env.from),
                 tag: TagPick::One(env.tag),
                 ctx: env.ctx,
             });
         }
-        let (order, p) = self.oldest(env)?;
-        self.take_under(of_post(&p), order);
-        Some((order, p))
+        let (_, p) = self.oldest(env)?;
+        self.leave(of_post(&p), p.number);
+        Some(p)
     }
 
     /// Takes the oldest receive that selects a message. The others keep their order.
@@ -162,22 +200,9 @@ impl Posted {
             (without_first (λ q. matches q.from q.tag q.ctx env.now) posts) cancelled next
             self.new) }
     {
-        let (_, p) = self.take_waiting(env)?;
+        let p = self.take_waiting(env)?;
         self.standings.remove(p.number);
         Some(p)
-    }
-
-    /// The key of the bucket where the receive of this number waits, and its order number there.
-    fn place(&self, number: u64) -> Option<(Picks, u128)>
-        ensures some { IfSome result (λ r.
-            standing_at self.now.standings number ≡ Some (standing.Waits r.0 r.1)) }
-        ensures none { result ≡ None → standing_at self.now.standings number
-            ≡ option_map (λ s. standing.Aside) (standing_at self.now.standings number) }
-    {
-        match self.standings.get(number)? {
-            Standing::Waits { key, order } => Some((key, order)),
-            Standing::Aside => None,
-        }
     }
 
     /// Cancels the receive of this number if it waits, and answers whether it did. The others keep
@@ -193,10 +218,10 @@ impl Posted {
             next self.new }
         ensures same { result ≡ false → self.new ≡ self.old }
     {
-        match self.place(number) {
-            Some((key, order)) => {
-                self.take_under(key, order);
-                self.standings.set_aside(number);
+        match self.standings.waiting(number) {
+            Some((_, p)) => {
+                self.leave(of_post(&p), number);
+                self.standings.cancel(number);
                 true
             }
             None => false,
@@ -210,7 +235,7 @@ impl Posted {
             find (λ p. p.number == number) posts ≡ None → result ≡ has cancelled number }
     {
         match self.standings.get(number) {
-            Some(standing) => standing.is_aside(),
+            Some(receive) => receive.is_cancelled(),
             None => false,
         }
     }

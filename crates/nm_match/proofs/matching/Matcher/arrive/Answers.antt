@@ -7,7 +7,6 @@ use Rattle.nm_match.specs.Queues.{without_first}
 use Rattle.nm_match.proofs.DeedLemmas.{arrive-none, arrive-some, first_receive-queue, not_cancelled}
 use Rattle.nm_match.proofs.HeldLemmas.{message_fresh, receives_apart}
 use Rattle.nm_match.proofs.ListLemmas.{without_first-none}
-use Rattle.nm_match.proofs.NameLemmas.{named_aged}
 use Rattle.nm_match.proofs.SeenLemmas.{names_arrive, names_kept, next_small, seen_more}
 use Rattle.nm_match.proofs.matching.Matcher.arrive.Goals as goal
 
@@ -32,13 +31,13 @@ invariant_of-self-in-Some c =
     let next = c.self.inside.next in
     let test : Post → Bool = λ p. matches p.from p.tag p.ctx c.args.a.env in
     let new = rw (← c.self.view_is) at c.requires.is_new in
-    let is_first = sym (c.in-Some.ensures.oldest h.posted h.cancelled next h.receives) in
+    let is_first = sym (c.in-Some.ensures.oldest h.posted h.cancelled c.self.inside.order h.receives) in
     rw c.then-self-inside.ensures (record {
       posted = without_first test h.posted;
       unexpected = h.unexpected;
       claimed = h.claimed;
       cancelled = h.cancelled;
-      receives = c.in-Some.ensures.others h.posted h.cancelled next (receives_apart deeds h.queues)
+      receives = c.in-Some.ensures.others h.posted h.cancelled c.self.inside.order (receives_apart deeds h.queues)
           h.receives (not_cancelled h.queues test c.in-Some.p is_first);
       messages = h.messages;
       queues = arrive-some deeds h.queues c.args.a c.in-Some.p new is_first;
@@ -57,7 +56,8 @@ invariant_of-self-in_err-put-in-None c =
       unexpected = h.unexpected;
       claimed = h.claimed;
       cancelled = h.cancelled;
-      receives = c.in-None.ensures.others h.posted h.cancelled next (receives_apart deeds h.queues) h.receives;
+      receives = c.in-None.ensures.others h.posted h.cancelled c.self.inside.order
+          (receives_apart deeds h.queues) h.receives;
       messages = c.in_err-put-in-None.ensures.err h.unexpected h.claimed next h.messages;
       queues = h.queues;
       names = names_kept deeds h.names c.self.inside.receives c.make_room.new.self (λ i. refl)
@@ -71,14 +71,15 @@ invariant_of-self-in-None c =
     let next = c.self.inside.next in
     let test : Post → Bool = λ p. matches p.from p.tag p.ctx c.args.a.env in
     let new = rw (← c.self.view_is) at c.requires.is_new in
-    let none = sym (c.in-None.ensures.oldest h.posted h.cancelled next h.receives) in
-    let left = c.in-None.ensures.others h.posted h.cancelled next (receives_apart deeds h.queues) h.receives in
+    let none = sym (c.in-None.ensures.oldest h.posted h.cancelled c.self.inside.order h.receives) in
+    let left = c.in-None.ensures.others h.posted h.cancelled c.self.inside.order (receives_apart deeds h.queues)
+    h.receives in
     rw c.then-self-inside-in-None.ensures (record {
       posted = h.posted;
       unexpected = h.unexpected ++ c.args.a ∷ [];
       claimed = h.claimed;
       cancelled = h.cancelled;
-      receives = named_aged left (next + 1) (omega arith);
+      receives = left;
       messages = c.in_ok-put-in-None.ensures.ok h.unexpected h.claimed h.messages
           (message_fresh deeds h.queues c.args.a.env.from c.args.a.n new);
       queues = rw (without_first-none test h.posted none) at (arrive-none deeds h.queues c.args.a new none);
@@ -92,14 +93,14 @@ pub returns-in-Some-clause-oldest : goal.returns-in-Some-clause-oldest
 returns-in-Some-clause-oldest c =
     let h = c.self.invariant in
     rw (← c.self.view_is) (ap (λ (o : Option Post). option_map (λ p. p.number) o)
-    (c.in-Some.ensures.oldest h.posted h.cancelled c.self.inside.next h.receives
+    (c.in-Some.ensures.oldest h.posted h.cancelled c.self.inside.order h.receives
     ∙ first_receive-queue h.queues c.args.a.env))
 
 pub returns-in_ok-put-in-None-clause-oldest : goal.returns-in_ok-put-in-None-clause-oldest
 returns-in_ok-put-in-None-clause-oldest c =
     let h = c.self.invariant in
     rw (← c.self.view_is) (ap (λ (o : Option Post). option_map (λ p. p.number) o)
-    (c.in-None.ensures.oldest h.posted h.cancelled c.self.inside.next h.receives
+    (c.in-None.ensures.oldest h.posted h.cancelled c.self.inside.order h.receives
     ∙ first_receive-queue h.queues c.args.a.env))
 
 pub overflow_add-self : goal.overflow_add-self

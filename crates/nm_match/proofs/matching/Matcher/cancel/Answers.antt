@@ -13,16 +13,16 @@ pub invariant_of-self : goal.invariant_of-self
 invariant_of-self c =
     let h = c.self.invariant in
     let deeds = c.self.inside.done.deeds in
-    let next = c.self.inside.next in
+    let order = c.self.inside.order in
     let test : Post → Bool = λ p. p.number == c.args.post in
     let first = some_found (find test h.posted)
-    (sym (c.cancel.ensures.found h.posted h.cancelled next h.receives) ∙ c.if-cancel.true) in
+    (sym (c.cancel.ensures.found h.posted h.cancelled order h.receives) ∙ c.if-cancel.true) in
     rw c.then-self-inside.ensures (record {
       posted = without_first test h.posted;
       unexpected = h.unexpected;
       claimed = h.claimed;
       cancelled = h.cancelled ++ c.args.post ∷ [];
-      receives = c.cancel.ensures.others c.if-cancel.true h.posted h.cancelled next (receives_apart deeds h.queues)
+      receives = c.cancel.ensures.others c.if-cancel.true h.posted h.cancelled order (receives_apart deeds h.queues)
           h.receives;
       messages = h.messages;
       queues = cancel-some deeds h.queues c.args.post first.0 first.1;
@@ -33,14 +33,14 @@ pub returns-then-cancel-clause-late : goal.returns-then-cancel-clause-late
 returns-then-cancel-clause-late c =
     let h = c.self.invariant in
     let first = some_found (find (λ (p : Post). p.number == c.args.post) h.posted)
-    (sym (c.cancel.ensures.found h.posted h.cancelled c.self.inside.next h.receives) ∙ c.if-cancel.true) in
+    (sym (c.cancel.ensures.found h.posted h.cancelled c.self.inside.order h.receives) ∙ c.if-cancel.true) in
     rw (← c.self.view_is, (number_open h.queues c.args.post first.0 first.1).0) refl
 
 pub returns-then-cancel-clause-deeds : goal.returns-then-cancel-clause-deeds
 returns-then-cancel-clause-deeds c =
     let h = c.self.invariant in
     let first = some_found (find (λ (p : Post). p.number == c.args.post) h.posted)
-    (sym (c.cancel.ensures.found h.posted h.cancelled c.self.inside.next h.receives) ∙ c.if-cancel.true) in
+    (sym (c.cancel.ensures.found h.posted h.cancelled c.self.inside.order h.receives) ∙ c.if-cancel.true) in
     rw (← c.self.view_is, (number_open h.queues c.args.post first.0 first.1).1) c.then-self-inside.ensures
 
 pub invariant_of-self-else-cancel : goal.invariant_of-self-else-cancel
@@ -49,20 +49,20 @@ invariant_of-self-else-cancel c = rw (c.cancel.ensures.same c.if-cancel.false) c
 pub returns-else-cancel-clause-late : goal.returns-else-cancel-clause-late
 returns-else-cancel-clause-late c =
     let h = c.self.invariant in
-    let next = c.self.inside.next in
+    let order = c.self.inside.order in
     let none = none_found (find (λ (p : Post). p.number == c.args.post) h.posted)
-    (sym (c.cancel.ensures.found h.posted h.cancelled next h.receives) ∙ c.if-cancel.false) in
+    (sym (c.cancel.ensures.found h.posted h.cancelled order h.receives) ∙ c.if-cancel.false) in
     let known = rw (← c.self.view_is) at c.requires.known in
     let says = rw (c.cancel.ensures.same c.if-cancel.false) at c.is_cancelled.ensures in
-    rw (← c.self.view_is) (says h.posted h.cancelled next h.receives none
+    rw (← c.self.view_is) (says h.posted h.cancelled order h.receives none
     ∙ number_late h.queues c.args.post known none)
 
 pub returns-else-cancel-clause-deeds : goal.returns-else-cancel-clause-deeds
 returns-else-cancel-clause-deeds c =
     let h = c.self.invariant in
-    let next = c.self.inside.next in
+    let order = c.self.inside.order in
     let none = none_found (find (λ (p : Post). p.number == c.args.post) h.posted)
-    (sym (c.cancel.ensures.found h.posted h.cancelled next h.receives) ∙ c.if-cancel.false) in
+    (sym (c.cancel.ensures.found h.posted h.cancelled order h.receives) ∙ c.if-cancel.false) in
     let says = rw (c.cancel.ensures.same c.if-cancel.false) at c.is_cancelled.ensures in
-    let same = says h.posted h.cancelled next h.receives none ∙ h.queues.cancelled_receives c.args.post in
+    let same = says h.posted h.cancelled order h.receives none ∙ h.queues.cancelled_receives c.args.post in
     rw (← c.self.view_is, same, and-not_self) refl

@@ -4,10 +4,9 @@ use Rattle.nm_types.specs.declared.messages.Arrival.{Arrival}
 use Rattle.nm_history.specs.Selection.{matches}
 use Rattle.nm_match.specs.Queues.{without_first}
 use Rattle.nm_match.proofs.DeedLemmas.{first_message-queue, not_claimed, post-none, post-some}
-use Rattle.nm_match.proofs.HeldLemmas.{arrivals_apart, number_fresh}
+use Rattle.nm_match.proofs.HeldLemmas.{arrivals_apart, number_fresh, receives_apart}
 use Rattle.nm_match.proofs.ListLemmas.{without_first-none}
-use Rattle.nm_match.proofs.NameLemmas.{named_aged}
-use Rattle.nm_match.proofs.SeenLemmas.{names_kept, names_post, next_small, seen_more}
+use Rattle.nm_match.proofs.SeenLemmas.{names_kept, names_post, order_small, seen_more}
 use Rattle.nm_match.proofs.matching.Matcher.post.Goals as goal
 
 pub invariant_of-self : goal.invariant_of-self
@@ -41,7 +40,8 @@ invariant_of-self-in-Some c =
       messages = c.in-Some.ensures.others h.unexpected h.claimed next (arrivals_apart deeds h.queues)
           h.messages (not_claimed h.queues test c.in-Some.a is_first);
       queues = post-some deeds h.queues c.args.p c.in-Some.a new is_first;
-      names = names_post deeds h.names c.args.p next c.add.new.self c.receive_id-id.ensures.small (omega arith)
+      names = names_post deeds h.names c.args.p c.self.inside.order c.add.new.self
+          c.receive_id-id.ensures.small (omega arith)
           (seen_more c.self.inside.receives c.make_room.new.self c.add.new.self c.receive_id-id.ensures.id
           c.make_room.ensures.same c.add.ensures);
     })
@@ -55,7 +55,7 @@ invariant_of-self-in_err-put-in-None c =
       unexpected = h.unexpected;
       claimed = h.claimed;
       cancelled = h.cancelled;
-      receives = c.in_err-put-in-None.ensures.err h.posted h.cancelled next h.receives;
+      receives = c.in_err-put-in-None.ensures.err h.posted h.cancelled c.self.inside.order h.receives;
       messages = c.in-None.ensures.others h.unexpected h.claimed next (arrivals_apart deeds h.queues) h.messages;
       queues = h.queues;
       names = names_kept deeds h.names c.make_room.new.self c.self.inside.messages c.make_room.ensures.same
@@ -76,12 +76,12 @@ invariant_of-self-in-None c =
       unexpected = h.unexpected;
       claimed = h.claimed;
       cancelled = h.cancelled;
-      receives = c.in_ok-put-in-None.ensures.ok h.posted h.cancelled h.receives
+      receives = c.in_ok-put-in-None.ensures.ok h.posted h.cancelled (receives_apart deeds h.queues) h.receives
           (number_fresh deeds h.queues c.args.p.number new);
-      messages = named_aged left (next + 1) (omega arith);
+      messages = left;
       queues = rw (without_first-none test h.unexpected none) at (post-none deeds h.queues c.args.p new none);
-      names = names_post deeds h.names c.args.p (next + 1) c.add-in-None.new.self c.receive_id-id.ensures.small
-          (omega arith)
+      names = names_post deeds h.names c.args.p (c.self.inside.order + 1) c.add-in-None.new.self
+          c.receive_id-id.ensures.small (omega arith)
           (seen_more c.self.inside.receives c.make_room.new.self c.add-in-None.new.self c.receive_id-id.ensures.id
           c.make_room.ensures.same c.add-in-None.ensures);
     })
@@ -101,5 +101,15 @@ returns-in_ok-put-in-None-clause-oldest c =
 pub overflow_add-self : goal.overflow_add-self
 overflow_add-self c =
     let h = c.self.invariant in
-    let small = next_small c.self.inside.done.deeds h.names h.queues.in_turn.two_receives h.queues.in_turn.two_messages in
+    let new = rw (← c.self.view_is) at c.requires.is_new in
+    let small = order_small c.self.inside.done.deeds h.names h.queues.in_turn.two_receives c.args.p
+    c.receive_id-id.ensures.small new in
+    omega (arith, small)
+
+pub overflow_cast-self-inside : goal.overflow_cast-self-inside
+overflow_cast-self-inside c =
+    let h = c.self.invariant in
+    let new = rw (← c.self.view_is) at c.requires.is_new in
+    let small = order_small c.self.inside.done.deeds h.names h.queues.in_turn.two_receives c.args.p
+    c.receive_id-id.ensures.small new in
     omega (arith, small)
