@@ -6,7 +6,7 @@ ghost use Rattle.nm_types.specs.Bodies.{bytes_of, body_len};
 ghost use Rattle.nm_history.specs.Outgoing.{part_at};
 ghost use Rattle.nm_eager.specs.Cutting.{next_what, packet_count};
 
-use crate::parts::part;
+use nm_types::ranges::part;
 use nm_types::{Body, MAX_PAYLOAD, Packet, Payload, What, laws};
 use std::marker::Model;
 

@@ -30,7 +30,6 @@ mod cutting;
 mod joining;
 pub mod laws;
 mod messages;
-mod parts;
 mod senders;
 
 pub use continuing::continues;

@@ -5,7 +5,7 @@ ghost use Rattle.nm_types.specs.Bodies.{body_len};
 ghost use Rattle.nm_types.specs.declared.limits.TheConstants.{MAX_BODY};
 ghost use Rattle.nm_rndv.specs.Cuts.{start_of, rest_of, offset_of, next_bytes};
 
-use crate::parts::part;
+use nm_types::ranges::part;
 use nm_types::{Body, MAX_PIECE, Piece, laws};
 use std::marker::Model;
 

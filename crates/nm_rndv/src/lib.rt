@@ -38,7 +38,6 @@ mod granted;
 mod granting;
 pub mod laws;
 mod offering;
-mod parts;
 mod placing;
 mod recalls;
 mod senders;

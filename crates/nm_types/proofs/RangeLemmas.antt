@@ -1,7 +1,7 @@
 -- The bytes of a generated body from some place on.
 use Rattle.std.proofs.Common.{◌≡◌, ℕ, zero, suc, ◌+◌, ◌-◌, ◌≤◌, take, drop, map, sym, ap, ◌∙◌, arith}
 use Rattle.std.proofs.Common.{◌<◌, ◌⊎◌, inl, inr, List, length, length-drop, min}
-use Rattle.std.proofs.Common.{◌++◌, ◌*◌, ◌/◌, ◌%◌, ◌∷◌, refl, ap₂}
+use Rattle.std.proofs.Common.{◌*◌, ◌∷◌, refl, ap₂}
 use Rattle.std.proofs.lemmas.Bool.{cases_lt}
 use Rattle.std.proofs.lemmas.List.{drop-map, take_all}
 use Rattle.std.proofs.lemmas.List.FromFn.{take-map-range_with_len}
@@ -49,27 +49,3 @@ generated-again zero a b q is = refl
 generated-again (suc n) a b q is =
     let first : generated_byte a ≡ generated_byte b = omega (arith, is) in
     ap₂ (λ x xs. x ∷ xs) first (generated-again n (a + 1) (b + 1) q (omega (arith, is)))
-
--- a range, and the one behind it
-pub range-more : (start done many : ℕ) → map generated_byte (range_with_len start done)
-    ++ map generated_byte (range_with_len (start + done) many)
-    ≡ map generated_byte (range_with_len start (done + many))
-range-more start zero many =
-    let here : start + 0 ≡ start = omega arith in let all : many ≡ 0 + many = omega arith in
-    ap (λ a. map generated_byte (range_with_len a many)) here
-    ∙ ap (λ n. map generated_byte (range_with_len start n)) all
-range-more start (suc done) many =
-    let here : start + suc done ≡ start + 1 + done = omega arith in
-    let all : suc (done + many) ≡ suc done + many = omega arith in
-    ap (λ xs. generated_byte start ∷ xs)
-    (ap (λ a. map generated_byte (range_with_len (start + 1) done) ++ map generated_byte (range_with_len a many)) here
-    ∙ range-more (start + 1) done many) ∙ ap (λ n. map generated_byte (range_with_len start n)) all
-
--- the next bytes of a generated body are those at the same place of its first period
-pub generated-next : (start done many place : ℕ) → place ≡ (start + done) % 251 → place + many ≤ 251
-    → take many (drop place (map generated_byte (range_with_len 0 251)))
-    ≡ map generated_byte (range_with_len (start + done) many)
-generated-next start done many place at within =
-    let turns : start + done ≡ place + 251 * ((start + done) / 251) = omega (arith, at) in
-    sym (generated-again many (start + done) place ((start + done) / 251) turns
-    ∙ generated-range place many 251 within)
