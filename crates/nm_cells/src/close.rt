@@ -13,9 +13,9 @@ ghost use Rattle.nm_cells.specs.ClosedLists.{entries, sent_list, taken_list, All
 
 use crate::closed::Closed;
 use crate::port::{Fabric, Port};
-use crate::remains::Remains;
 use crate::tallies::Tally;
 use atomic_table::Closed as Table;
+use nm_chain::remains::Remains;
 use nm_chain::seats::{Joins, Seals};
 use nm_chain::table::{Board, BoardSeat, Item, Slot};
 use nm_types::Account;
@@ -81,7 +81,7 @@ fn settle<I: Item>(
     seat: BoardSeat<I>,
     ranks: u64,
     each: u64,
-) -> (Account, Remains<I>)
+) -> (Account, Remains<Slot<I>>)
     requires table { (seat.table_id ≡ board.shared.table_id) × (board.shared.key.ranks ≡ ranks)
         × (board.shared.key.cells ≡ each) }
     requires sizes { (board.shared.table_id.slots ≡ ranks * each + 4 * (ranks * ranks))

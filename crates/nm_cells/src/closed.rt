@@ -3,11 +3,11 @@
 ghost use Rattle.std.specs.Prelude.{length, map};
 ghost use Rattle.nm_cells.specs.PathLists.{seen_in, Tallied};
 
-use crate::remains::Remains;
 use crate::tallies::Tally;
 use atomic_table::Badge;
+use nm_chain::remains::Remains;
 use nm_chain::seats::View;
-use nm_chain::table::{Entry, Item};
+use nm_chain::table::{Entry, Item, Slot};
 use nm_types::Account;
 
 /// A fabric that is closed. It keeps what its ports knew, of which no value is made, and what they
@@ -18,7 +18,7 @@ pub struct Closed<I> {
     pub(crate) cells: Account,
     /// What each port counted of each rank, in rank order.
     pub(crate) counted: Vec<Vec<Tally>>,
-    pub(crate) remains: Remains<I>,
+    pub(crate) remains: Remains<Slot<I>>,
     pub ghost tallied: { Tallied (seen_in badge.views) (map (λ v. v.items) counted.items)
         (length (seen_in badge.views)) },
 }

@@ -60,7 +60,6 @@ mod counts;
 mod loose;
 mod port;
 mod produce;
-mod remains;
 mod slots;
 mod tallies;
 

@@ -2,8 +2,9 @@
 //!
 //! Nemesis (Buntinas, Mercier and Gropp 2006) gives each rank a receive queue and a free queue of
 //! cells, lock-free, with many producers and one consumer. Here are the definitions, over lists and
-//! functions. `seats` has what tables of shared words have in common, and `table` the rule of the table
-//! of cells, queues and fastboxes, with its kinds of step. The calls that make steps are one crate above.
+//! functions. `seats` has what tables of shared words have in common, `remains` one that is closed, and
+//! `table` the rule of the table of cells, queues and fastboxes, with its kinds of step. The calls that
+//! make steps are one crate above.
 //!
 //! ```text
 //!   head        0      the consumer cleared it, once it had loaded cell 4
@@ -27,5 +28,6 @@
 #![tactic(auto)]
 
 pub mod laws;
+pub mod remains;
 pub mod seats;
 pub mod table;

@@ -13,10 +13,10 @@ ghost use Rattle.nm_copyring.specs.Ports.{Owns, knows, sees};
 
 use crate::close::RingAccount;
 use crate::port::{RingPort, Rings};
-use crate::remains::Remains;
 use crate::slots::Slot;
 use crate::table::{Board, Place};
 use atomic_table::Closed;
+use nm_chain::remains::Remains;
 use nm_chain::seats::{Joins, Seals};
 use std::alloc::Global;
 
@@ -65,7 +65,7 @@ fn count_full(closed: &Closed<Slot, Global>, places: u64) -> u32
 }
 
 // The full places of the closed table, and the table.
-fn settle(board: Board, seat: Place, ranks: u64) -> (u32, Remains)
+fn settle(board: Board, seat: Place, ranks: u64) -> (u32, Remains<Slot>)
     requires table { (seat.table_id ≡ board.shared.table_id) × (board.shared.key ≡ ranks) }
     requires sizes { (board.shared.table_id.words ≡ 4 * (ranks * ranks))
         × (board.shared.table_id.slots ≡ 4 * (ranks * ranks)) × (ranks ≤ 64) }

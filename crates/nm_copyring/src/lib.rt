@@ -43,7 +43,6 @@ mod closing;
 mod counts;
 mod pieces;
 mod port;
-mod remains;
 mod slots;
 mod steps;
 mod table;
