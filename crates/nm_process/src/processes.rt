@@ -158,7 +158,8 @@ impl Process {
     }
 
     /// A process at its first command of a script, whose commands stand at these places, in a run of
-    /// these sizes. It has room for as many names as if every other command started a request.
+    /// these sizes. It has room for as many names as if every other command started a request, and for
+    /// three events of each command.
     pub fn new(
         alloc: Global,
         shape: Shape,
@@ -173,9 +174,10 @@ impl Process {
     {
         let next = place_at(&own, lines, 0);
         let requests = IndexMap::with_capacity_and_hasher(alloc, own.len() / 2, ByName)?;
+        let events = own.len().saturating_mul(3);
         Ok(Process {
             me,
-            rank: Rank::new(alloc, shape, me)?,
+            rank: Rank::with_capacity(alloc, shape, me, events)?,
             requests,
             handles: IndexMap::with_hasher(alloc, ByName),
             own,

@@ -121,6 +121,16 @@ impl Rank {
         requires { me < shape.ranks }
         ensures { IfOk result (IsNew shape me) }
     {
+        Rank::with_capacity(alloc, shape, me, 0)
+    }
+
+    /// The same, with room for so many events, which are then never moved to make more.
+    pub fn with_capacity(alloc: Global, shape: Shape, me: u8, events: usize) -> Result<Rank, Memory>
+        requires { me < shape.ranks }
+        ensures { IfOk result (IsNew shape me) }
+    {
+        let mut journal = Journal::new(alloc);
+        journal.reserve(events)?;
         let ranks = shape.ranks();
         let took = zeros(alloc, ranks)?;
         let pulled = zeros(alloc, ranks)?;
@@ -130,7 +140,7 @@ impl Rank {
         Ok(Rank {
             me,
             shape,
-            journal: Journal::new(alloc),
+            journal,
             requests: Requests::new(alloc),
             sending,
             receiving,

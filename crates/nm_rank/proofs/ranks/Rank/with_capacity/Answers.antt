@@ -1,18 +1,19 @@
-use Rattle.std.proofs.Common.{refl}
+use Rattle.std.proofs.Common.{refl, ap, ◌∙◌}
 use Rattle.std.specs.Prelude.{map}
 use Rattle.nm_rank.proofs.NewLemmas.{fields-new}
-use Rattle.nm_rank.proofs.ranks.Rank.new.Goals as goal
+use Rattle.nm_rank.proofs.ranks.Rank.with_capacity.Goals as goal
 
 pub invariant_of-result : goal.invariant_of-result
 invariant_of-result c =
     let n = c.ranks-ranks.ensures.value in
     let s = c.in_ok-sending.ensures in
     let r = c.in_ok-receiving.ensures in
-    fields-new c.args.me c.args.shape c.new-3.result c.in_ok-sending.sending c.in_ok-receiving.receiving
-    (map (λ s. s.known) c.in_ok-streams.streams.items) c.new-4.result c.in_ok-took.took.items
-    c.in_ok-pulled.pulled.items c.requires c.new-3.ensures.events s.none s.me (rw n at s.popped)
+    let events = ap (λ j. j.events) c.reserve.ensures.same ∙ c.new-journal.ensures.events in
+    fields-new c.args.me c.args.shape c.reserve.new.self c.in_ok-sending.sending c.in_ok-receiving.receiving
+    (map (λ s. s.known) c.in_ok-streams.streams.items) c.new-3.result c.in_ok-took.took.items
+    c.in_ok-pulled.pulled.items c.requires events s.none s.me (rw n at s.popped)
     (rw n at s.offers) s.staying r.none r.sizes r.nothing
-    (rw n at c.in_ok-streams.ensures) c.new-4.ensures.none
+    (rw n at c.in_ok-streams.ensures) c.new-3.ensures.none
     (rw n at c.in_ok-took.ensures) (rw n at c.in_ok-pulled.ensures)
 
 pub returns : goal.returns
@@ -23,8 +24,8 @@ returns c =
     record {
       me = refl;
       sizes = refl;
-      events = c.new-3.ensures.events;
-      clock = c.new-3.ensures.clock;
+      events = ap (λ j. j.events) c.reserve.ensures.same ∙ c.new-journal.ensures.events;
+      clock = ap (λ j. j.clock) c.reserve.ensures.same ∙ c.new-journal.ensures.clock;
       own = s.me;
       letters = s.letters;
       popped = rw n at s.popped;
@@ -33,7 +34,7 @@ returns c =
       came = λ from. (r.nothing from).1;
       drawn = r.drawn;
       bytes = r.bytes;
-      requests = c.new-4.ensures.none;
+      requests = c.new-3.ensures.none;
       took = rw n at c.in_ok-took.ensures;
       pulled = rw n at c.in_ok-pulled.ensures;
       strays = refl;
