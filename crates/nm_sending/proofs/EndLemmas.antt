@@ -1,6 +1,6 @@
 -- Which messages the letters end.
 use Rattle.std.proofs.Common.{◌≡◌, ℕ, ◌<◌, ◌==◌, zero, suc, Bool, true, false, Option, None, List}
-use Rattle.std.proofs.Common.{[], ◌∷◌, ◌++◌, cond, map, refl, sym, ◌∙◌, ap, append-nil, arith}
+use Rattle.std.proofs.Common.{[], ◌∷◌, ◌++◌, cond, map, refl, ◌∙◌, ap, append-nil, arith}
 use Rattle.std.specs.Prelude.{replicate}
 use Rattle.std.specs.List.{cons_option, filter_map}
 use Rattle.std.proofs.lemmas.List.Elements.{filter_map-append}

@@ -11,7 +11,7 @@ use Rattle.std.proofs.lemmas.List.{get_or-set_other, get_or-set_same, length-app
 use Rattle.std.proofs.lemmas.List.{get_or-replicate, get_or_past, length-map, length-replicate, map-append}
 use Rattle.std.proofs.lemmas.List.Elements.{filter-append}
 use Rattle.nm_types.specs.declared.packets.Packet.{Packet}
-use Rattle.nm_sending.specs.Letters.{AreLetters, AreNumbered, Letter, packets_for}
+use Rattle.nm_sending.specs.Letters.{AreNumbered, Letter, packets_for}
 use Rattle.nm_sending.specs.Outboxes.{AreFields}
 use Rattle.nm_types.proofs.NumberLemmas.{unequal, eq_true}
 use Rattle.nm_types.proofs.ListLemmas.{all_append}

@@ -9,7 +9,7 @@ use Rattle.nm_history.specs.declared.events.Happened.TheVariants.{Send, Out, Rec
 use Rattle.nm_history.specs.Delivery.{is_asked}
 use Rattle.nm_history.specs.Happens.{happened, is_send, is_out, is_recall, is_undone}
 use Rattle.nm_history.specs.Outgoing.{Called, AreCalled, bare}
-use Rattle.nm_history.specs.Sends.{Sent, sends, is_ask}
+use Rattle.nm_history.specs.Sends.{sends, is_ask}
 use Rattle.nm_history.specs.Clearance.{pushed_out}
 use Rattle.nm_history.specs.Continues.{has}
 use Rattle.nm_history.specs.Effects.{is_empty_send, happenings}

@@ -1,5 +1,5 @@
 -- The packets of a message, or the one that asks for it.
-use Rattle.std.proofs.Common.{◌≡◌, ◌+◌, ◌≤◌, ℕ, Bool, cond, length, refl, ◌∙◌, ap, subst, arith}
+use Rattle.std.proofs.Common.{◌≡◌, ◌≤◌, ℕ, Bool, cond, length, refl, ◌∙◌, ap, subst, arith}
 use Rattle.nm_types.specs.Bodies.{body_len}
 use Rattle.nm_types.specs.declared.limits.TheConstants.{MAX_BODY, MAX_EAGER}
 use Rattle.nm_history.specs.Sends.{is_ask}
