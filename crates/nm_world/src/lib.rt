@@ -24,6 +24,7 @@
 
 mod actors;
 mod bells;
+mod blocks;
 mod by_rank;
 pub mod laws;
 mod places;

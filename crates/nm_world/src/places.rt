@@ -4,6 +4,7 @@ ghost use Rattle.std.specs.Prelude.{◌≡◌};
 ghost use Rattle.nm_world.specs.Parcels.{packet_of, parcel_of};
 
 use crate::bells::{Bells, bit_of};
+use crate::blocks;
 use nm_chain::table::Parcel;
 use nm_types::{Memory, Packet, Piece};
 use std::alloc::Global;
@@ -46,16 +47,8 @@ impl Model for Places {
     ghost view = { λ _. tt };
 }
 
-// How many bytes are asked for ahead.
-const AHEAD: usize = 98304;
-
 // How many bytes of memory stand for whatever comes, beside its body.
 const EACH: usize = 256;
-
-// A block of as many bytes as are asked for ahead.
-fn block(alloc: Global) -> Result<Vec<u8>, Memory> {
-    Ok(Vec::with_capacity(alloc, AHEAD)?)
-}
 
 // A box with nothing of use in it.
 fn new_box(alloc: Global) -> Result<Box<Piece>, Memory> {
@@ -143,14 +136,12 @@ impl Places {
         self.spare = spare;
     }
 
-    /// Counts what came with so many bytes. For each 96 KB of it a block of as many is asked for and given
-    /// back at once, so that the allocator takes memory from the system by blocks and not page by page.
-    /// Where there is no such block, nothing is lost.
+    /// Counts what came with so many bytes. For each block of a rank that came one is asked for ahead.
     pub(crate) fn count(&mut self, bytes: usize) {
         self.came = self.came.saturating_add(bytes).saturating_add(EACH);
-        if self.came >= AHEAD {
+        if self.came >= blocks::RANK {
             self.came = 0;
-            let _ = block(self.alloc);
+            blocks::ask_for_rank(self.alloc);
         }
     }
 

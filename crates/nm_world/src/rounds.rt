@@ -10,6 +10,7 @@ ghost use Rattle.nm_world.specs.Sweeps.{HasSwept, Swept};
 
 use crate::Actor;
 use crate::bells::{Bells, Crews, place_of};
+use crate::blocks::ask_for_crew;
 use nm_chain::seats::Steps;
 use nm_copyring::Rings;
 use nm_outside::Gate;
@@ -124,6 +125,9 @@ fn turns_of<R: Wait, G: Gate>(
         HasSwept f.now.ranks lines.now f.now r.now moved actors.old actors.new) }
 {
     bells.begin();
+    if let Some(one) = actors.first() {
+        ask_for_crew(one.places.allocator());
+    }
     let (mut moved, mut next) = sweep(actors, true, 0, lines, f, r, gate, bells)?;
     for made in 1..turns {
         let Some(due) = bells.next(rt, crew, next) else {

@@ -24,6 +24,7 @@ ghost use Rattle.nm_world.specs.Runs.{IsStillAt, IsWhole, NewInOrder, PairAgrees
 
 use crate::Actor;
 use crate::bells::Crews;
+use crate::blocks::ask_for_run;
 use crate::by_rank::places_by_rank;
 use crate::laws::{a_still_actor_ends, actors_at_rest_make_a_run};
 use crate::records::{Parts, add, parts_of};
@@ -206,6 +207,7 @@ fn run_lines<R: Threads + Wait + Sync, G: Gate + Sync>(
     ensures account { IfOk result (λ x. x.0.cells ≡ x.1.cells.cells) }
     ensures done { IfOk result (λ x. x.0.done ≡ are_done (ends_of x.0.ranks)) }
 {
+    ask_for_run(alloc);
     let ranks = shape.ranks();
     let places = places_by_rank(alloc, ranks, lines)?;
     let (fabric, ports) = Fabric::<Packet>::build(alloc, shape)?;
