@@ -25,7 +25,7 @@ mod Owing
 mod Packets
 pub mod PieceLemmas
 mod Results
-mod Rows
+mod RowLemmas
 mod Showing
 mod Starting
 mod Stood

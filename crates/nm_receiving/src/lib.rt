@@ -31,6 +31,7 @@ mod bytes;
 pub mod laws;
 mod receipts;
 mod receivings;
+mod rows;
 pub mod streams;
 mod telling;
 

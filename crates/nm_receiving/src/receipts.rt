@@ -3,8 +3,10 @@
 ghost use Rattle.std.specs.Prelude.{◌≡◌, ◌<◌, [], ◌∷◌, ◌++◌, length, replicate, slice_index, if◌then◌else◌};
 ghost use Rattle.std.specs.Prelude.{slice_set, false, Some, IfOk, IfSome, IsSome, OnOk};
 ghost use Rattle.std.specs.List.{slice_get};
+ghost use Rattle.std.specs.Option.{option_map_or};
 ghost use Rattle.nm_receiving.specs.Steps.{rows_from, with_whole, with_taken};
 
+use crate::rows::Row;
 use nm_types::{Arrival, Memory};
 use std::alloc::Global;
 use std::marker::Model;
@@ -46,7 +48,7 @@ impl Receive {
 
 /// The messages that came, by sender and number.
 pub(crate) struct Receipts {
-    rows: Vec<Vec<Receipt>>,
+    rows: Vec<Row>,
 }
 
 impl Drop for Receipts {
@@ -56,15 +58,15 @@ impl Drop for Receipts {
 }
 
 impl Model for Receipts {
-    ghost use Rattle.std.specs.Prelude.{◌-◌, map, vec_capacity, vec_len};
+    ghost use Rattle.std.specs.Prelude.{map};
     ghost use Rattle.nm_receiving.specs.Steps.{ReceiptsView};
 
     ghost Value = { ReceiptsView };
 
     ghost view = { λ a.
         record {
-          rows = map (λ v. v.items) a.rows.items;
-          room = map (λ v. vec_capacity v - vec_len v) a.rows.items;
+          rows = map (λ row. row.messages) a.rows.items;
+          room = map (λ row. row.room) a.rows.items;
         } };
 }
 
@@ -75,7 +77,7 @@ impl Receipts {
     {
         let mut rows = Vec::new(alloc);
         for _ in 0..ranks {
-            rows.push(Vec::new(alloc))?;
+            rows.push(Row::new(alloc))?;
         }
         Ok(Receipts { rows })
     }
@@ -85,7 +87,7 @@ impl Receipts {
         requires { from < length self.now.rows }
         ensures { result ≡ length (rows_from self.now.rows from) }
     {
-        self.rows[from as usize].len() as u64
+        self.rows[from as usize].count()
     }
 
     /// Makes room for one message more of a sender.
@@ -94,18 +96,19 @@ impl Receipts {
         ensures rows { self.new.rows ≡ self.old.rows }
         ensures ok { OnOk result (0 < slice_index self.new.room from) }
     {
-        self.rows[from as usize].reserve(1)?;
+        self.rows[from as usize].reserve()?;
         Ok(())
     }
 
     /// Adds the next message of a sender. There is room for it.
     pub(crate) fn push(&mut self, from: u8, receipt: Receipt)
         requires from { from < length self.old.rows }
+        requires number { receipt.arrival.n ≡ length (rows_from self.old.rows from) }
         requires room { 0 < slice_index self.old.room from }
         ensures { self.new.rows
             ≡ slice_set self.old.rows from (rows_from self.old.rows from ++ receipt ∷ []) }
     {
-        self.rows[from as usize].push_reserved(receipt);
+        self.rows[from as usize].push(receipt);
     }
 
     /// Message `n` of a sender is here whole, where this is true.
@@ -116,7 +119,7 @@ impl Receipts {
             else self.old.rows) }
     {
         if whole {
-            self.rows[from as usize][n as usize].whole = true;
+            self.rows[from as usize].make_whole(n);
         }
     }
 
@@ -125,7 +128,16 @@ impl Receipts {
         requires { IsSome (slice_get (rows_from self.now.rows from) n) }
         ensures { slice_get (rows_from self.now.rows from) n ≡ Some result }
     {
-        self.rows[from as usize][n as usize]
+        self.rows[from as usize].get(n)
+    }
+
+    /// Whether message `n` of a sender is here whole.
+    pub(crate) fn is_whole(&self, from: u8, n: u64) -> bool
+        requires { IsSome (slice_get (rows_from self.now.rows from) n) }
+        ensures { result
+            ≡ option_map_or (λ r. r.whole) (slice_get (rows_from self.now.rows from) n) false }
+    {
+        self.rows[from as usize].is_whole(n)
     }
 }
 

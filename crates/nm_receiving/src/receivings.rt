@@ -384,7 +384,7 @@ impl Receiving {
             receive.now.taken false }
     {
         match receive.taken {
-            Some(a) => self.receipts.get(a.env.from, a.n).whole,
+            Some(a) => self.receipts.is_whole(a.env.from, a.n),
             None => false,
         }
     }
@@ -402,7 +402,7 @@ impl Receiving {
             return Some(Answer::Cancelled);
         }
         let a = receive.taken?;
-        if !self.receipts.get(a.env.from, a.n).whole {
+        if !self.receipts.is_whole(a.env.from, a.n) {
             return None;
         }
         let bytes = take_bytes(&mut self.joiner, &mut self.grants, &a);

@@ -1,15 +1,27 @@
-use Rattle.std.proofs.Common.{◌<◌, length, sym, subst, Vec, Global}
+use Rattle.std.proofs.Common.{◌≡◌, ◌<◌, length, sym, ◌∙◌, ap, subst}
+use Rattle.std.proofs.Common.{List}
 use Rattle.nm_receiving.specs.declared.receipts.Receipt.{Receipt}
-use Rattle.nm_receiving.specs.Steps.{ReceiptsView}
+use Rattle.nm_receiving.specs.Rows.{RowView}
+use Rattle.nm_receiving.specs.Steps.{ReceiptsView, rows_from}
 use Rattle.nm_receiving.proofs.receipts.Receipts.push.Goals as goal
-use Rattle.nm_types.proofs.RowLemmas.{row-push, row_inside}
+use Rattle.nm_types.proofs.RowLemmas.{row-push, row_at, row_inside}
+
+pub push-requires-clause-number : goal.push-requires-clause-number
+push-requires-clause-number c =
+    let inside = row_inside (λ (row : RowView). row.messages) c.self.inside.rows.items c.args.from
+    (subst (λ (k : ReceiptsView). c.args.from < length k.rows) (sym c.self.view_is) c.requires.from) in
+    subst (λ (k : ReceiptsView). c.args.receipt.arrival.n ≡ length (rows_from k.rows c.args.from))
+    (sym c.self.view_is) c.requires.number
+    ∙ ap (λ (rs : List Receipt). length rs)
+    (row_at (λ (row : RowView). row.messages) c.self.inside.rows.items c.args.from c.index_mut.result.now _ inside
+    c.index_mut.ensures.value)
 
 pub returns : goal.returns
 returns c =
-    let inside = row_inside (λ (v : Vec Receipt Global). v.items) c.self.inside.rows.items c.args.from
+    let inside = row_inside (λ (row : RowView). row.messages) c.self.inside.rows.items c.args.from
     (subst (λ (k : ReceiptsView). c.args.from < length k.rows) (sym c.self.view_is) c.requires.from)
     in
     rw (← c.self.view_is)
-    (row-push (λ (v : Vec Receipt Global). v.items) c.self.inside.rows.items c.args.from
-    c.index_mut.result.now c.push_reserved.new.self c.args.receipt inside c.index_mut.ensures.value
-    c.push_reserved.ensures.items)
+    (row-push (λ (row : RowView). row.messages) c.self.inside.rows.items c.args.from
+    c.index_mut.result.now c.push.new.self c.args.receipt inside c.index_mut.ensures.value
+    c.push.ensures)

@@ -4,7 +4,7 @@ use Rattle.std.proofs.Common.{get_or, refl, sym, ◌∙◌, ap, subst}
 use Rattle.std.specs.List.{slice_get}
 use Rattle.std.specs.Option.{option_map_or}
 use Rattle.std.proofs.Math.ListN.{set}
-use Rattle.std.proofs.lemmas.Bool.{not-false, not-true, true≢false}
+use Rattle.std.proofs.lemmas.Bool.{true≢false}
 use Rattle.std.proofs.lemmas.Option.{same_Some, slice_get_read}
 use Rattle.nm_types.specs.Sizes.{Sizes}
 use Rattle.nm_types.specs.declared.answers.Answer.{Answer}
@@ -24,7 +24,7 @@ use Rattle.nm_receiving.specs.declared.receipts.Receive.{Receive}
 use Rattle.nm_receiving.specs.Calls.{FinishesReceive}
 use Rattle.nm_receiving.specs.Kept.{ReceivingInvariant}
 use Rattle.nm_receiving.specs.Receipts.{ReceivingView, SameOtherBytes, ShowsBytes, granted_to, pair_at}
-use Rattle.nm_receiving.specs.Receipts.{stream_of}
+use Rattle.nm_receiving.specs.Receipts.{receipt_of, stream_of}
 use Rattle.nm_receiving.specs.Received.{AreReceived}
 use Rattle.nm_receiving.specs.Seen.{seen}
 use Rattle.nm_receiving.specs.Steps.{IsThere, bytes_there, has_ended, streams_of, with_ended}
@@ -41,6 +41,15 @@ read_at : (rs : List Receive) (number : ℕ) (r : Receive) → number < length r
     slice_get rs number ≡ Some r
 read_at rs number r below is = slice_get_read rs (length rs) number r refl below is
 
+-- the message that the receive took, as it came, and whether it is whole
+taken_came : (v : ReceivingView) → ReceivingInvariant v → (number : ℕ) (r : Receive) →
+    slice_get v.receives number ≡ Some r → (a : Arrival) → r.taken ≡ Some a → (b : Bool) →
+    b ≡ option_map_or (λ q. q.whole) (receipt_of v a.env.from a.n) false
+    → (q : Receipt) × (receipt_of v a.env.from a.n ≡ Some q) × (q.whole ≡ b)
+taken_came v kept number r here a was b is =
+    let had = kept.tables.taken number r a here was in
+    (had.0, had.1.0, sym (is ∙ ap (λ (o : Option Receipt). option_map_or (λ q. q.whole) o false) had.1.0))
+
 pub invariant_of-self : goal.invariant_of-self
 invariant_of-self c =
     let below = subst (λ (v : ReceivingView). c.args.number < length v.receives) (sym c.self.view_is) c.requires.known
@@ -48,8 +57,8 @@ invariant_of-self c =
     kept-ended (seen c.self.inside) c.self.invariant c.args.number c.index_mut.result.now
     (read_at c.self.inside.receives.items c.args.number c.index_mut.result.now below c.index_mut.ensures.value)
 
-pub get-requires : goal.get-requires
-get-requires c =
+pub is_whole-requires : goal.is_whole-requires
+is_whole-requires c =
     let below = subst (λ (v : ReceivingView). c.args.number < length v.receives) (sym c.self.view_is) c.requires.known
     in
     let had = c.self.invariant.tables.taken c.args.number c.index-receive.result.now c.in_ok-a.a
@@ -68,8 +77,10 @@ take_bytes-bytes-requires-clause-here c =
     let live = ap (λ (o : Option Receive). option_map_or (λ r. r.ended) o false) (sym here)
     ∙ ap (λ (v : ReceivingView). option_map_or (λ r. r.ended) (slice_get v.receives c.args.number) false)
     c.self.view_is ∙ c.requires.live in
-    let there = bytes_there_now v c.self.invariant c.args.number r here live a c.in_ok-a.was c.get.result c.get.ensures
-    (not-false c.get.result.whole c.if-not-get.false) in
+    let came = taken_came v c.self.invariant c.args.number r here a c.in_ok-a.was c.is_whole.result c.is_whole.ensures
+    in
+    let there = bytes_there_now v c.self.invariant c.args.number r here live a c.in_ok-a.was came.0 came.1
+    (came.2 ∙ c.if-not-is_whole.false) in
     subst (λ (s : Stream). IsThere s (granted_to v a.env.from) a)
     (stream_at c.self.inside.joiner a.env.from (taken_from v c.self.invariant c.args.number r here a c.in_ok-a.was))
     there
@@ -103,8 +114,11 @@ module _ (c : goal.After-shown) where
   again = same_Some r c.index_mut-2.result.now (sym here
       ∙ read_at c.self.inside.receives.items number c.index_mut-2.result.now below c.index_mut-2.ensures.value)
 
-  whole : c.get.result.whole ≡ true
-  whole = not-false c.get.result.whole c.if-not-get.false
+  came : (q : Receipt) × (receipt_of v a.env.from a.n ≡ Some q) × (q.whole ≡ c.is_whole.result)
+  came = taken_came v c.self.invariant number r here a c.in_ok-a.was c.is_whole.result c.is_whole.ensures
+
+  whole : came.0.whole ≡ true
+  whole = came.2 ∙ c.if-not-is_whole.false
 
   sender : a.env.from < v.sizes.ranks
   sender = taken_from v c.self.invariant number r here a c.in_ok-a.was
@@ -139,14 +153,14 @@ module _ (c : goal.After-shown) where
 
   kept_after : ReceivingInvariant (done c.index_mut-2.result.now)
   kept_after = subst (λ (r : Receive). ReceivingInvariant (done r)) again
-      (kept-finished v c.self.invariant number r here live a c.in_ok-a.was c.get.result c.get.ensures whole sender left
+      (kept-finished v c.self.invariant number r here live a c.in_ok-a.was came.0 came.1 whole sender left
       c.take_bytes-bytes.new.joiner.sizes (streams_of c.take_bytes-bytes.new.joiner)
       c.take_bytes-bytes.new.grants.grants
       c.take_bytes-bytes.ensures.joined.sizes streams_are c.take_bytes-bytes.ensures.grants)
 
   received_after : (h : List Event) → AreReceived v h → AreReceived (done c.index_mut-2.result.now) h
   received_after h received = subst (λ (r : Receive). AreReceived (done r) h) again
-      (received-finished v c.self.invariant number r here live a c.in_ok-a.was c.get.result c.get.ensures whole sender
+      (received-finished v c.self.invariant number r here live a c.in_ok-a.was came.0 came.1 whole sender
       left
       c.take_bytes-bytes.new.joiner.sizes (streams_of c.take_bytes-bytes.new.joiner)
       c.take_bytes-bytes.new.grants.grants
@@ -155,7 +169,7 @@ module _ (c : goal.After-shown) where
   streams_after : (i : ℕ) → ((stream_of (done c.index_mut-2.result.now) i).count ≡ (stream_of v i).count)
       × (missing (stream_of (done c.index_mut-2.result.now) i) ≡ missing (stream_of v i))
   streams_after i =
-      streams-finished v c.self.invariant number r here live a c.in_ok-a.was c.get.result c.get.ensures whole sender
+      streams-finished v c.self.invariant number r here live a c.in_ok-a.was came.0 came.1 whole sender
       left
       c.take_bytes-bytes.new.joiner.sizes (streams_of c.take_bytes-bytes.new.joiner)
       c.take_bytes-bytes.new.grants.grants
@@ -163,7 +177,7 @@ module _ (c : goal.After-shown) where
 
   bytes_after : SameOtherBytes (pair_at v number) v (done c.index_mut-2.result.now)
   bytes_after = subst (λ (r : Receive). SameOtherBytes (pair_at v number) v (done r)) again
-      (bytes-finished v c.self.invariant number r here live a c.in_ok-a.was c.get.result c.get.ensures whole
+      (bytes-finished v c.self.invariant number r here live a c.in_ok-a.was came.0 came.1 whole
       sender left c.take_bytes-bytes.new.joiner.sizes (streams_of c.take_bytes-bytes.new.joiner)
       c.take_bytes-bytes.new.grants.grants c.take_bytes-bytes.ensures.joined.sizes streams_are
       c.take_bytes-bytes.ensures.grants)
@@ -173,7 +187,7 @@ module _ (c : goal.After-shown) where
   value_after h received =
       ap Some (ap (λ (x : Answer). answer_without_bytes x) c.shown.ensures
       ∙ shown_is number r.cap a c.take_bytes-bytes.result c.take_bytes-bytes.ensures.len)
-      ∙ sym (result_taken v h received number r here c.if-receive.false a c.in_ok-a.was c.get.result c.get.ensures
+      ∙ sym (result_taken v h received number r here c.if-receive.false a c.in_ok-a.was came.0 came.1
       ∙ ap (λ (b : Bool). cond b (Some (shown (pair number r.cap a))) None) whole)
 
   body_after : ShowsBytes v number c.shown.result
@@ -235,18 +249,20 @@ returns-in_err-a c =
     (read_at c.self.inside.receives.items number c.index-receive.result.now below c.index-receive.ensures)
     c.if-receive.false c.in_err-a.was))))
 
-pub returns-then-not-get : goal.returns-then-not-get
-returns-then-not-get c =
+pub returns-then-not-is_whole : goal.returns-then-not-is_whole
+returns-then-not-is_whole c =
     let v : ReceivingView = seen c.self.inside in
     let number = c.args.number in
     let below = subst (λ (w : ReceivingView). number < length w.receives) (sym c.self.view_is) c.requires.known in
     let r = c.index-receive.result.now in
+    let there = read_at c.self.inside.receives.items number r below c.index-receive.ensures in
+    let came = taken_came v c.self.invariant number r there c.in_ok-a.a c.in_ok-a.was c.is_whole.result
+    c.is_whole.ensures in
     subst (λ (w : ReceivingView). FinishesReceive number None w w) c.self.view_is
-    (gives_none v number (λ h here. sym (result_taken v h here number r
-    (read_at c.self.inside.receives.items number r below c.index-receive.ensures) c.if-receive.false
-    c.in_ok-a.a c.in_ok-a.was c.get.result c.get.ensures
+    (gives_none v number (λ h here. sym (result_taken v h here number r there c.if-receive.false
+    c.in_ok-a.a c.in_ok-a.was came.0 came.1
     ∙ ap (λ (b : Bool). cond b (Some (shown (pair number r.cap c.in_ok-a.a))) None)
-    (not-true c.get.result.whole c.if-not-get.true))))
+    (came.2 ∙ c.if-not-is_whole.true))))
 
 pub returns : goal.returns
 returns c =

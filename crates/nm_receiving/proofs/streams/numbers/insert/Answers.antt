@@ -1,4 +1,4 @@
-use Rattle.std.proofs.Common.{◌≡◌, ◌∙◌}
+use Rattle.std.proofs.Common.{◌∙◌}
 use Rattle.nm_receiving.proofs.NumberLemmas.{insert_key-new}
 use Rattle.nm_receiving.proofs.streams.numbers.insert.Goals as goal
 
