@@ -1,7 +1,7 @@
 -- What the names of a process stand for, one call of its rank after another.
 use Rattle.std.proofs.Common.{◌≡◌, ◌≢◌, ℕ, ◌<◌, Bool, true, false, cond, Option, Some, None, List, refl}
 use Rattle.std.proofs.Common.{sym, ◌∙◌, ap, subst, arith}
-use Rattle.std.specs.Prelude.{IfSome, IsSome, nat_eq, option_map, option_and_then}
+use Rattle.std.specs.Prelude.{IfSome, nat_eq, option_map, option_and_then}
 use Rattle.std.specs.Map.{lookup}
 use Rattle.std.proofs.lemmas.Bool.Decides.{nat_tests}
 use Rattle.nm_request.specs.declared.Kind.{Kind}

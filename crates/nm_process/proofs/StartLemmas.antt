@@ -1,7 +1,7 @@
 -- What a start does to a process.
 use Rattle.std.proofs.Common.{◌≡◌, ℕ, ◌+◌, ◌≤◌, Bool, true, false, cond, Option, Some, None, List, []}
 use Rattle.std.proofs.Common.{◌∷◌, ◌++◌, length, refl, sym, ◌∙◌, ap, subst, arith}
-use Rattle.std.specs.Prelude.{nat_eq, option_and_then, option_map, if◌then◌else◌, is_some, IfOk}
+use Rattle.std.specs.Prelude.{nat_eq, option_map, if◌then◌else◌, is_some, IfOk}
 use Rattle.std.specs.Prelude.{OnOk}
 use Rattle.std.proofs.Common.{Ok, Err, Result}
 use Rattle.std.specs.Map.{lookup}
@@ -19,7 +19,7 @@ use Rattle.nm_history.specs.Effects.{whole_if}
 use Rattle.nm_request.specs.declared.Kind.{Kind}
 use Rattle.nm_request.specs.declared.Kind.TheVariants as kind
 use Rattle.nm_request.specs.declared.Req.{Req}
-use Rattle.nm_request.specs.Requests.{AddsRequest, kind_of}
+use Rattle.nm_request.specs.Requests.{AddsRequest}
 use Rattle.nm_receiving.specs.Receipts.{is_empty_ask, taken_events}
 use Rattle.nm_rank.specs.Calls.{Starts}
 use Rattle.nm_rank.specs.Ranks.{RankView, request_of}

@@ -37,6 +37,8 @@ pub struct Process {
     pub(crate) rank: Rank,
     // by name, also of requests that have ended
     pub(crate) requests: Named<Req>,
+    // the place there of the request that was last to end: the next one is mostly beside it
+    pub(crate) found: usize,
     // by name of a handle
     pub(crate) handles: Named<Handle>,
     // where its commands stand in the script, in order
@@ -53,6 +55,7 @@ impl Drop for Process {
             me: _,
             rank: _,
             requests: _,
+            found: _,
             handles: _,
             own: _,
             next: _,
@@ -142,6 +145,7 @@ impl Process {
             me: _,
             rank,
             requests,
+            found: _,
             handles,
             own,
             next: _,
@@ -179,6 +183,7 @@ impl Process {
             me,
             rank: Rank::with_capacity(alloc, shape, me, events)?,
             requests,
+            found: 0,
             handles: IndexMap::with_hasher(alloc, ByName),
             own,
             next,

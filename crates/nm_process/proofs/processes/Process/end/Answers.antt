@@ -48,9 +48,9 @@ pub invariant_of-self : goal.invariant_of-self
 invariant_of-self c =
     let p = c.self.inside in
     let i = c.self.invariant in
-    let is : lookup (nat_eq c.args.q) p.requests.entries ≡ Some c.in-Some.request =
-    sym c.request_of_name.ensures ∙ c.in-Some.is in
-    let stands = asked p.rank c.finish.new.self c.in-Some.request p.requests.entries c.args.q
+    let is : lookup (nat_eq c.args.q) p.requests.entries ≡ Some c.in-Some.found.request =
+    c.in-Some.ensures.some in
+    let stands = asked p.rank c.finish.new.self c.in-Some.found.request p.requests.entries c.args.q
     c.finish.result i.0 is c.finish.ensures.finishes c.finish.ensures.err in (
       stands.0,
       subst (λ (h : List Event). AreHeld h p.handles.entries) stands.1 i.1,
@@ -65,9 +65,8 @@ returns-clause-ends c =
     let w = c.finish.new.self in
     let q = c.args.q in
     let i = c.self.invariant in
-    let request = c.in-Some.request in
-    let is : lookup (nat_eq q) p.requests.entries ≡ Some request = sym c.request_of_name.ensures
-    ∙ c.in-Some.is in
+    let request = c.in-Some.found.request in
+    let is : lookup (nat_eq q) p.requests.entries ≡ Some request = c.in-Some.ensures.some in
     let a : ProcessView = record {
       rank = p.rank;
       own = p.own.items;
@@ -96,10 +95,10 @@ returns-clause-ends c =
 pub returns-clause-null : goal.returns-clause-null
 returns-clause-null c none =
     let p = c.self.inside in
-    let is : lookup (nat_eq c.args.q) p.requests.entries ≡ Some c.in-Some.request =
-    sym c.request_of_name.ensures ∙ c.in-Some.is in
+    let is : lookup (nat_eq c.args.q) p.requests.entries ≡ Some c.in-Some.found.request =
+    c.in-Some.ensures.some in
     subst (λ (v : ProcessView). named v c.args.q ≡ None) c.self.view_is
-    (named_none p.rank.requests p.requests.entries c.args.q c.in-Some.request is
+    (named_none p.rank.requests p.requests.entries c.args.q c.in-Some.found.request is
     (c.finish.ensures.no_such.1 none))
 
 -- a request that isn't complete is live
@@ -114,9 +113,8 @@ pub returns-clause-pending : goal.returns-clause-pending
 returns-clause-pending c late =
     let p = c.self.inside in
     let q = c.args.q in
-    let request = c.in-Some.request in
-    let is : lookup (nat_eq q) p.requests.entries ≡ Some request = sym c.request_of_name.ensures
-    ∙ c.in-Some.is in
+    let request = c.in-Some.found.request in
+    let is : lookup (nat_eq q) p.requests.entries ≡ Some request = c.in-Some.ensures.some in
     let a : ProcessView = record {
       rank = p.rank;
       own = p.own.items;

@@ -9,15 +9,15 @@ pub invariant_of-result : goal.invariant_of-result
 invariant_of-result c = (
   none_given _ c.in_ok-requests.requests.entries c.in_ok-requests.ensures.empty,
   none_held _ c.with_hasher.result.entries c.with_hasher.ensures.empty,
-  sym c.in_ok-new.ensures.me,
+  sym c.in_ok-with_capacity.ensures.me,
   omega arith,
   are_ahead c.args.lines.now c.args.me c.args.own.items c.requires.places,
 )
 
 pub returns-clause-begins : goal.returns-clause-begins
 returns-clause-begins c =
-    let v = c.in_ok-new.field-0 in
-    let e = c.in_ok-new.ensures in
+    let v = c.in_ok-with_capacity.field-0 in
+    let e = c.in_ok-with_capacity.ensures in
     let stands : c.place_at-next.result ≡ place_at c.args.own.items c.args.lines.now 0 = cc in (
       refl,
       begins c.args.shape c.args.lines.now v c.args.own.items c.place_at-next.result

@@ -1,7 +1,5 @@
 -- A process starts a receive.
 use Rattle.std.proofs.Common.{◌≡◌, None, inr, ℕ, List, [], length, sym, ◌∙◌, ap, subst, arith}
-use Rattle.std.specs.Prelude.{nat_eq}
-use Rattle.std.specs.Map.{lookup}
 use Rattle.nm_history.specs.Matching.{first_message, matched_pairs}
 use Rattle.nm_history.specs.Sends.{Sent, receives}
 use Rattle.nm_request.specs.declared.Kind.TheVariants as kind

@@ -1,7 +1,5 @@
 -- A process starts a send.
 use Rattle.std.proofs.Common.{◌≡◌, None, inr, ℕ, List, length, refl, sym, ◌∙◌, ap, subst, arith}
-use Rattle.std.specs.Prelude.{nat_eq}
-use Rattle.std.specs.Map.{lookup}
 use Rattle.nm_types.specs.Bodies.{bytes_of}
 use Rattle.nm_history.specs.Sends.{Sent, sends}
 use Rattle.nm_request.specs.declared.Kind.TheVariants as kind
