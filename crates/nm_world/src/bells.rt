@@ -43,6 +43,7 @@
 //! all crews are tried again. Where one crew alone was at work for other reasons, little is lost by it.
 
 use crate::Actor;
+use crate::blocks::{PAGES, pages_ahead, write_up_to};
 use nm_types::Memory;
 use std::alloc::Global;
 use std::sync::Wait;
@@ -102,6 +103,20 @@ impl Crew {
         0
     }
 
+    // Readies memory for what comes, until something is rung. It answers what was rung.
+    fn ready(&self, alloc: Global) -> u64 {
+        let Ok(mut block) = pages_ahead(alloc) else {
+            return 0;
+        };
+        for page in 0..PAGES {
+            if self.bell.load(Ordering::SeqCst) != 0 {
+                return self.answer();
+            }
+            write_up_to(&mut block, page);
+        }
+        0
+    }
+
     // Turns the bell from one word to another, unless it is another one already.
     fn turns(&self, from: u64, to: u64) -> bool {
         self.bell
@@ -137,6 +152,7 @@ pub(crate) struct Bells {
     had: AtomicU64,
     // whether a crew was rung late
     late: AtomicBool,
+    alloc: Global,
 }
 
 /// In how many crews the turns of a run are made.
@@ -211,6 +227,7 @@ impl Bells {
             begun: AtomicU64::new(0),
             had: AtomicU64::new(0),
             late: AtomicBool::new(false),
+            alloc,
         })
     }
 
@@ -287,12 +304,15 @@ impl Bells {
     }
 
     /// Which places of a crew may have something to do: these, and what was rung. Where there is none it
-    /// waits until there is. `None` ends its turns.
+    /// waits until there is: it looks for a while, readies memory, and then sleeps. `None` ends its turns.
     pub fn next<R: Wait>(&self, rt: &R, crew: usize, due: u64) -> Option<u64> {
         let crew = self.crews.get(crew)?;
         let mut rung = crew.answer();
         if due | rung == 0 {
             rung = crew.look();
+        }
+        if due | rung == 0 {
+            rung = crew.ready(self.alloc);
         }
         if due | rung == 0 {
             if !self.sleep(rt, crew) {

@@ -5,7 +5,11 @@
 //! system for each page or two while the other threads wait for theirs. One that maps large requests by
 //! themselves, and gives back what is free at the end of an arena, does so from then on only beyond the
 //! size of the largest block that it took back (glibc does so: `mallopt(3)`, M_MMAP_THRESHOLD). Nothing is
-//! kept or touched, and where there is no such block, nothing is lost.
+//! kept, and where there is no such block, nothing is lost.
+//!
+//! A page of memory is there when it is first written to, which takes the system some microseconds. A crew
+//! that has nothing to do writes to some, of a block that it gives back then, so that they are there when
+//! something comes.
 
 use nm_types::Memory;
 use std::alloc::Global;
@@ -18,6 +22,12 @@ const CREW: usize = 2_097_152;
 
 /// The block for what comes to a rank, in bytes.
 pub(crate) const RANK: usize = 1_048_576;
+
+/// How many pages a crew that has nothing to do writes to.
+pub(crate) const PAGES: usize = 32;
+
+/// The bytes of a page.
+const PAGE: usize = 4096;
 
 // A block of so many bytes.
 fn block(alloc: Global, bytes: usize) -> Result<Vec<u8>, Memory> {
@@ -37,4 +47,14 @@ pub(crate) fn ask_for_crew(alloc: Global) {
 /// Asks for the block of a rank, in the thread in which its turns are made.
 pub(crate) fn ask_for_rank(alloc: Global) {
     let _ = block(alloc, RANK);
+}
+
+/// A block of so many pages, nothing of which is written.
+pub(crate) fn pages_ahead(alloc: Global) -> Result<Vec<u8>, Memory> {
+    block(alloc, PAGES * PAGE)
+}
+
+/// Writes to the pages of such a block up to this one, from 0.
+pub(crate) fn write_up_to(block: &mut Vec<u8>, page: usize) {
+    let _ = block.resize(page.saturating_add(1).saturating_mul(PAGE), 0);
 }
