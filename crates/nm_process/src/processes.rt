@@ -37,7 +37,7 @@ pub struct Process {
     pub(crate) rank: Rank,
     // by name, also of requests that have ended
     pub(crate) requests: Named<Req>,
-    // the place there of the request that was last to end: the next one is mostly beside it
+    // the place there of the request that was asked for last: the next one is mostly beside it
     pub(crate) found: usize,
     // by name of a handle
     pub(crate) handles: Named<Handle>,

@@ -124,7 +124,7 @@ impl Rank {
         Rank::with_capacity(alloc, shape, me, 0)
     }
 
-    /// The same, with room for so many events, which are then never moved to make more.
+    /// The same, with room for so many events: the history is laid anew only where more happen.
     pub fn with_capacity(alloc: Global, shape: Shape, me: u8, events: usize) -> Result<Rank, Memory>
         requires { me < shape.ranks }
         ensures { IfOk result (IsNew shape me) }
