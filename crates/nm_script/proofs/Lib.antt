@@ -20,5 +20,6 @@ pub mod ReadLemmas
 mod RuleLemmas
 pub mod StepLemmas
 pub mod TextLemmas
+mod WayLemmas
 pub mod WordLemmas
 pub mod WordsStepLemmas

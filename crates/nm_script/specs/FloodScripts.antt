@@ -7,6 +7,7 @@ use Rattle.nm_types.specs.declared.messages.TagPick.TheVariants as pick
 use Rattle.nm_types.specs.declared.scripts.Body.TheVariants.{Gen}
 use Rattle.nm_types.specs.declared.scripts.Command.TheVariants.{Send, Recv, Wait}
 use Rattle.nm_types.specs.declared.scripts.Line.{Line}
+use Rattle.nm_script.specs.declared.flood.ways.Way.{Way}
 
 -- the rank that message k comes from
 abbrev pub sender : ℕ → ℕ → ℕ
@@ -15,6 +16,10 @@ sender ranks k = k % ranks
 -- the rank that it goes to
 abbrev pub destination : ℕ → ℕ → ℕ → ℕ
 destination key ranks k = (sender ranks k + k / ranks + key) % ranks
+
+-- both
+abbrev pub way : ℕ → ℕ → ℕ → Way
+way key ranks k = record { from = sender ranks k; to = destination key ranks k }
 
 -- its tag
 abbrev pub tag_of : ℕ → ℕ

@@ -20,5 +20,6 @@
 pub mod laws;
 mod messages;
 mod scripts;
+mod ways;
 
 pub use scripts::flood_script;

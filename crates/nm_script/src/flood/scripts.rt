@@ -6,6 +6,7 @@ ghost use Rattle.nm_script.specs.FloodScripts as spec;
 ghost use Rattle.nm_script.specs.FloodScripts.{flood_lines};
 
 use crate::flood::messages::{receive_line, receiver_waits, send_line, sender_waits};
+use crate::flood::ways::Way;
 use nm_types::{Line, Lines, Memory, Script};
 use std::alloc::Global;
 
@@ -15,8 +16,10 @@ fn push_sends(lines: &mut Vec<Line>, key: u16, ranks: u8, messages: u16) -> Resu
     ensures { OnOk result (lines.new.items
         ≡ lines.old.items ++ map (spec.send_line key ranks) (range_with_len 0 messages)) }
 {
+    let mut way = Way::of(key, ranks, 0);
     for k in 0..messages {
-        lines.push(send_line(key, ranks, k))?;
+        lines.push(send_line(way, key, k))?;
+        way = way.next(ranks);
     }
     Ok(())
 }
@@ -29,20 +32,29 @@ fn push_receives(lines: &mut Vec<Line>, key: u16, ranks: u8, messages: u16) -> R
         ≡ lines.old.items
         ++ map (spec.receive_line key ranks) (reverse (range_with_len 0 messages))) }
 {
+    let mut way = Way::of(key, ranks, messages);
     for k in (0..messages).rev() {
-        lines.push(receive_line(key, ranks, k))?;
+        way = way.before(ranks);
+        lines.push(receive_line(way, k))?;
     }
     Ok(())
 }
 
 /// Puts the waits for all sends.
-fn push_sender_waits(lines: &mut Vec<Line>, ranks: u8, messages: u16) -> Result<(), Memory>
+fn push_sender_waits(
+    lines: &mut Vec<Line>,
+    key: u16,
+    ranks: u8,
+    messages: u16,
+) -> Result<(), Memory>
     requires { 1 ≤ ranks }
     ensures { OnOk result (lines.new.items
         ≡ lines.old.items ++ map (spec.sender_waits ranks) (range_with_len 0 messages)) }
 {
+    let mut way = Way::of(key, ranks, 0);
     for k in 0..messages {
-        lines.push(sender_waits(ranks, k))?;
+        lines.push(sender_waits(way, k))?;
+        way = way.next(ranks);
     }
     Ok(())
 }
@@ -59,8 +71,10 @@ fn push_receiver_waits(
     ensures { OnOk result (lines.new.items
         ≡ lines.old.items ++ map (spec.receiver_waits key ranks) (range_with_len 0 messages)) }
 {
+    let mut way = Way::of(key, ranks, 0);
     for k in 0..messages {
-        lines.push(receiver_waits(key, ranks, k))?;
+        lines.push(receiver_waits(way, k))?;
+        way = way.next(ranks);
     }
     Ok(())
 }
@@ -79,7 +93,7 @@ pub fn flood_script(alloc: Global, key: u16, ranks: u8, messages: u16) -> Result
     let mut lines = Vec::with_capacity(alloc, 4 * usize::from(messages))?;
     push_sends(&mut lines, key, ranks, messages)?;
     push_receives(&mut lines, key, ranks, messages)?;
-    push_sender_waits(&mut lines, ranks, messages)?;
+    push_sender_waits(&mut lines, key, ranks, messages)?;
     push_receiver_waits(&mut lines, key, ranks, messages)?;
     Ok(Script {
         ranks,

@@ -1,5 +1,5 @@
 -- Each line goes on from those before it, and the first fault ends them all.
-use Rattle.std.proofs.Common.{◌≡◌, ◌+◌, [], ◌∷◌, ◌++◌, length, length-append, arith, sym, ap, ◌∙◌}
+use Rattle.std.proofs.Common.{◌≡◌, [], ◌∷◌, length, length-append, arith, sym, ap, ◌∙◌}
 use Rattle.std.proofs.lemmas.List.{nil_from_length}
 use Rattle.std.proofs.lemmas.List.Sums.{sum_by-append, sum_by-cons}
 use Rattle.std.proofs.lemmas.Result.{err_from_is_err_and}
@@ -7,7 +7,7 @@ use Rattle.std.proofs.lemmas.Bool.Decides.{nat_tests}
 use Rattle.nm_types.specs.declared.scripts.Line.{Line}
 use Rattle.nm_types.specs.Limits.{sent_len}
 use Rattle.nm_script.specs.Lines.{lines_of}
-use Rattle.nm_script.specs.Reading.{bodies_len, script_reader}
+use Rattle.nm_script.specs.Reading.{script_reader}
 use Rattle.nm_script.specs.TextReading.{lines_from}
 use Rattle.nm_script.proofs.TextLemmas.{ends, goes_on}
 use Rattle.nm_script.proofs.reading.other_lines.Goals as goal
