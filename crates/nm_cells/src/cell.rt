@@ -1,6 +1,6 @@
 //! Queues by name, and the tokens of cells.
 
-ghost use Rattle.std.specs.Prelude.{◌≡◌, ◌↔◌, IsTrue};
+ghost use Rattle.std.specs.Prelude.{◌≡◌, ◌↔◌, ◌<◌, IsTrue};
 
 /// A queue of cells: the receive queue or the free queue of a rank.
 #[derive(Clone, Copy)]
@@ -12,7 +12,9 @@ pub enum Queue {
 /// A cell in a port's hand. It can't be dropped: each cell goes into a queue again.
 pub struct Cell {
     pub(crate) number: u64,
-    pub(crate) owner: u8,
+    /// A rank. It is as wide as the number, so that a cell has no padding, and is handed over as two words.
+    pub(crate) owner: u64,
+    ghost owner_in_range: { owner < 256 },
 }
 
 /// An enqueue between its exchange of the tail and its last store. It can't be dropped.
@@ -27,7 +29,7 @@ impl Cell {
     pub fn owner(&self) -> u8
         ensures { result ≡ self.now.owner }
     {
-        self.owner
+        self.owner as u8
     }
 }
 

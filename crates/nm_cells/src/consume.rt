@@ -143,10 +143,7 @@ fn first_taken<const B: bool>(
     count_taken::<B>(peers, owner as usize);
     carry(carried, number);
     *hands += 1;
-    Cell {
-        number,
-        owner: owner as u8,
-    }
+    Cell { number, owner }
 }
 
 fn load_link_of<L: Ledger, I: Item, const B: bool>(

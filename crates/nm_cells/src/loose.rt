@@ -58,7 +58,7 @@ impl<I: Item> Port<I> {
         self.loose.first += 1;
         Some(Cell {
             number: first,
-            owner: self.rank,
+            owner: u64::from(self.rank),
         })
     }
 }

@@ -1,4 +1,4 @@
-use Rattle.std.proofs.Common.{◌/◌, ◌<◌, length, refl, sym, ap, ◌∙◌, subst, arith}
+use Rattle.std.proofs.Common.{◌/◌, ◌<◌, length, sym, ap, ◌∙◌, subst, arith}
 use Rattle.nm_chain.specs.Plays.{InHand}
 use Rattle.nm_cells.specs.Ports.{knows}
 use Rattle.nm_cells.proofs.HoldingLemmas.{held_here}
@@ -13,10 +13,10 @@ returns-clause-some g c = let p = c.args.self.now in let e = knows p in
     let some = c.if-end-first.false in let k = p.kept p.loose.first (omega arith, some) in record {
       was = (omega arith, some);
       lowest = λ d i. i.0;
-      own = refl;
+      own = c.from.ensures;
       has = λ f o. (
         subst (λ n. p.loose.first < n) o.4 k.0,
-        sym p.named ∙ sym k.3 ∙ ap (λ m. p.loose.first / m) o.3,
+        c.from.ensures ∙ sym p.named ∙ sym k.3 ∙ ap (λ m. p.loose.first / m) o.3,
         subst InHand (sym k.1) tt,
         λ i. let z = i.0 in absurd (omega arith),
       );
