@@ -5,8 +5,10 @@ mod MessageLemmas
 mod MidLemmas
 mod NameLemmas
 mod PacketLemmas
+mod PageLemmas
 pub mod PlaceLemmas
 mod SameLemmas
+mod SparseLemmas
 mod StartLemmas
 mod StepLemmas
 mod EffectLemmas

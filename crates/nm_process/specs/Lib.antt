@@ -1,8 +1,8 @@
-pub mod Hashes
 pub mod Lines
 pub mod Names
 pub mod Places
 pub mod Processes
+pub mod Sparse
 pub mod Starts
 pub mod Steps
 pub mod Work

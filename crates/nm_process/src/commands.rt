@@ -1,7 +1,7 @@
 //! What each command does.
 
 ghost use Rattle.std.specs.Prelude.{◌≡◌, ◌≢◌, ◌<◌, ◌≤◌, ◌⊎◌, ℕ, None, Some, Err, is_some, nat_eq, IfOk};
-ghost use Rattle.std.specs.Prelude.{IfNone, IfSome, OnErr, OnOk, if◌then◌else◌};
+ghost use Rattle.std.specs.Prelude.{OnErr, OnOk, if◌then◌else◌};
 ghost use Rattle.std.specs.Map.{lookup};
 ghost use Rattle.nm_types.specs.declared.limits.TheConstants.{MAX_BODY, MAX_STAMP, MAX_TAG};
 ghost use Rattle.nm_types.specs.Bodies.{body_len};
@@ -18,8 +18,8 @@ ghost use Rattle.nm_process.specs.Starts.{HasTriedMprobe, HasTriedMrecv, HasTrie
 ghost use Rattle.nm_process.specs.Starts.{HasTriedSend, HasTriedTest, HasTriedWait, IsNull};
 ghost use Rattle.nm_process.specs.Starts.{IsPending, StandsStill, answer_for as answer_for_lem};
 
-use crate::names::Named;
 use crate::{Handle, Process, Step};
+use indexmap::IndexMap;
 use nm_rank::{CancelFault, Cancelled, FinishFault, Rank, Req};
 use nm_types::{Answer, Arrival, Body, Memory, Peer, Seen, TagPick};
 
@@ -45,69 +45,8 @@ fn answer_for(cancelled: Cancelled) -> Answer
     }
 }
 
-/// The request that was last started under this name, if one was. It may have ended.
-pub(crate) fn request_of_name(requests: &Named<Req>, q: u16) -> Option<Req>
-    ensures { result ≡ lookup (nat_eq q) requests.now.entries }
-{
-    requests.get(&q).copied()
-}
-
-// A request that was found under its name, and its place in the order of the names.
-#[derive(Clone, Copy)]
-struct Found {
-    request: Req,
-    place: usize,
-}
-
-// The request at a place in the order of the names, if it is of this name.
-fn request_at(requests: &Named<Req>, place: usize, q: u16) -> Option<Found>
-    ensures some { IfSome result
-        (λ found. lookup (nat_eq q) requests.now.entries ≡ Some found.request) }
-{
-    let (name, request) = requests.get_index(place)?;
-    if *name != q {
-        return None;
-    }
-    Some(Found {
-        request: *request,
-        place,
-    })
-}
-
-// The request of this name, if it stands at this place or beside it.
-fn request_near(requests: &Named<Req>, place: usize, q: u16) -> Option<Found>
-    ensures some { IfSome result
-        (λ found. lookup (nat_eq q) requests.now.entries ≡ Some found.request) }
-{
-    if let Some(found) = request_at(requests, place.wrapping_add(1), q) {
-        return Some(found);
-    }
-    if let Some(found) = request_at(requests, place, q) {
-        return Some(found);
-    }
-    request_at(requests, place.wrapping_sub(1), q)
-}
-
-// The request of this name, as `request_of_name` has it. It is looked for near a place first: a wait
-// that is tried again has the place of its last try, and scripts mostly wait in the order of their
-// starts, or the other way round.
-fn find_request(requests: &Named<Req>, near: usize, q: u16) -> Option<Found>
-    ensures some { IfSome result
-        (λ found. lookup (nat_eq q) requests.now.entries ≡ Some found.request) }
-    ensures none { IfNone result (lookup (nat_eq q) requests.now.entries ≡ None) }
-{
-    if let Some(found) = request_near(requests, near, q) {
-        return Some(found);
-    }
-    let (place, _, request) = requests.get_full(&q)?;
-    Some(Found {
-        request: *request,
-        place,
-    })
-}
-
 /// The message of this handle, if it has one.
-fn message_of_handle(handles: &Named<Handle>, m: u16) -> Option<Handle>
+fn message_of_handle(handles: &IndexMap<u16, Handle>, m: u16) -> Option<Handle>
     ensures { result ≡ lookup (nat_eq m) handles.now.entries }
 {
     handles.get(&m).copied()
@@ -260,7 +199,7 @@ impl Process {
         ensures tried { OnOk result
             (IsNull self.old self.new q line ⊎ HasCancelled self.old self.new q line) }
     {
-        let Some(request) = request_of_name(&self.requests, q) else {
+        let Some(request) = self.requests.get(q) else {
             return self.answer(line, Answer::Null);
         };
         match self.rank.cancel(request) {
@@ -351,7 +290,7 @@ impl Process {
     fn is_taken(&self, q: u16) -> bool
         ensures { result ≡ is_some (named self.now q) }
     {
-        match request_of_name(&self.requests, q) {
+        match self.requests.get(q) {
             Some(request) => self.rank.test(request).is_ok(),
             None => false,
         }
@@ -365,10 +304,9 @@ impl Process {
         ensures still { OnErr result (self.new ≡ self.old) }
         ensures places { StandsStill self.old self.new }
     {
-        let Some(found) = find_request(&self.requests, self.found, q) else {
+        let Some(request) = self.requests.get(q) else {
             return Err(FinishFault::NoSuch);
         };
-        self.found = found.place;
-        self.rank.finish(found.request)
+        self.rank.finish(request)
     }
 }

@@ -21,6 +21,7 @@ mod commands;
 pub mod laws;
 mod names;
 mod passing;
+mod places;
 mod processes;
 mod steps;
 

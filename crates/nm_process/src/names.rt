@@ -1,73 +1,102 @@
-//! What stands for each name: the request of a name of requests, the message of a handle.
-//!
-//! Scripts mostly count their names up. The table of a map finds the group of a key, of twelve places,
-//! by the low bits of its hash, and the place in it by the top byte of 32. So eight names that follow
-//! each other share a group, where they stand side by side, each with a byte of its own there.
-//!
-//! Names that are a multiple of 256 apart mostly go to other groups, by their high bytes. Where more
-//! eighths follow each other than there are groups, those that come round again stand nine groups apart,
-//! among such as have room. Any names are found: those that a script picks against this hash, of which
-//! there are 65,536 at most, only later.
+//! The requests of a process by their names (MPI has handles; a script has names of 16 bits): a sparse set,
+//! by pages (Briggs and Torczon, "An efficient representation for sparse sets", 1993). A name that came is
+//! known by this: where its place says that it stands, it stands. So the places of other names may be any.
 
-ghost use Rattle.std.specs.Prelude.{◌≡◌};
-ghost use Rattle.nm_process.specs.Hashes as spec;
+ghost use Rattle.std.specs.Prelude.{◌≡◌, ℕ, [], None, Some, IfNone, IfOk, IfSome, OnErr, OnOk};
+ghost use Rattle.std.specs.Prelude.{if◌then◌else◌, nat_eq, option_map, slice_get};
+ghost use Rattle.std.specs.Map.{lookup};
 
-use indexmap::IndexMap;
-use std::hash::{BuildHasher, Hasher};
+use crate::places::Places;
+use nm_rank::Req;
+use nm_types::Memory;
+use std::alloc::Global;
+use std::marker::Model;
 
-/// What stands for each of some names.
-pub(crate) type Named<V> = IndexMap<u16, V, ByName>;
-
-/// Makes the hash of a name.
-#[derive(Clone, Copy)]
-pub(crate) struct ByName;
-
-/// The name that is hashed.
-#[derive(Clone, Copy)]
-pub(crate) struct NameHasher {
-    name: u16,
+/// Each name that came, and the request that it was last given.
+pub(crate) struct RequestNames {
+    // in the order in which they came
+    entries: Vec<(u16, Req)>,
+    // where each of them stands there
+    places: Places,
 }
 
-impl BuildHasher for ByName {
-    type Hasher = NameHasher;
-
-    ghost build_hasher = { λ s. record { name = 0 } };
-
-    fn build_hasher(&self) -> NameHasher {
-        NameHasher { name: 0 }
+impl Drop for RequestNames {
+    fn drop(self) {
+        let RequestNames {
+            entries: _,
+            places: _,
+        } = self;
     }
 }
 
-impl Hasher for NameHasher {
-    ghost write = { λ s bytes. record { name = spec.name_of bytes } };
+impl Model for RequestNames {
+    ghost use Rattle.std.specs.Prelude.{ℕ, List};
+    ghost use Rattle.nm_request.specs.declared.Req.{Req};
+    ghost use Rattle.nm_process.specs.Sparse.{StandAt, place_of_name};
 
-    ghost finish = { λ s. spec.hash_of s.name };
+    ghost Value = { List (ℕ × Req) };
 
-    fn finish(&self) -> u64 {
-        hash_of(self.name)
-    }
+    ghost view = { λ a. a.entries.items };
 
-    fn write(&mut self, bytes: &[u8]) {
-        self.name = name_of(bytes);
-    }
+    ghost invariant = { λ a. StandAt (place_of_name a.places) a.entries.items };
 }
 
-// The name that two bytes spell.
-fn name_of(bytes: &[u8]) -> u16
-    ensures { result ≡ spec.name_of bytes.now }
-{
-    match bytes {
-        [low, high] => u16::from_le_bytes([*low, *high]),
-        _ => 0,
+impl RequestNames {
+    /// No name came. There is room for so many.
+    pub(crate) fn with_capacity(alloc: Global, capacity: usize) -> Result<Self, Memory>
+        ensures { IfOk result (λ names. names ≡ []) }
+    {
+        Ok(RequestNames {
+            entries: Vec::with_capacity(alloc, capacity)?,
+            places: Places::new(alloc),
+        })
     }
-}
 
-// The hash of a name.
-fn hash_of(name: u16) -> u64
-    ensures { result ≡ spec.hash_of name }
-{
-    let high = name >> 8;
-    let group = u64::from(name >> 3 ^ high) * 9;
-    let tag = (u64::from(name) + u64::from(high)) % 256;
-    group + tag * 0x100_0000
+    // Where a name stands, if it came.
+    fn find(&self, q: u16) -> Option<usize>
+        ensures some { IfSome result (λ p. option_map (λ e. e.0) (slice_get self.now p) ≡ Some q) }
+        ensures none { IfNone result (lookup (nat_eq q) self.now ≡ None) }
+    {
+        let place = usize::from(self.places.get(q));
+        match self.entries.get(place) {
+            Some((name, _)) if *name == q => Some(place),
+            _ => None,
+        }
+    }
+
+    /// The request that a name was last given.
+    pub(crate) fn get(&self, q: u16) -> Option<Req>
+        ensures { result ≡ lookup (nat_eq q) self.now }
+    {
+        let place = self.find(q)?;
+        Some(self.entries[place].1)
+    }
+
+    /// Gives a name a request.
+    pub(crate) fn insert(&mut self, q: u16, request: Req) -> Result<(), Memory>
+        ensures ok { OnOk result ((k : ℕ) → lookup (nat_eq k) self.new
+            ≡ (if nat_eq q k then Some request else lookup (nat_eq k) self.old)) }
+        ensures err { OnErr result (self.new ≡ self.old) }
+    {
+        match self.find(q) {
+            Some(place) => {
+                self.entries[place] = (q, request);
+                Ok(())
+            }
+            None => self.add(q, request),
+        }
+    }
+
+    // Gives a name its first request.
+    fn add(&mut self, q: u16, request: Req) -> Result<(), Memory>
+        requires new { lookup (nat_eq q) self.old ≡ None }
+        ensures ok { OnOk result ((k : ℕ) → lookup (nat_eq k) self.new
+            ≡ (if nat_eq q k then Some request else lookup (nat_eq k) self.old)) }
+        ensures err { OnErr result (self.new ≡ self.old) }
+    {
+        // it fits: no name stands twice
+        self.places.set(q, self.entries.len() as u16)?;
+        self.entries.push((q, request))?;
+        Ok(())
+    }
 }

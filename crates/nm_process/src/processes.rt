@@ -1,6 +1,6 @@
 //! A process: a rank with its commands, and the names of its requests and messages.
 
-ghost use Rattle.std.specs.Prelude.{◌≡◌, ◌<◌, ◌≤◌, true, false, None, [], length};
+ghost use Rattle.std.specs.Prelude.{◌≡◌, ◌<◌, ◌≤◌, true, false, None, length};
 ghost use Rattle.std.specs.Prelude.{IfOk, IfSome, IfNone};
 ghost use Rattle.std.specs.Prelude.{option_map, slice_get, OnOk};
 ghost use Rattle.nm_types.specs.declared.limits.TheConstants.{MAX_LINES};
@@ -8,7 +8,6 @@ ghost use Rattle.nm_types.specs.declared.scripts.Line.{Line};
 ghost use Rattle.nm_types.specs.Commands.{commands_of};
 ghost use Rattle.nm_types.specs.Limits.{is_in_range};
 ghost use Rattle.nm_types.specs.Sizes.{Sizes};
-ghost use Rattle.nm_request.specs.declared.Req.{Req};
 ghost use Rattle.nm_rank.specs.New.{IsNew};
 ghost use Rattle.nm_rank.specs.Ranks.{IsFresh};
 ghost use Rattle.nm_process.specs.Lines.{AreLines};
@@ -21,12 +20,11 @@ ghost use Rattle.nm_history.specs.Completion.{is_complete};
 ghost use Rattle.std.specs.Option.{option_map_or};
 ghost use Rattle.nm_process.specs.Work.{IsAtWork};
 
-use crate::commands::request_of_name;
-use crate::names::{ByName, Named};
+use crate::names::RequestNames;
 use crate::{Handle, Step};
 use indexmap::IndexMap;
 use nm_history::History;
-use nm_rank::{NoSuch, Rank, Req, State};
+use nm_rank::{NoSuch, Rank, State};
 use nm_types::{Command, Line, Memory, Shape};
 use std::alloc::Global;
 use std::marker::Model;
@@ -36,11 +34,9 @@ pub struct Process {
     pub(crate) me: u8,
     pub(crate) rank: Rank,
     // by name, also of requests that have ended
-    pub(crate) requests: Named<Req>,
-    // the place there of the request that was asked for last: the next one is mostly beside it
-    pub(crate) found: usize,
+    pub(crate) requests: RequestNames,
     // by name of a handle
-    pub(crate) handles: Named<Handle>,
+    pub(crate) handles: IndexMap<u16, Handle>,
     // where its commands stand in the script, in order
     own: Vec<u32>,
     // where its next command stands there, past all lines if there is none
@@ -55,7 +51,6 @@ impl Drop for Process {
             me: _,
             rank: _,
             requests: _,
-            found: _,
             handles: _,
             own: _,
             next: _,
@@ -67,8 +62,8 @@ impl Drop for Process {
 /// What a process kept beside its history: nothing that can be used.
 pub struct Leavings {
     rank: nm_rank::Leavings,
-    requests: Named<Req>,
-    handles: Named<Handle>,
+    requests: RequestNames,
+    handles: IndexMap<u16, Handle>,
     own: Vec<u32>,
 }
 
@@ -103,12 +98,12 @@ impl Model for Process {
           own = p.own.items;
           at = p.at;
           next = p.next;
-          names = p.requests.entries;
+          names = p.requests;
           handles = p.handles.entries;
         } };
 
     ghost invariant = { λ p.
-        AreGiven p.rank.requests p.requests.entries
+        AreGiven p.rank.requests p.requests
         × AreHeld p.rank.events p.handles.entries
         × (p.me ≡ p.rank.me) × (p.at ≤ p.next) × AreAhead p.own.items };
 }
@@ -145,7 +140,6 @@ impl Process {
             me: _,
             rank,
             requests,
-            found: _,
             handles,
             own,
             next: _,
@@ -177,14 +171,13 @@ impl Process {
         ensures begins { IfOk result (λ p. (p.at ≡ 0) × IsAtWork shape lines.now p) }
     {
         let next = place_at(&own, lines, 0);
-        let requests = IndexMap::with_capacity_and_hasher(alloc, own.len() / 2, ByName)?;
+        let requests = RequestNames::with_capacity(alloc, own.len() / 2)?;
         let events = own.len().saturating_mul(3);
         Ok(Process {
             me,
             rank: Rank::with_capacity(alloc, shape, me, events)?,
             requests,
-            found: 0,
-            handles: IndexMap::with_hasher(alloc, ByName),
+            handles: IndexMap::new(alloc),
             own,
             next,
             at: 0,
@@ -281,7 +274,7 @@ impl Process {
         ensures { result
             ≡ option_map_or (is_complete self.now.rank.events) (named self.now q) true }
     {
-        let Some(request) = request_of_name(&self.requests, q) else {
+        let Some(request) = self.requests.get(q) else {
             return true;
         };
         match self.rank.test(request) {

@@ -11,7 +11,7 @@ invariant_of-self-2 c =
     let p = c.self.inside in
     let i = c.self.invariant in
     let records = c.in_ok-ran.ensures.records in (
-      subst (λ (r : Live). AreGiven r p.requests.entries) (sym records.requests) i.0,
+      subst (λ (r : Live). AreGiven r p.requests) (sym records.requests) i.0,
       all_held p.rank.events c.ran.new.self.events p.handles.entries
           (λ x held. subst (λ (h : List Event). IsHeld h x) (sym records.noted.events)
           (held_after x p.rank.events _ (tt, tt) held)) i.1,

@@ -24,7 +24,7 @@ invariant_of-self c =
     let v = p.rank in
     let w = c.cancel.new.self in
     let is = c.in-Ok.ensures.cancels in (
-      subst (λ (r : Live). AreGiven r p.requests.entries) (sym is.requests) i.0,
+      subst (λ (r : Live). AreGiven r p.requests) (sym is.requests) i.0,
       all_held v.events w.events p.handles.entries
           (λ x held. subst (λ (h : List Event). IsHeld h x) (sym (is.happened (λ s. [])).events)
           (held_after x v.events _ (cancel_leaves x v.events v.clock is.kind) held)) i.1,
@@ -63,11 +63,11 @@ returns-in-Ok-clause-tried c =
       at = p.at;
       next = p.next;
       names =
-          p.requests.entries;
+          p.requests;
       handles = p.handles.entries;
     } in
     let mid : ProcessView = record a { rank = w } in
-    let named : lookup (nat_eq q) p.requests.entries ≡ Some c.in-Some.request = sym c.request_of_name.ensures
+    let named : lookup (nat_eq q) p.requests ≡ Some c.in-Some.request = sym c.get.ensures
     ∙ c.in-Some.is in
     on_ok c.answer-in-Ok.result (λ answered.
     subst (λ (v : ProcessView). IsNull v b q c.args.line ⊎ HasCancelled v b q c.args.line) c.self.view_is
@@ -92,12 +92,12 @@ returns-in-Err-NoSuch-clause-tried c =
       own = p.own.items;
       at = p.at;
       next = p.next;
-      names = p.requests.entries;
+      names = p.requests;
       handles = p.handles.entries;
     } in
-    let is : lookup (nat_eq q) p.requests.entries ≡ Some c.in-Some.request = sym c.request_of_name.ensures
+    let is : lookup (nat_eq q) p.requests ≡ Some c.in-Some.request = sym c.get.ensures
     ∙ c.in-Some.is in
-    let free = named_none p.rank.requests p.requests.entries q c.in-Some.request is
+    let free = named_none p.rank.requests p.requests q c.in-Some.request is
     (c.cancel.ensures.no_such.1 (c.in-Err-NoSuch.is ∙ ap (λ f. Err f) c.in-Err-NoSuch.field-0-is)) in
     on_ok c.answer-in-Err-NoSuch.result (λ answered.
     subst (λ (v : ProcessView). IsNull v b q c.args.line ⊎ HasCancelled v b q c.args.line) c.self.view_is

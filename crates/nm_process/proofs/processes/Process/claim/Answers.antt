@@ -24,7 +24,7 @@ invariant_of-self-in_err-insert c =
     let held : AreHeld w.events p.handles.entries = all_held v.events w.events p.handles.entries
     (λ x held. subst (λ (h : List Event). IsHeld h x) (sym claims.claimed.events)
     (held_after x v.events _ (tt, tt) held)) i.1 in (
-      subst (λ (r : Live). AreGiven r p.requests.entries) (sym claims.requests) i.0,
+      subst (λ (r : Live). AreGiven r p.requests) (sym claims.requests) i.0,
       subst (λ (es : List (ℕ × Handle)). AreHeld w.events es) (sym c.in_err-insert.ensures.err) held,
       i.2 ∙ sym claims.takes.me,
       i.3,
@@ -46,7 +46,7 @@ invariant_of-self-2 c =
     let held : AreHeld w.events p.handles.entries = all_held v.events w.events p.handles.entries
     (λ x held. subst (λ (h : List Event). IsHeld h x) (sym claims.claimed.events)
     (held_after x v.events _ (tt, tt) held)) i.1 in (
-      subst (λ (r : Live). AreGiven r p.requests.entries) (sym claims.requests) i.0,
+      subst (λ (r : Live). AreGiven r p.requests) (sym claims.requests) i.0,
       held_set w.events p.handles.entries c.insert.new.self.entries g.m
           (record { from = a.env.from; n = a.n }) held
           (subst (λ (h : List Event). IsHeld h (record { from = a.env.from; n = a.n })) (sym claims.claimed.events)

@@ -48,9 +48,9 @@ pub invariant_of-self : goal.invariant_of-self
 invariant_of-self c =
     let p = c.self.inside in
     let i = c.self.invariant in
-    let is : lookup (nat_eq c.args.q) p.requests.entries ≡ Some c.in-Some.found.request =
-    c.in-Some.ensures.some in
-    let stands = asked p.rank c.finish.new.self c.in-Some.found.request p.requests.entries c.args.q
+    let is : lookup (nat_eq c.args.q) p.requests ≡ Some c.in-Some.request =
+    sym c.get.ensures ∙ c.in-Some.is in
+    let stands = asked p.rank c.finish.new.self c.in-Some.request p.requests c.args.q
     c.finish.result i.0 is c.finish.ensures.finishes c.finish.ensures.err in (
       stands.0,
       subst (λ (h : List Event). AreHeld h p.handles.entries) stands.1 i.1,
@@ -65,14 +65,14 @@ returns-clause-ends c =
     let w = c.finish.new.self in
     let q = c.args.q in
     let i = c.self.invariant in
-    let request = c.in-Some.found.request in
-    let is : lookup (nat_eq q) p.requests.entries ≡ Some request = c.in-Some.ensures.some in
+    let request = c.in-Some.request in
+    let is : lookup (nat_eq q) p.requests ≡ Some request = sym c.get.ensures ∙ c.in-Some.is in
     let a : ProcessView = record {
       rank = p.rank;
       own = p.own.items;
       at = p.at;
       next = p.next;
-      names = p.requests.entries;
+      names = p.requests;
       handles = p.handles.entries;
     } in
     let b : ProcessView = record a { rank = w } in
@@ -83,11 +83,11 @@ returns-clause-ends c =
       request = request;
       kind = result.0;
       is = result.1;
-      live = named_some p.rank.requests p.requests.entries q request result.0 is result.1;
+      live = named_some p.rank.requests p.requests q request result.0 is result.1;
       finished = finished;
       names = record {
-        own = ended_own p.rank.requests w.requests request finished.freed p.requests.entries q i.0 is;
-        others = ended_others p.rank.requests w.requests request finished.freed p.requests.entries q i.0 is;
+        own = ended_own p.rank.requests w.requests request finished.freed p.requests q i.0 is;
+        others = ended_others p.rank.requests w.requests request finished.freed p.requests q i.0 is;
       };
       handles = record { place = (refl, refl); handles = refl };
     })) c.finish.ensures.finishes
@@ -95,10 +95,10 @@ returns-clause-ends c =
 pub returns-clause-null : goal.returns-clause-null
 returns-clause-null c none =
     let p = c.self.inside in
-    let is : lookup (nat_eq c.args.q) p.requests.entries ≡ Some c.in-Some.found.request =
-    c.in-Some.ensures.some in
+    let is : lookup (nat_eq c.args.q) p.requests ≡ Some c.in-Some.request =
+    sym c.get.ensures ∙ c.in-Some.is in
     subst (λ (v : ProcessView). named v c.args.q ≡ None) c.self.view_is
-    (named_none p.rank.requests p.requests.entries c.args.q c.in-Some.found.request is
+    (named_none p.rank.requests p.requests c.args.q c.in-Some.request is
     (c.finish.ensures.no_such.1 none))
 
 -- a request that isn't complete is live
@@ -113,21 +113,21 @@ pub returns-clause-pending : goal.returns-clause-pending
 returns-clause-pending c late =
     let p = c.self.inside in
     let q = c.args.q in
-    let request = c.in-Some.found.request in
-    let is : lookup (nat_eq q) p.requests.entries ≡ Some request = c.in-Some.ensures.some in
+    let request = c.in-Some.request in
+    let is : lookup (nat_eq q) p.requests ≡ Some request = sym c.get.ensures ∙ c.in-Some.is in
     let a : ProcessView = record {
       rank = p.rank;
       own = p.own.items;
       at = p.at;
       next = p.next;
-      names = p.requests.entries;
+      names = p.requests;
       handles = p.handles.entries;
     } in
     let kind = pending p.rank request c.finish.result (kind_of p.rank.requests request) refl late
     c.finish.ensures.no_such.0 c.finish.ensures.not_complete in
     subst (λ (v : ProcessView). IsPending v q) c.self.view_is (record {
       request = request_of kind.0;
-      live = named_some p.rank.requests p.requests.entries q request kind.0 is kind.1;
+      live = named_some p.rank.requests p.requests q request kind.0 is kind.1;
       pending = kind.2;
     })
 
@@ -139,7 +139,7 @@ returns-clause-still c =
       own = p.own.items;
       at = p.at;
       next = p.next;
-      names = p.requests.entries;
+      names = p.requests;
       handles = p.handles.entries;
     } in
     on_err c.finish.result (λ same. ap (λ (w : RankView). record a { rank = w }) same ∙ c.self.view_is)

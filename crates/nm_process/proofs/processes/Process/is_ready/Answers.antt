@@ -60,11 +60,11 @@ returns-in-Ok-Ready c =
       own = p.own.items;
       at = p.at;
       next = p.next;
-      names = p.requests.entries;
+      names = p.requests;
       handles = p.handles.entries;
     } in
     subst (λ (v : ProcessView). true ≡ option_map_or (is_complete v.rank.events) (named v c.args.q) true)
-    c.self.view_is (of_name a c.args.q request true (sym c.request_of_name.ensures ∙ c.in-Some.is)
+    c.self.view_is (of_name a c.args.q request true (sym c.get.ensures ∙ c.in-Some.is)
     (tested a.rank.events _ (kind_of a.rank.requests request) c.test.result true
     (c.test.ensures.no_such.0, c.test.ensures.state)
     (c.in-Ok-Ready.is ∙ ap (λ f. Ok f) c.in-Ok-Ready.field-0-is)))
@@ -78,11 +78,11 @@ returns-in-Ok-Pending c =
       own = p.own.items;
       at = p.at;
       next = p.next;
-      names = p.requests.entries;
+      names = p.requests;
       handles = p.handles.entries;
     } in
     subst (λ (v : ProcessView). false ≡ option_map_or (is_complete v.rank.events) (named v c.args.q) true)
-    c.self.view_is (of_name a c.args.q request false (sym c.request_of_name.ensures ∙ c.in-Some.is)
+    c.self.view_is (of_name a c.args.q request false (sym c.get.ensures ∙ c.in-Some.is)
     (tested a.rank.events _ (kind_of a.rank.requests request) c.test.result false
     (c.test.ensures.no_such.0, c.test.ensures.state)
     (c.in-Ok-Pending.is ∙ ap (λ f. Ok f) c.in-Ok-Pending.field-0-is)))
@@ -96,10 +96,10 @@ returns-in-Err c =
       own = p.own.items;
       at = p.at;
       next = p.next;
-      names = p.requests.entries;
+      names = p.requests;
       handles = p.handles.entries;
     } in
     subst (λ (v : ProcessView). true ≡ option_map_or (is_complete v.rank.events) (named v c.args.q) true)
-    c.self.view_is (of_name a c.args.q request true (sym c.request_of_name.ensures ∙ c.in-Some.is)
+    c.self.view_is (of_name a c.args.q request true (sym c.get.ensures ∙ c.in-Some.is)
     (ended a.rank.events _ _ (kind_of a.rank.requests request) c.test.result
     (c.test.ensures.no_such.0, c.test.ensures.state) c.in-Err.is))

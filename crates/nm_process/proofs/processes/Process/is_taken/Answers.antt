@@ -25,11 +25,11 @@ returns-in-Some c =
       own = p.own.items;
       at = p.at;
       next = p.next;
-      names = p.requests.entries;
+      names = p.requests;
       handles = p.handles.entries;
     } in
-    let is : lookup (nat_eq c.args.q) p.requests.entries ≡ Some c.in-Some.request =
-    sym c.request_of_name.ensures ∙ c.in-Some.is in
+    let is : lookup (nat_eq c.args.q) p.requests ≡ Some c.in-Some.request =
+    sym c.get.ensures ∙ c.in-Some.is in
     subst (λ (v : ProcessView). c.is_ok.result ≡ is_some (named v c.args.q)) c.self.view_is (
     c.is_ok.ensures.value
     ∙ live c.test.result _ (kind_of p.rank.requests c.in-Some.request) _

@@ -11,12 +11,12 @@ pub invariant_of-self-2 : goal.invariant_of-self-2
 invariant_of-self-2 c =
     let p = c.self.inside in
     let i = c.self.invariant in (
-      given_named p.rank.requests p.requests.entries c.insert.new.self.entries c.args.q c.args.request i.0
+      given_named p.rank.requests p.requests c.insert.new.self c.args.q c.args.request i.0
           (subst (λ (v : ProcessView). IsOlder v.rank.requests c.args.request)
           (sym c.self.view_is) c.requires.older)
           (subst (λ (v : ProcessView). (k : ℕ) → lookup (nat_eq k) v.names ≢ Some c.args.request)
           (sym c.self.view_is) c.requires.unnamed)
-          c.in_ok-insert.ensures.updates.0,
+          c.in_ok-insert.ensures.ok,
       i.1,
       i.2,
       i.3,

@@ -7,8 +7,8 @@ use Rattle.nm_process.proofs.processes.Process.new.Goals as goal
 
 pub invariant_of-result : goal.invariant_of-result
 invariant_of-result c = (
-  none_given _ c.in_ok-requests.requests.entries c.in_ok-requests.ensures.empty,
-  none_held _ c.with_hasher.result.entries c.with_hasher.ensures.empty,
+  none_given _ c.in_ok-requests.requests c.in_ok-requests.ensures,
+  none_held _ c.new.result.entries c.new.ensures.empty,
   sym c.in_ok-with_capacity.ensures.me,
   omega arith,
   are_ahead c.args.lines.now c.args.me c.args.own.items c.requires.places,
@@ -21,7 +21,7 @@ returns-clause-begins c =
     let stands : c.place_at-next.result ≡ place_at c.args.own.items c.args.lines.now 0 = cc in (
       refl,
       begins c.args.shape c.args.lines.now v c.args.own.items c.place_at-next.result
-          c.in_ok-requests.requests.entries c.with_hasher.result.entries
+          c.in_ok-requests.requests c.new.result.entries
           (subst (λ (k : ℕ). ArePlaces c.args.lines.now k c.args.own.items) (sym e.me) c.requires.places)
-          stands e.sizes e.events c.in_ok-requests.ensures.empty c.with_hasher.ensures.empty,
+          stands e.sizes e.events c.in_ok-requests.ensures c.new.ensures.empty,
     )

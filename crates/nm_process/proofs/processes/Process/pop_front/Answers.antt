@@ -17,7 +17,7 @@ invariant_of-self c =
     let i = c.self.invariant in
     let v = p.rank in
     let w = c.pop_front.new.self in (
-      subst (λ (r : Live). AreGiven r p.requests.entries) (sym c.pop_front.ensures.requests) i.0,
+      subst (λ (r : Live). AreGiven r p.requests) (sym c.pop_front.ensures.requests) i.0,
       packets_hold_at v w (v.clock) (outs (ended_by (slice_get v.sending.outbox.letters 0)))
           p.handles.entries c.pop_front.ensures.left.events c.history.ensures.right
           (outs_of_packets (ended_by (slice_get v.sending.outbox.letters 0))) i.1,
@@ -37,7 +37,7 @@ returns-clause-work c shape lines work =
       at = p.at;
       next = p.next;
       names =
-          p.requests.entries;
+          p.requests;
       handles = p.handles.entries;
     } in
     work_packets shape lines a w (v.clock) (outs (ended_by (slice_get v.sending.outbox.letters 0)))

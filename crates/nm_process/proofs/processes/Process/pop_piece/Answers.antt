@@ -17,7 +17,7 @@ invariant_of-self c =
     let i = c.self.invariant in
     let v = p.rank in
     let w = c.pop_piece.new.self in (
-      subst (λ (r : Live). AreGiven r p.requests.entries) (sym c.pop_piece.ensures.requests) i.0,
+      subst (λ (r : Live). AreGiven r p.requests) (sym c.pop_piece.ensures.requests) i.0,
       packets_hold_at v w (v.clock)
           (outs (option_and_then (out_by_piece v.sending.offers) (first_leaving v.sending.offers)))
           p.handles.entries c.pop_piece.ensures.left.events c.history.ensures.right
@@ -39,7 +39,7 @@ returns-clause-work c shape lines work =
       at = p.at;
       next = p.next;
       names =
-          p.requests.entries;
+          p.requests;
       handles = p.handles.entries;
     } in
     work_packets shape lines a w (v.clock)

@@ -20,7 +20,7 @@ invariant_of-self-2 c =
     let bodies : Sent → List ℕ = λ s. [] in
     let starts = c.in_ok-request.ensures.starts.started bodies in (
       given_more p.rank.requests c.irecv.new.self.requests c.in_ok-request.request _ starts.request
-          p.requests.entries i.0,
+          p.requests i.0,
       start_keeps bodies _ _ p.rank c.irecv.new.self c.in_ok-request.request p.handles.entries starts
           (λ x. one_leaves x p.rank.events p.rank.clock _
           (first_message p.rank.events (matched_pairs p.rank.events) c.args.from c.args.tag c.args.ctx)
@@ -34,13 +34,13 @@ pub name-requires-clause-older : goal.name-requires-clause-older
 name-requires-clause-older c =
     let starts = c.in_ok-request.ensures.starts.started (λ s. []) in
     new_older c.self.inside.rank.requests c.irecv.new.self.requests c.in_ok-request.request _
-    starts.request c.self.inside.requests.entries c.self.invariant.0
+    starts.request c.self.inside.requests c.self.invariant.0
 
 pub name-requires-clause-unnamed : goal.name-requires-clause-unnamed
 name-requires-clause-unnamed c =
     let starts = c.in_ok-request.ensures.starts.started (λ s. []) in
     new_unnamed c.self.inside.rank.requests c.irecv.new.self.requests c.in_ok-request.request _
-    starts.request c.self.inside.requests.entries c.self.invariant.0
+    starts.request c.self.inside.requests c.self.invariant.0
 
 pub answer-requires-2 : goal.answer-requires-2
 answer-requires-2 c =
@@ -61,7 +61,7 @@ returns-clause-tried c =
       at = p.at;
       next = p.next;
       names =
-          p.requests.entries;
+          p.requests;
       handles = p.handles.entries;
     } in
     let b = c.answer-2.new.self in

@@ -27,7 +27,7 @@ invariant_of-self-2 c =
     let named : lookup (nat_eq c.args.m) p.handles.entries ≡ Some x = sym c.message_of_handle.ensures
     ∙ c.in-Some.is in (
       given_more p.rank.requests c.imrecv.new.self.requests c.in_ok-request.request _ starts.request
-          p.requests.entries i.0,
+          p.requests i.0,
       held_unset p.rank.events c.imrecv.new.self.events p.handles.entries c.swap_remove.new.self.entries
           c.args.m x i.1 named
           (λ y other held. subst (λ (h : List Event). IsHeld h y) (sym starts.happened.events)
@@ -43,13 +43,13 @@ pub name-requires-clause-older : goal.name-requires-clause-older
 name-requires-clause-older c =
     let starts = c.in_ok-request.ensures.starts.started (λ s. []) in
     new_older c.self.inside.rank.requests c.imrecv.new.self.requests c.in_ok-request.request _
-    starts.request c.self.inside.requests.entries c.self.invariant.0
+    starts.request c.self.inside.requests c.self.invariant.0
 
 pub name-requires-clause-unnamed : goal.name-requires-clause-unnamed
 name-requires-clause-unnamed c =
     let starts = c.in_ok-request.ensures.starts.started (λ s. []) in
     new_unnamed c.self.inside.rank.requests c.imrecv.new.self.requests c.in_ok-request.request _
-    starts.request c.self.inside.requests.entries c.self.invariant.0
+    starts.request c.self.inside.requests c.self.invariant.0
 
 pub answer-requires-2 : goal.answer-requires-2
 answer-requires-2 c =
@@ -71,7 +71,7 @@ returns-clause-tried c =
       at = p.at;
       next = p.next;
       names =
-          p.requests.entries;
+          p.requests;
       handles = p.handles.entries;
     } in
     let mid = c.name.new.self in

@@ -74,7 +74,7 @@ returns-clause-stepped c =
       at = i.at;
       next = i.next;
       names =
-          i.requests.entries;
+          i.requests;
       handles = i.handles.entries;
     } in
     let place = c.in-Some.place in
@@ -108,7 +108,7 @@ returns-clause-work c shape work =
       at = i.at;
       next = i.next;
       names =
-          i.requests.entries;
+          i.requests;
       handles = i.handles.entries;
     } in
     let place = c.in-Some.place in

@@ -19,7 +19,7 @@ invariant_of-self-2 c =
     let bodies : Sent → List ℕ = λ s. bytes_of c.args.body.now in
     let starts = c.in_ok-request.ensures.starts.started bodies refl in (
       given_more p.rank.requests c.send_copy.new.rank.requests c.in_ok-request.request _ starts.request
-          p.requests.entries i.0,
+          p.requests i.0,
       start_keeps bodies _ _ p.rank c.send_copy.new.rank c.in_ok-request.request p.handles.entries starts
           (λ x. (tt, tt)) i.1,
       i.2 ∙ sym starts.takes.me,
@@ -31,13 +31,13 @@ pub name-requires-clause-older : goal.name-requires-clause-older
 name-requires-clause-older c =
     let starts = c.in_ok-request.ensures.starts.started (λ s. bytes_of c.args.body.now) refl in
     new_older c.self.inside.rank.requests c.send_copy.new.rank.requests c.in_ok-request.request _
-    starts.request c.self.inside.requests.entries c.self.invariant.0
+    starts.request c.self.inside.requests c.self.invariant.0
 
 pub name-requires-clause-unnamed : goal.name-requires-clause-unnamed
 name-requires-clause-unnamed c =
     let starts = c.in_ok-request.ensures.starts.started (λ s. bytes_of c.args.body.now) refl in
     new_unnamed c.self.inside.rank.requests c.send_copy.new.rank.requests c.in_ok-request.request _
-    starts.request c.self.inside.requests.entries c.self.invariant.0
+    starts.request c.self.inside.requests c.self.invariant.0
 
 pub answer-requires-2 : goal.answer-requires-2
 answer-requires-2 c =
@@ -56,7 +56,7 @@ returns-clause-tried c =
       at = p.at;
       next = p.next;
       names =
-          p.requests.entries;
+          p.requests;
       handles = p.handles.entries;
     } in
     let b = c.answer-2.new.self in

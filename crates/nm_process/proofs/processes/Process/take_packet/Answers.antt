@@ -18,7 +18,7 @@ invariant_of-self-2 c =
     let v = p.rank in
     let w = c.take_packet.new.self in
     let taken = c.in_ok-take_packet.ensures.taken in (
-      subst (λ (r : Live). AreGiven r p.requests.entries) (sym taken.requests) i.0,
+      subst (λ (r : Live). AreGiven r p.requests) (sym taken.requests) i.0,
       packets_hold_at v w (max v.clock c.args.p.now.stamp) (made_of v c.args.p.now) p.handles.entries
           (taken.happened (λ s. [])).events c.history.ensures.right
           (packet_of_packets (known_from v.known c.args.p.now.from) v.events (taken_of v c.args.p.now)) i.1,
@@ -39,7 +39,7 @@ returns-clause-work c shape lines work =
       at = p.at;
       next = p.next;
       names =
-          p.requests.entries;
+          p.requests;
       handles = p.handles.entries;
     } in
     work_packets shape lines a w (max v.clock c.args.p.now.stamp) (made_of v c.args.p.now) taken.me taken.sizes

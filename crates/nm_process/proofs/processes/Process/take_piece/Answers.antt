@@ -17,7 +17,7 @@ invariant_of-self-2 c =
     let v = p.rank in
     let w = c.take_piece.new.self in
     let taken = c.in_ok-take_piece.ensures.taken in (
-      subst (λ (r : Live). AreGiven r p.requests.entries) (sym taken.requests) i.0,
+      subst (λ (r : Live). AreGiven r p.requests) (sym taken.requests) i.0,
       packets_hold_at v w (v.clock) (piece_makes c.args.p.now.from (next_due v c.args.p.now.from) c.args.p.now)
           p.handles.entries taken.happened.events c.history.ensures.right
           (piece_of_packets c.args.p.now.from (next_due v c.args.p.now.from) c.args.p.now) i.1,
@@ -38,7 +38,7 @@ returns-clause-work c shape lines work =
       at = p.at;
       next = p.next;
       names =
-          p.requests.entries;
+          p.requests;
       handles = p.handles.entries;
     } in
     work_packets shape lines a w (v.clock) (piece_makes c.args.p.now.from (next_due v c.args.p.now.from) c.args.p.now)
