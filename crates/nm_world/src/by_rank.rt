@@ -8,14 +8,14 @@ use crate::records::add;
 use nm_types::{Line, Memory};
 use std::alloc::Global;
 
-// For each rank a list without a place.
-fn no_places(alloc: Global, ranks: u8) -> Result<Vec<Vec<u32>>, Memory>
+// For each rank a list without a place, with room for so many.
+fn no_places(alloc: Global, ranks: u8, room: usize) -> Result<Vec<Vec<u32>>, Memory>
     ensures places { IfOk result (λ all. AreByRank [] all.items) }
     ensures many { IfOk result (λ all. length all.items ≡ ranks) }
 {
     let mut all = Vec::new(alloc);
     for _ in 0..ranks {
-        add(&mut all, Vec::new(alloc))?;
+        add(&mut all, Vec::with_capacity(alloc, room)?)?;
     }
     Ok(all)
 }
@@ -30,13 +30,13 @@ fn note(all: &mut Vec<Vec<u32>>, rank: u8, place: u32) -> Result<(), Memory>
 }
 
 /// By rank, where the commands of each of so many ranks stand in a script, in order. The script is gone
-/// through once for all of them.
+/// through once for all of them. Each list has room for as many places as if all had the same.
 pub fn places_by_rank(alloc: Global, ranks: u8, lines: &[Line]) -> Result<Vec<Vec<u32>>, Memory>
     requires script { IsScript ranks lines.now }
     ensures places { IfOk result (λ all. AreByRank lines.now all.items) }
     ensures many { IfOk result (λ all. length all.items ≡ ranks) }
 {
-    let mut all = no_places(alloc, ranks)?;
+    let mut all = no_places(alloc, ranks, lines.len() / usize::from(ranks))?;
     for (place, line) in lines.iter().enumerate() {
         note(&mut all, line.rank, place as u32)?;
     }
