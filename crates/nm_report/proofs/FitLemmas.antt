@@ -34,6 +34,7 @@ use Rattle.nm_history.specs.Quiescence.{Ended, EachRank, Packets}
 use Rattle.nm_history.specs.RankRun.{IsRankRun, Always, AnswerAt, ran_lines}
 use Rattle.nm_history.specs.Run.{IsRunOf}
 use Rattle.nm_history.specs.Sends.{Sent, arrival_of, messages, sends, sent_bytes}
+use Rattle.nm_history.specs.Totals.{answer_in, answers_given}
 use Rattle.nm_history.proofs.AtEachLemmas.{AtEach-split}
 use Rattle.nm_history.proofs.OnceLemmas.{eqb_self, find_among}
 use Rattle.nm_report.specs.declared.accounts.RankAccount.{RankAccount}
@@ -42,7 +43,7 @@ use Rattle.nm_report.specs.Ends.{ends_of, packets_of}
 use Rattle.nm_report.specs.Lawful.{IsRunIn}
 use Rattle.nm_report.specs.Summary.{CountsFit, got_len, is_got, is_sent}
 use Rattle.nm_report.specs.Told.{told_of, told_of_rank}
-use Rattle.nm_report.specs.Totals.{answer_in, answers_in}
+use Rattle.nm_report.specs.Totals.{answers_in}
 use Rattle.nm_report.proofs.GotLemmas.{ShowsPair, got_shown, low_senders}
 use Rattle.nm_report.proofs.TotalsLemmas.{all_answers}
 use Rattle.nm_types.proofs.OptionLemmas.{mapped_some}
@@ -93,12 +94,12 @@ few_commands rank number (l ∷ lines) = by_rank (l.rank == rank) (few_commands 
     by_rank false later = omega (arith, later)
 
 -- a rank has as many answers as commands ran
-answers_ran : (h : List Event) → length (flat_map (λ event. answer_in event.what) h) ≡ length (ran_lines h)
+answers_ran : (h : List Event) → length (answers_given h) ≡ length (ran_lines h)
 answers_ran [] = refl
 answers_ran (e ∷ h) = by_what e.what (answers_ran h)
   where
-    by_what : (what : Happened) → length (flat_map (λ event. answer_in event.what) h) ≡ length (ran_lines h)
-        → length (flat_map (λ event. answer_in event.what) (record { stamp = e.stamp; what = what } ∷ h))
+    by_what : (what : Happened) → length (answers_given h) ≡ length (ran_lines h)
+        → length (answers_given (record { stamp = e.stamp; what = what } ∷ h))
         ≡ length (ran_lines (record { stamp = e.stamp; what = what } ∷ h))
     by_what (Ran line answer) later = ap (λ (n : ℕ). suc n) later
     by_what what later = later
@@ -106,10 +107,10 @@ answers_ran (e ∷ h) = by_what e.what (answers_ran h)
 -- what holds of the answer of each event, by the splits of a history, holds of all answers
 answers_all : (P : Answer → Type 0) (events : List Event)
     → ((early : List Event) (e : Event) (late : List Event) → events ≡ early ++ e ∷ late → All P (answer_in e.what))
-    → All P (flat_map (λ event. answer_in event.what) events)
+    → All P (answers_given events)
 answers_all P [] each = All-nil P
 answers_all P (e ∷ events) each =
-    All-append P (answer_in e.what) (flat_map (λ event. answer_in event.what) events) (each [] e events refl)
+    All-append P (answer_in e.what) (answers_given events) (each [] e events refl)
     (answers_all P events (λ early x late split. each (e ∷ early) x late (ap (λ (k : List Event). e ∷ k) split)))
 
 -- the bytes are those that a command of the message's sender sends
@@ -165,7 +166,7 @@ short_event what short = All-nil IsShort
 
 -- the answers of a rank at its end
 abbrev answers_at : Ended → List Answer
-answers_at rank = flat_map (λ event. answer_in event.what) rank.events
+answers_at rank = answers_given rank.events
 
 -- a rank's answers are few and short
 record AreFew (answers : List Answer) (most : ℕ) : Type 0 where

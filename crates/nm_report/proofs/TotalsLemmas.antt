@@ -8,11 +8,12 @@ use Rattle.nm_types.specs.declared.answers.Answer.{Answer}
 use Rattle.nm_history.specs.declared.events.Event.{Event}
 use Rattle.nm_history.specs.declared.events.Happened.{Happened}
 use Rattle.nm_history.specs.declared.events.Happened.TheVariants.{Ran}
+use Rattle.nm_history.specs.declared.totals.Totals.{Totals}
+use Rattle.nm_history.specs.Totals.{answer_in, answers_given}
 use Rattle.nm_report.specs.declared.accounts.RankAccount.{RankAccount}
-use Rattle.nm_report.specs.declared.summaries.Totals.{Totals}
 use Rattle.nm_report.specs.Summary.{CountsFit, answers_of, got_bytes, got_count, got_len, is_got, is_sent, sent_count}
 use Rattle.nm_report.specs.Told.{Told, told_by, told_of_rank}
-use Rattle.nm_report.specs.Totals.{Added, CanAdd, answer_in, answers_in}
+use Rattle.nm_report.specs.Totals.{Added, CanAdd, answers_in}
 
 sum_each : {X : Type 0} (g : Answer → ℕ) (f : X → List Answer) (xs : List X)
     → sum_by g (flat_map f xs) ≡ sum_by (λ x. sum_by g (f x)) xs
@@ -65,7 +66,7 @@ one_answer what list = refl
 
 -- what a rank told has the answers of its events
 rank_answers : (h : List Event)
-    → map (λ t. t.answer) (filter_map (λ event. told_by event.what) h) ≡ flat_map (λ event. answer_in event.what) h
+    → map (λ t. t.answer) (filter_map (λ event. told_by event.what) h) ≡ answers_given h
 rank_answers [] = refl
 rank_answers (e ∷ h) =
     one_answer e.what (filter_map (λ event. told_by event.what) h)

@@ -1,9 +1,8 @@
 -- The text of a summary, which is said over what a run told.
-use Rattle.std.specs.Prelude.{ℕ, ◌^◌, ◌<◌, Bool, true, false, List, map, flat_map, codes, decimal}
-use Rattle.std.specs.Prelude.{count_by, sum_by, length}
+use Rattle.std.specs.Prelude.{ℕ, ◌^◌, ◌<◌, Bool, List, map, flat_map, codes, decimal, count_by, sum_by}
 use Rattle.nm_types.specs.declared.answers.Account.{Account}
 use Rattle.nm_types.specs.declared.answers.Answer.{Answer}
-use Rattle.nm_types.specs.declared.answers.Answer.TheVariants.{Sent, Got}
+pub use Rattle.nm_history.specs.Totals.{got_len, is_got, is_sent}
 use Rattle.nm_report.specs.declared.records.RunRecord.{RunRecord}
 use Rattle.nm_report.specs.Layout.{◌⧺◌, ◌␣◌}
 use Rattle.nm_report.specs.Report.{cells_line, end_line}
@@ -12,21 +11,6 @@ use Rattle.nm_report.specs.Told.{RankTold, told_of}
 -- the answers that were told, rank by rank
 abbrev pub answers_of : List RankTold → List Answer
 answers_of told = flat_map (λ rank. map (λ t. t.answer) rank.answers) told
-
--- a send is complete
-abbrev pub is_sent : Answer → Bool
-is_sent Sent = true
-is_sent _ = false
-
--- a receive is complete, with the message's bytes
-abbrev pub is_got : Answer → Bool
-is_got (Got from tag body) = true
-is_got _ = false
-
--- how many bytes it has
-abbrev pub got_len : Answer → ℕ
-got_len (Got from tag body) = length body
-got_len _ = 0
 
 -- how many sends are complete
 abbrev pub sent_count : List RankTold → ℕ

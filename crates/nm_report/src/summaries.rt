@@ -5,79 +5,41 @@ ghost use Rattle.nm_report.specs.Layout.{◌⧺◌};
 ghost use Rattle.nm_report.specs.Told.{told_of, told_of_rank};
 ghost use Rattle.nm_report.specs.Summary.{CountsFit, got_bytes, got_count, got_line, sent_count};
 ghost use Rattle.nm_report.specs.Summary.{sent_line, summary_text};
+ghost use Rattle.nm_report.specs.Totals.{Added, CanAdd, answers_in};
 
 use crate::reports::push_end;
 use crate::{RankAccount, RunRecord};
-use nm_history::Happened;
-use nm_types::{Answer, Memory};
+use nm_history::Totals;
+use nm_types::Memory;
 use std::alloc::{AllocError, Global};
 
-/// What answers add up to.
-#[derive(Clone, Copy)]
-struct Totals {
-    /// How many sends are complete.
-    sent: u64,
-    /// How many receives have their message.
-    got: u64,
-    /// How many bytes these messages have together.
-    bytes: u64,
+/// Adds what the answers of a rank add up to.
+fn add_account(totals: &mut Totals, account: &RankAccount)
+    requires { CanAdd (answers_in account.now) totals.old }
+    ensures { Added (answers_in account.now) totals.old totals.new }
+{
+    let own = account.history.totals();
+    totals.sent += own.sent;
+    totals.got += own.got;
+    totals.bytes += own.bytes;
 }
 
-impl Totals {
-    ghost use Rattle.nm_report.specs.Totals.{Added, CanAdd, answer_in, answers_in};
-
-    /// Adds an answer.
-    fn add(&mut self, answer: &Answer)
-        requires { CanAdd (answer.now ∷ []) self.old }
-        ensures { Added (answer.now ∷ []) self.old self.new }
-    {
-        match answer {
-            Answer::Sent => self.sent += 1,
-            Answer::Got { body, .. } => {
-                self.got += 1;
-                self.bytes += body.len() as u64;
-            }
-            _ => {}
-        }
+/// What the answers of these ranks add up to.
+fn totals_of(ranks: &[RankAccount]) -> Totals
+    requires { CountsFit (map told_of_rank ranks.now) }
+    ensures sent { result.sent ≡ sent_count (map told_of_rank ranks.now) }
+    ensures got { result.got ≡ got_count (map told_of_rank ranks.now) }
+    ensures bytes { result.bytes ≡ got_bytes (map told_of_rank ranks.now) }
+{
+    let mut totals = Totals {
+        sent: 0,
+        got: 0,
+        bytes: 0,
+    };
+    for account in ranks {
+        add_account(&mut totals, account);
     }
-
-    /// Adds the answer of an event, if it is one.
-    fn add_event(&mut self, what: &Happened)
-        requires { CanAdd (answer_in what.now) self.old }
-        ensures { Added (answer_in what.now) self.old self.new }
-    {
-        if let Happened::Ran { answer, .. } = what {
-            self.add(answer);
-        }
-    }
-
-    /// Adds the answers of a rank.
-    fn add_account(&mut self, account: &RankAccount)
-        requires { CanAdd (answers_in account.now) self.old }
-        ensures { Added (answers_in account.now) self.old self.new }
-    {
-        for event in account.history.as_slice() {
-            self.add_event(&event.what);
-        }
-    }
-
-    /// What the answers of these ranks add up to.
-    fn of_ranks(ranks: &[RankAccount]) -> Totals
-        requires { CountsFit (map told_of_rank ranks.now) }
-        ensures sent { result.sent ≡ sent_count (map told_of_rank ranks.now) }
-        ensures got { result.got ≡ got_count (map told_of_rank ranks.now) }
-        ensures bytes { result.bytes ≡ got_bytes (map told_of_rank ranks.now) }
-    {
-        let mut totals = Totals {
-            sent: 0,
-            got: 0,
-            bytes: 0,
-        };
-        for account in ranks {
-            totals.add_account(account);
-        }
-        totals
-    }
+    totals
 }
 
 /// Writes the lines of the totals.
@@ -101,7 +63,7 @@ pub fn summary(alloc: Global, run: &RunRecord, key: u16, messages: u16) -> Resul
     requires { CountsFit (told_of run.now) }
     ensures { IfOk result (λ text. text.items ≡ summary_text key messages run.now) }
 {
-    let totals = Totals::of_ranks(run.ranks.as_slice());
+    let totals = totals_of(run.ranks.as_slice());
     let mut out = String::new(alloc);
     write!(out, "flood {key} {} {messages}\n", run.shape.ranks())?;
     push_totals(&mut out, totals)?;

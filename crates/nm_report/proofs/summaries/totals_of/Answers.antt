@@ -1,6 +1,6 @@
 use Rattle.nm_report.specs.Totals.{answers_in}
 use Rattle.nm_report.proofs.TotalsLemmas.{added_more, can_add_all, can_add_next, added_all}
-use Rattle.nm_report.proofs.summaries.Totals.of_ranks.Goals as goal
+use Rattle.nm_report.proofs.summaries.totals_of.Goals as goal
 
 pub add_account-requires : goal.add_account-requires
 add_account-requires c =

@@ -1,6 +1,6 @@
 use Rattle.std.proofs.Common.{take, flat_map}
 use Rattle.nm_report.specs.Totals.{Added, answers_in}
-use Rattle.nm_report.proofs.summaries.Totals.of_ranks.Given as goal
+use Rattle.nm_report.proofs.summaries.totals_of.Given as goal
 
 -- the answers of the ranks so far are added
 abbrev pub invariant-loop-account : goal.invariant-loop-account
