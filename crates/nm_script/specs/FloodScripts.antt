@@ -17,7 +17,7 @@ sender ranks k = k % ranks
 abbrev pub destination : ℕ → ℕ → ℕ → ℕ
 destination key ranks k = (sender ranks k + k / ranks + key) % ranks
 
--- both
+-- both ranks of a message
 abbrev pub way : ℕ → ℕ → ℕ → Way
 way key ranks k = record { from = sender ranks k; to = destination key ranks k }
 
