@@ -84,6 +84,7 @@ impl<T: Copy> Bucket<T> {
     }
 
     /// Takes the entry of this order number, and answers whether it was the only one.
+    #[inline(always)]
     fn take(&mut self, order: u128) -> bool
         ensures left { result ≡ false → entries_of self.new
             ≡ remove_entry (is_at (nat_cmp order)) (entries_of self.old) }
@@ -122,6 +123,7 @@ fn add<T: Copy>(
 
 /// Takes the entry of this order number out of the bucket at a place of the map, and an emptied
 /// bucket with it.
+#[inline(always)]
 fn take_at<T: Copy>(map: &mut IndexMap<Picks, Bucket<T>>, place: usize, order: u128)
     requires { place < index_map_len map.old }
     ensures { (key : picks.Picks) → index_of same_picks map.old key ≡ Some place →
@@ -181,6 +183,7 @@ impl<T: Copy> Buckets<T> {
     }
 
     /// Takes the oldest entry under a key, and an emptied bucket with it.
+    #[inline(always)]
     pub(crate) fn take_front(&mut self, key: Picks) -> Option<(u128, T)>
         ensures oldest { result ≡ slice_get (bucket_of self.old.map key) 0 }
         ensures taken { IfSome result (λ x.

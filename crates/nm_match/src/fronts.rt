@@ -103,6 +103,7 @@ impl Fronts {
     }
 
     /// The same under a key.
+    #[inline(always)]
     pub(crate) fn pass(&mut self, key: Picks, number: u64, next: u64)
         ensures { IsPassed key number next (get same_picks self.old.map) (get same_picks self.new.map) }
     {

@@ -56,6 +56,7 @@ impl Posted {
     }
 
     /// The number of the oldest receive under a key.
+    #[inline(always)]
     fn first(&self, key: Picks) -> Option<u64>
         ensures { result ≡ fronts_of self.now key }
     {

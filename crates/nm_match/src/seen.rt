@@ -115,6 +115,7 @@ impl Seen {
     }
 
     /// Counts a name, or else sets it apart.
+    #[inline(always)]
     fn note(&mut self, id: Message)
         requires room { HasRoom self.old id }
         ensures added { (i : message.Message) →

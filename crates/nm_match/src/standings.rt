@@ -175,6 +175,7 @@ impl Standings {
     }
 
     /// What is kept of the receive of this number.
+    #[inline(always)]
     pub(crate) fn get(&self, number: u64) -> Option<&Receive>
         ensures { option_copied result ≡ receive_at self.now number }
     {
@@ -247,6 +248,7 @@ impl Standings {
     }
 
     /// Puts another one behind a receive.
+    #[inline(always)]
     fn set_next(&mut self, number: u64, next: u64)
         ensures { (n : ℕ) → receive_at self.new n ≡ next_set (receive_at self.old) number next n }
     {
@@ -259,6 +261,7 @@ impl Standings {
     }
 
     /// Puts another one before a receive.
+    #[inline(always)]
     fn set_before(&mut self, number: u64, before: u64)
         ensures { (n : ℕ) → receive_at self.new n ≡ before_set (receive_at self.old) number before n }
     {
@@ -271,6 +274,7 @@ impl Standings {
     }
 
     /// Notes which one is before the first of a row of receives, and which one behind the last.
+    #[inline(always)]
     fn set_ends(&mut self, first: u64, before: u64, last: u64, next: u64)
         ensures { (n : ℕ) → receive_at self.new n
             ≡ ends_set (receive_at self.old) first before last next n }
@@ -290,6 +294,7 @@ impl Standings {
     }
 
     /// The ones before and behind a receive that waits, or else itself.
+    #[inline(always)]
     fn neighbours(&self, number: u64) -> (u64, u64)
         ensures { result ≡ (
           before_of number (receive_at self.now number),
@@ -333,6 +338,7 @@ impl Standings {
     }
 
     /// Ties those before and behind a receive that waits to each other, and answers the one behind it.
+    #[inline(always)]
     pub(crate) fn shut_out(&mut self, number: u64) -> u64
         ensures next { result ≡ next_of number (receive_at self.old number) }
         ensures ends { (n : ℕ) → receive_at self.new n ≡ shut_out_lem (receive_at self.old) number n }
@@ -345,6 +351,7 @@ impl Standings {
     }
 
     /// The receive of this number, if it waits, and its order number.
+    #[inline(always)]
     pub(crate) fn waiting(&self, number: u64) -> Option<(u64, Post)>
         ensures { result ≡ waiting_of number (receive_at self.now number) }
     {

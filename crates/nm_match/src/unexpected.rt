@@ -60,6 +60,7 @@ fn fitting(waiting: &Buckets<Arrival>, wanted: Picks, index: usize) -> Option<(u
 }
 
 /// The oldest of the first messages of all buckets that a receive or a probe selects.
+#[inline(always)]
 fn best(waiting: &Buckets<Arrival>, wanted: Picks) -> Option<(u128, Arrival)>
     ensures { (queue : List (ℕ × arrival.Arrival)) (next : ℕ) →
         AreBuckets picks_of_arrival queue next (bucket_of waiting.now.map) →
@@ -73,6 +74,7 @@ fn best(waiting: &Buckets<Arrival>, wanted: Picks) -> Option<(u128, Arrival)>
 }
 
 /// The oldest message that a receive or a probe selects, with its order number.
+#[inline(always)]
 fn selected(waiting: &Buckets<Arrival>, wanted: Picks) -> Option<(u128, Arrival)>
     ensures { (queue : List (ℕ × arrival.Arrival)) (next : ℕ) →
         AreBuckets picks_of_arrival queue next (bucket_of waiting.now.map) →
