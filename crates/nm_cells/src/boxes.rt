@@ -110,6 +110,7 @@ pub fn load_box_out<L: Ledger, I: Item>(
     look_out::<Brand, L, I>(f, port, to, steps)
 }
 
+#[inline(always)]
 fn look_in<T: BoxStep, L: Ledger, I: Item>(
     f: &Fabric<I>,
     port: &mut Port<I>,
@@ -154,6 +155,7 @@ fn look_in<T: BoxStep, L: Ledger, I: Item>(
 ///
 /// Then the parcel is the port's to take. Else this is a miss, which `box_miss` counts. Where the
 /// port got a later parcel of that rank and not the awaited one, the awaited one is there.
+#[inline(always)]
 pub fn load_box_in<L: Ledger, I: Item>(
     f: &Fabric<I>,
     port: &mut Port<I>,
@@ -239,6 +241,7 @@ pub fn fill_box<L: Ledger, I: Item>(
     fill::<Brand, L, I>(f, port, to, parcel, steps)
 }
 
+#[inline(always)]
 fn empty<T: BoxStep, L: Ledger, I: Item>(
     f: &Fabric<I>,
     port: &mut Port<I>,
@@ -280,6 +283,7 @@ fn empty<T: BoxStep, L: Ledger, I: Item>(
 /// Takes the parcel that was found out of the port's next box of a rank, leaves a box of memory in its
 /// place, if one is given, and stores 0 in the flag. The parcel is the one that the port awaited, and it
 /// is passed on.
+#[inline(always)]
 pub fn empty_box<L: Ledger, I: Item>(
     f: &Fabric<I>,
     port: &mut Port<I>,

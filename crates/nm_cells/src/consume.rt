@@ -119,6 +119,7 @@ fn count_taken<const B: bool>(peers: &mut Vec<Tally>, owner: usize)
 
 // The first cell of a queue is in hand, and a parcel came where that is the receive queue. The
 // cells of the free queue are the port's own.
+#[inline(always)]
 fn first_taken<const B: bool>(
     peers: &mut Vec<Tally>,
     carried: &mut Vec<u64>,
@@ -333,6 +334,7 @@ pub fn clear_head<L: Ledger, I: Item>(
 
 /// Loads the link of the shadow head. Where it has a cell, that one is the next shadow head, and
 /// the first cell is taken.
+#[inline(always)]
 pub fn load_link<L: Ledger, I: Item>(
     f: &Fabric<I>,
     port: &mut Port<I>,
@@ -386,6 +388,7 @@ pub fn drop_tail<L: Ledger, I: Item>(
 /// Loads the link of the shadow head once more, after the tail was found to be another cell.
 ///
 /// Zero is a miss, which `link_missing` counts: that enqueue has still to store the link.
+#[inline(always)]
 pub fn reload_link<L: Ledger, I: Item>(
     f: &Fabric<I>,
     port: &mut Port<I>,

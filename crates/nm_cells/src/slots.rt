@@ -27,6 +27,7 @@ pub(crate) fn carry(carried: &mut Vec<u64>, slot: u64)
 
 // Brings a slot that the seat has taken to the front. Where it stands there already, as the only
 // slot in hand does, nothing is done.
+#[inline(always)]
 fn bring<I: Item>(seat: &mut BoardSeat<I>, carried: &mut Vec<u64>, slot: u64)
     requires same { map (λ x. x.0) seat.old.me.1 ≡ carried.old.items }
     requires there { (k : ℕ) × (k < length carried.old.items) × (slice_index carried.old.items k
@@ -52,6 +53,7 @@ fn bring<I: Item>(seat: &mut BoardSeat<I>, carried: &mut Vec<u64>, slot: u64)
 }
 
 // Brings a slot that the port has taken once to the front.
+#[inline(always)]
 pub(crate) fn bring_slot<I: Item>(port: &mut Port<I>, slot: u64)
     requires once { times slot (map (λ x. x.0) (slots port.old)) ≡ 1 }
     ensures seat { (port.new.seat.table_id ≡ port.old.seat.table_id)

@@ -108,6 +108,7 @@ impl Joiner {
     }
 
     /// Makes the joiner ready for a packet. It stays so up to the next `add`, `skip` or `take`.
+    #[inline(always)]
     pub fn reserve(&mut self, p: &Packet) -> Result<(), Memory>
         requires fits { Fits self.old p.now }
         ensures ok { OnOk result (IsReadyFor self.new p.now) }
@@ -121,6 +122,7 @@ impl Joiner {
     }
 
     /// Joins a packet to its message. It takes no memory where the joiner is ready for the packet.
+    #[inline(always)]
     pub fn add(&mut self, p: &Packet) -> Result<Joined, Memory>
         requires fits { Fits self.old p.now }
         requires limit { (stream_from self.old p.now.from).count < MAX_PACKETS }

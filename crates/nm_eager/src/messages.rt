@@ -55,6 +55,7 @@ impl Message {
     }
 
     /// Puts bytes behind those that came.
+    #[inline(always)]
     pub fn extend(&mut self, bytes: &[u8])
         requires { length bytes.now ≤ lacking self.old }
         ensures { self.new ≡ record self.old { bytes = self.old.bytes ++ bytes.now } }

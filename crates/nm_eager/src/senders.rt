@@ -70,6 +70,7 @@ fn leave_empty(whole: &mut Vec<Option<Bytes>>, place: usize)
 
 /// Puts a message's bytes behind those that are whole, at the place of its number, if it is whole, too.
 /// One that is unfinished comes back.
+#[inline(always)]
 fn put(whole: &mut Vec<Option<Bytes>>, message: Message) -> Option<Message>
     requires behind { length (placed 0 whole.old.items) ≤ message.n }
     requires room { message.n < vec_capacity whole.old }
@@ -137,6 +138,7 @@ impl Sender {
     }
 
     /// Joins the bytes of a packet that continues the stream, and tells what that did.
+    #[inline(always)]
     pub fn add(&mut self, what: &What, bytes: &[u8]) -> Joined
         requires eager { IsTrue (is_eager what.now) }
         requires fits { (eager : ℕ) × IsTrue (continues eager self.old.stream.count
@@ -164,6 +166,7 @@ impl Sender {
     }
 
     /// Begins a message of this length with its first bytes.
+    #[inline(always)]
     fn begin(&mut self, len: u32, bytes: &[u8])
         requires closed { missing self.old.stream ≡ 0 }
         requires limit { self.old.stream.count < MAX_PACKETS }
@@ -180,6 +183,7 @@ impl Sender {
     }
 
     /// Goes on with the unfinished message.
+    #[inline(always)]
     fn carry_on(&mut self, bytes: &[u8])
         requires open { 0 < missing self.old.stream }
         requires within { length bytes.now ≤ missing self.old.stream }

@@ -12,6 +12,7 @@ use nm_queue::dequeue;
 use std::sync::ledger::Ledger;
 
 // Takes the first cell of an own queue, or none where that one had a miss.
+#[inline(always)]
 pub(crate) fn take_cell<L: Ledger, I: Item>(
     f: &Fabric<I>,
     port: &mut Port<I>,

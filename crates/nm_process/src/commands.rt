@@ -263,6 +263,7 @@ impl Process {
     }
 
     // Records the answer of a line's command.
+    #[inline(always)]
     fn answer(&mut self, line: u32, answer: Answer) -> Result<Step, Memory>
         requires in_time { self.old.rank.clock < MAX_STAMP }
         ensures places { StandsStill self.old self.new }
@@ -274,6 +275,7 @@ impl Process {
     }
 
     // Gives a name to a request that was started.
+    #[inline(always)]
     fn name(&mut self, q: u16, request: Req) -> Result<(), Memory>
         requires older { IsOlder self.old.rank.requests request }
         requires unnamed { (k : ℕ) → lookup (nat_eq k) self.old.names ≢ Some request }
@@ -287,6 +289,7 @@ impl Process {
     }
 
     // Whether the name stands for a request that has not ended.
+    #[inline(always)]
     fn is_taken(&self, q: u16) -> bool
         ensures { result ≡ is_some (named self.now q) }
     {
@@ -297,6 +300,7 @@ impl Process {
     }
 
     // The result of the request of this name, which then ends, if it is complete.
+    #[inline(always)]
     fn end(&mut self, q: u16) -> Result<Answer, FinishFault>
         ensures ends { IfOk result (Ends self.old self.new q) }
         ensures null { result ≡ Err finish_fault.NoSuch → named self.old q ≡ None }

@@ -73,6 +73,7 @@ impl RequestNames {
     }
 
     /// Gives a name a request.
+    #[inline(always)]
     pub(crate) fn insert(&mut self, q: u16, request: Req) -> Result<(), Memory>
         ensures ok { OnOk result ((k : ℕ) → lookup (nat_eq k) self.new
             ≡ (if nat_eq q k then Some request else lookup (nat_eq k) self.old)) }
@@ -88,6 +89,7 @@ impl RequestNames {
     }
 
     // Gives a name its first request.
+    #[inline(always)]
     fn add(&mut self, q: u16, request: Req) -> Result<(), Memory>
         requires new { lookup (nat_eq q) self.old ≡ None }
         ensures ok { OnOk result ((k : ℕ) → lookup (nat_eq k) self.new

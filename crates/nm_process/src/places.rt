@@ -63,6 +63,7 @@ fn reach(pages: &mut Vec<Vec<u16>>, alloc: Global, number: usize) -> Result<(), 
 }
 
 // Makes the places of a page.
+#[inline(always)]
 fn fill(page: &mut Vec<u16>) -> Result<(), Memory>
     ensures there { OnOk result (256 ≤ length page.new.items) }
     ensures same { (k : ℕ) → slice_index page.new.items k ≡ slice_index page.old.items k }
@@ -95,6 +96,7 @@ impl Places {
     }
 
     /// Gives a name a place.
+    #[inline(always)]
     pub(crate) fn set(&mut self, q: u16, place: u16) -> Result<(), Memory>
         ensures ok { OnOk result ((k : ℕ) → place_of_name self.new k
             ≡ (if nat_eq q k then place else place_of_name self.old k)) }

@@ -24,6 +24,7 @@ pub enum Miss {
 }
 
 /// Puts a cell in hand at the end of a queue, in three word steps. It can't be refused.
+#[inline(always)]
 pub fn enqueue<L: Ledger, I: Item>(
     f: &Fabric<I>,
     port: &mut Port<I>,
@@ -77,6 +78,7 @@ fn find_first<L: Ledger, I: Item>(
 /// Where there is no shadow head, two steps find it: the head is loaded and cleared. Then the last
 /// cell is taken in two more steps, and another one in one, or in three where its link was stored
 /// late.
+#[inline(always)]
 pub fn dequeue<L: Ledger, I: Item>(
     f: &Fabric<I>,
     port: &mut Port<I>,

@@ -118,6 +118,7 @@ impl Rank {
     }
 
     /// The result of a complete request, which is live no more then.
+    #[inline(always)]
     pub fn finish(&mut self, r: Req) -> Result<Answer, FinishFault>
         ensures no_such { (kind_of self.old.requests r ≡ None)
             ↔ (result ≡ Err finish_fault.NoSuch) }
@@ -189,6 +190,7 @@ impl Rank {
     }
 
     /// Records the answer of a line's command. The rank may have become worn by that command.
+    #[inline(always)]
     pub fn ran(&mut self, line: u32, answer: Answer) -> Result<(), Memory>
         requires in_time { self.old.clock < MAX_STAMP }
         ensures records { OnOk result (Records line answer self.old self.new) }

@@ -12,6 +12,7 @@ use nm_types::Memory;
 
 /// Makes room for two events beside that of each message that has not left, for one packet, and for
 /// one request.
+#[inline(always)]
 pub(crate) fn make_room(
     journal: &mut Journal,
     sending: &mut Sending,

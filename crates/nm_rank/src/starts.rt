@@ -40,6 +40,7 @@ fn mode(eager: u16, sync: bool, len: u32) -> How
 
 /// What follows where a receive took this message: one that was sent by asking is cleared, and is
 /// here where it has no bytes.
+#[inline(always)]
 fn follow(journal: &mut Journal, sending: &mut Sending, taken: Option<Arrival>)
     requires sender { IfSome taken (λ a. a.env.from < length sending.old.outbox.popped) }
     requires few { (to : ℕ) → to < length sending.old.outbox.popped →

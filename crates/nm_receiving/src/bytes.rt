@@ -32,6 +32,7 @@ pub(crate) fn reserve_from(grants: &mut Grants, from: Peer, ranks: usize) -> Res
 
 /// What follows where a receive takes a message, if it takes one: a message that was sent by asking is
 /// granted, and one without bytes is here. There is room for the grant.
+#[inline(always)]
 pub(crate) fn grant_taken(grants: &mut Grants, receipts: &mut Receipts, taken: &Option<Arrival>)
     requires ready { IfSome taken.now (λ a. IsReadyFor grants.old a.env.from) }
     requires sender { IfSome taken.now (λ a. a.env.from < length grants.old.grants) }
@@ -52,6 +53,7 @@ pub(crate) fn grant_taken(grants: &mut Grants, receipts: &mut Receipts, taken: &
 }
 
 /// The bytes of a message that is here whole, which are gone then.
+#[inline(always)]
 pub(crate) fn take_bytes(joiner: &mut Joiner, grants: &mut Grants, a: &Arrival) -> Bytes
     requires sender { a.now.env.from < joiner.old.sizes.ranks }
     requires granted { a.now.env.from < length grants.old.grants }

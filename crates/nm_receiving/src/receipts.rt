@@ -91,6 +91,7 @@ impl Receipts {
     }
 
     /// Makes room for one message more of a sender.
+    #[inline(always)]
     pub(crate) fn reserve(&mut self, from: u8) -> Result<(), Memory>
         requires { from < length self.old.rows }
         ensures rows { self.new.rows ≡ self.old.rows }

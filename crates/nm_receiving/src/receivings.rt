@@ -390,6 +390,7 @@ impl Receiving {
     }
 
     /// What the receive ended with, if it is complete. The bytes that it shows are gone then.
+    #[inline(always)]
     pub fn finish(&mut self, number: u64) -> Option<Answer>
         requires known { number < length self.old.receives }
         requires live { option_map_or (λ r. r.ended) (slice_get self.old.receives number) false

@@ -63,6 +63,7 @@ impl Row {
     }
 
     /// Makes room for one message more.
+    #[inline(always)]
     pub(crate) fn reserve(&mut self) -> Result<(), Memory>
         ensures same { self.new.messages ≡ self.old.messages }
         ensures ok { OnOk result (0 < self.new.room) }

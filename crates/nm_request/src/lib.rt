@@ -118,6 +118,7 @@ impl Requests {
     }
 
     /// Adds a request. It takes no memory where there is room.
+    #[inline(always)]
     pub fn add(&mut self, kind: Kind) -> Result<Req, Memory>
         requires in_range { self.old.added < MAX_REQUESTS }
         ensures ok { IfOk result (λ r. AddsRequest self.old self.new r kind) }

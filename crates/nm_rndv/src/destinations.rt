@@ -91,6 +91,7 @@ impl Destination {
     }
 
     /// Whether the message was cleared and is not out.
+    #[inline(always)]
     pub fn is_leaving(&self, n: u64) -> bool
         ensures { result ≡ option_map_or is_leaving_lem (state_in self.now n) false }
     {
@@ -105,6 +106,7 @@ impl Destination {
     }
 
     /// Whether the message is out.
+    #[inline(always)]
     pub fn is_out(&self, n: u64) -> bool
         ensures { result ≡ option_map_or is_out_lem (state_in self.now n) false }
     {

@@ -81,6 +81,7 @@ impl Grants {
     }
 
     /// Makes room for one grant more of this sender. No grant changes.
+    #[inline(always)]
     pub fn reserve_for(&mut self, from: u8) -> Result<(), Memory>
         requires { from < length self.old.grants }
         ensures ready { OnOk result (IsReadyFor self.new from) }
@@ -91,6 +92,7 @@ impl Grants {
 
     /// Clears message `n` of a sender, of this many bytes, to be sent. The answer is whether it is
     /// whole already, as it is where it has none.
+    #[inline(always)]
     pub fn grant(&mut self, from: u8, n: u64, len: u32) -> Result<bool, Memory>
         requires in_range { from < length self.old.grants }
         requires is_new { grant_in (grants_from self.old from) n ≡ None }
@@ -192,6 +194,7 @@ impl Grants {
     }
 
     /// The bytes of a whole message, which are gone then.
+    #[inline(always)]
     pub fn take(&mut self, from: u8, n: u64) -> Bytes
         requires in_range { from < length self.old.grants }
         requires whole { is_whole_in (grants_from self.old from) n ≡ true }

@@ -63,6 +63,7 @@ fn message_at(order: &[(u8, u64)], place: usize) -> Option<(u8, u64)>
 }
 
 /// Whether the message at this place of the order was cleared and is not out.
+#[inline(always)]
 fn leaves_at(destinations: &[Destination], order: &[(u8, u64)], place: usize) -> bool
     ensures { result ≡ option_map_or (leaves destinations.now) (slice_get order.now place) false }
 {
@@ -77,6 +78,7 @@ fn leaves_at(destinations: &[Destination], order: &[(u8, u64)], place: usize) ->
 
 /// The place of the first message that leaves, which is not before this place, or the length of the
 /// order.
+#[inline(always)]
 fn first_leaving(destinations: &[Destination], order: &[(u8, u64)], from: usize) -> usize
     requires { from ≤ position_or_len (leaves destinations.now) order.now }
     ensures { result ≡ position_or_len (leaves destinations.now) order.now }

@@ -65,6 +65,7 @@ impl Places {
     }
 
     /// The place of a number.
+    #[inline(always)]
     pub fn get(&self, n: u64) -> Option<usize>
         ensures { result ≡ place_in self.now n }
     {

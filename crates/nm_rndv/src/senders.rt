@@ -104,6 +104,7 @@ impl Sender {
     }
 
     /// Grants a message of this length. The answer is whether it is whole already.
+    #[inline(always)]
     pub fn grant(&mut self, n: u64, len: u32) -> Result<bool, Memory>
         requires { grant_in self.old.grants n ≡ None }
         ensures ok { OnOk result (self.new.grants ≡ self.old.grants ++ (n, fresh len) ∷ []) }
@@ -180,6 +181,7 @@ impl Sender {
     }
 
     /// The bytes of a whole message.
+    #[inline(always)]
     pub fn take(&mut self, n: u64) -> Bytes
         requires { is_whole_in self.old.grants n ≡ true }
         ensures bytes { option_and_then (λ g. g.bytes) (grant_in self.old.grants n) ≡ Some result }

@@ -91,6 +91,7 @@ impl Journal {
     }
 
     /// Records what happened, one tick later. There is room for it.
+    #[inline(always)]
     pub fn add(&mut self, what: Happened)
         requires room { 0 < self.old.spare }
         requires in_time { self.old.clock < MAX_STAMP }

@@ -41,6 +41,7 @@ fn new_set(alloc: Global) -> Result<Box<IndexSet<u64>>, Memory>
 }
 
 /// Puts a new number behind those of a set.
+#[inline(always)]
 fn insert(set: &mut IndexSet<u64>, n: u64)
     requires new { has_lem set.old.keys n ≡ false }
     requires room { 0 < spare set.old }
@@ -80,6 +81,7 @@ impl Numbers {
     }
 
     /// Puts a new one behind them.
+    #[inline(always)]
     pub fn add(&mut self, n: u64)
         requires new { has_lem self.old.numbers n ≡ false }
         requires room { 0 < self.old.spare }

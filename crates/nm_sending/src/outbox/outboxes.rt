@@ -125,6 +125,7 @@ impl Outbox {
     }
 
     /// Makes room for this many notes more.
+    #[inline(always)]
     pub fn reserve(&mut self, extra: usize) -> Result<(), Memory>
         ensures same { self.new ≡ record self.old { spare = self.new.spare } }
         ensures kept { self.old.spare ≤ self.new.spare }
