@@ -20,8 +20,8 @@
 mod commands;
 pub mod laws;
 mod names;
+mod pages;
 mod passing;
-mod places;
 mod processes;
 mod steps;
 

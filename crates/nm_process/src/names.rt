@@ -6,7 +6,7 @@ ghost use Rattle.std.specs.Prelude.{◌≡◌, ℕ, [], None, Some, IfNone, IfOk
 ghost use Rattle.std.specs.Prelude.{if◌then◌else◌, nat_eq, option_map, slice_get};
 ghost use Rattle.std.specs.Map.{lookup};
 
-use crate::places::Places;
+use crate::pages::Pages;
 use nm_rank::Req;
 use nm_types::Memory;
 use std::alloc::Global;
@@ -17,7 +17,7 @@ pub(crate) struct RequestNames {
     // in the order in which they came
     entries: Vec<(u16, Req)>,
     // where each of them stands there
-    places: Places,
+    places: Pages,
 }
 
 impl Drop for RequestNames {
@@ -48,7 +48,7 @@ impl RequestNames {
     {
         Ok(RequestNames {
             entries: Vec::with_capacity(alloc, capacity)?,
-            places: Places::new(alloc),
+            places: Pages::new(alloc),
         })
     }
 

@@ -2,7 +2,7 @@
 use Rattle.std.proofs.Common.{arith}
 use Rattle.std.proofs.lemmas.Grind.{common_steps}
 use Rattle.nm_process.specs.Sparse.{place_of_name}
-use Rattle.nm_process.proofs.places.Places.get.Goals as goal
+use Rattle.nm_process.proofs.pages.Pages.get.Goals as goal
 
 pub returns-in_default : goal.returns-in_default
 unfolding place_of_name

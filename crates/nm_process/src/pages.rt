@@ -9,19 +9,19 @@ use std::alloc::Global;
 use std::marker::Model;
 
 /// A place for each of some names. One that was never given a place has any.
-pub(crate) struct Places {
+pub(crate) struct Pages {
     // the page of each number, empty until it is used
     pages: Vec<Vec<u16>>,
     alloc: Global,
 }
 
-impl Drop for Places {
+impl Drop for Pages {
     fn drop(self) {
-        let Places { pages: _, alloc: _ } = self;
+        let Pages { pages: _, alloc: _ } = self;
     }
 }
 
-impl Model for Places {
+impl Model for Pages {
     ghost use Rattle.std.specs.Prelude.{ℕ, List, map};
 
     ghost Value = { List (List ℕ) };
@@ -74,12 +74,12 @@ fn fill(page: &mut Vec<u16>) -> Result<(), Memory>
     Ok(())
 }
 
-impl Places {
+impl Pages {
     /// No name has a place.
     pub(crate) fn new(alloc: Global) -> Self
         ensures { result ≡ [] }
     {
-        Places {
+        Pages {
             pages: Vec::new(alloc),
             alloc,
         }

@@ -2,7 +2,7 @@
 use Rattle.std.proofs.Common.{rules, ℕ, ◌-◌, ◌∙◌, ap, List, ◌++◌, replicate, get_or, vec_len}
 use Rattle.std.proofs.lemmas.List.{take_all}
 use Rattle.nm_process.proofs.PageLemmas.{zeros_more}
-use Rattle.nm_process.proofs.places.fill.Goals as goal
+use Rattle.nm_process.proofs.pages.fill.Goals as goal
 
 pub returns-in_ok-resize-clause-same : goal.returns-in_ok-resize-clause-same
 returns-in_ok-resize-clause-same c k =

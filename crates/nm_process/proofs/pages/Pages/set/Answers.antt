@@ -5,7 +5,7 @@ use Rattle.nm_types.proofs.ResultLemmas.{on_err}
 use Rattle.nm_types.proofs.RowLemmas.{row_at}
 use Rattle.nm_process.specs.Sparse.{place_of_name}
 use Rattle.nm_process.proofs.PageLemmas.{put, refill, same_pages}
-use Rattle.nm_process.proofs.places.Places.set.Goals as goal
+use Rattle.nm_process.proofs.pages.Pages.set.Goals as goal
 
 abbrev items : Vec ℕ Global → List ℕ
 items v = v.items
