@@ -1,0 +1,16 @@
+-- A rank's account is what its process ended at.
+use Rattle.std.proofs.Common.{◌∙◌, ℕ, Option, List, [], ◌∷◌, ap}
+use Rattle.nm_history.specs.declared.events.Event.{Event}
+use Rattle.nm_history.specs.Quiescence.{Ended}
+use Rattle.nm_world.proofs.records.account.Goals as goal
+
+abbrev ended : ℕ → Option ℕ → List Event → List Ended
+ended at waits events = record { at = at; waits = waits; events = events } ∷ []
+
+pub returns : goal.returns
+returns c shape work =
+    ap (λ (at : ℕ). ended at c.next_line-waits.result c.into_parts-history.result.0.events) c.at-at.ensures
+    ∙ ap (λ (events : List Event). ended c.args.process.at c.next_line-waits.result events)
+    c.into_parts-history.ensures.events
+    ∙ ap (λ (waits : Option ℕ). ended c.args.process.at waits c.args.process.rank.events)
+    (c.next_line-waits.ensures shape work)
