@@ -156,8 +156,8 @@ impl Process {
     }
 
     /// A process at its first command of a script, whose commands stand at these places, in a run of
-    /// these sizes. It has room for as many names as if every other command started a request, and for
-    /// three events of each command.
+    /// these sizes. It has room for as many names and requests as if every other command started one, and
+    /// for three events of each command.
     pub fn new(
         alloc: Global,
         shape: Shape,
@@ -171,11 +171,12 @@ impl Process {
         ensures begins { IfOk result (λ p. (p.at ≡ 0) × IsAtWork shape lines.now p) }
     {
         let next = place_at(&own, lines, 0);
-        let requests = RequestNames::with_capacity(alloc, own.len() / 2)?;
+        let names = own.len() / 2;
+        let requests = RequestNames::with_capacity(alloc, names)?;
         let events = own.len().saturating_mul(3);
         Ok(Process {
             me,
-            rank: Rank::with_capacity(alloc, shape, me, events)?,
+            rank: Rank::with_capacity(alloc, shape, me, events, names + 1)?,
             requests,
             handles: IndexMap::new(alloc),
             own,

@@ -5,8 +5,10 @@ ghost use Rattle.nm_types.specs.declared.limits.TheConstants.{MAX_STAMP};
 ghost use Rattle.nm_history.specs.Known.{nothing_known};
 ghost use Rattle.nm_history.specs.Rest.{EmptyAreHere};
 ghost use Rattle.nm_history.specs.Rules.{AreRight};
+ghost use Rattle.nm_rndv.specs.Offers.{no_offers};
 ghost use Rattle.nm_sending.specs.Outboxes.{popped_to};
 ghost use Rattle.nm_sending.specs.Departures.{pushed_to};
+ghost use Rattle.nm_sending.specs.Sent.{AreSent};
 ghost use Rattle.nm_rank.specs.Journals.{IsJournal};
 ghost use Rattle.nm_rank.specs.New.{IsNew};
 ghost use Rattle.nm_rank.specs.Ranks.{IsFresh, count_of};
@@ -115,17 +117,39 @@ fn new_streams(alloc: Global, ranks: u8) -> Result<Vec<Stream>, Memory>
     Ok(streams)
 }
 
+/// Nothing was sent, with room for so many messages.
+fn new_sending(alloc: Global, ranks: u8, me: u8, messages: usize) -> Result<Sending, Memory>
+    ensures me { IfOk result (λ s. s.outbox.me ≡ me) }
+    ensures letters { IfOk result (λ s. s.outbox.letters ≡ []) }
+    ensures popped { IfOk result (λ s. s.outbox.popped ≡ replicate ranks 0) }
+    ensures none { IfOk result (λ s. AreSent s []) }
+    ensures offers { IfOk result (λ s. s.offers ≡ no_offers ranks) }
+    ensures pushed { IfOk result (λ s. s.pushed ≡ replicate ranks 0) }
+    ensures staying { IfOk result (λ s. s.staying ≡ 0) }
+{
+    let mut sending = Sending::new(alloc, ranks, me)?;
+    sending.reserve(messages)?;
+    Ok(sending)
+}
+
 impl Rank {
     /// A rank at which nothing happened, in a run of these sizes.
     pub fn new(alloc: Global, shape: Shape, me: u8) -> Result<Rank, Memory>
         requires { me < shape.ranks }
         ensures { IfOk result (IsNew shape me) }
     {
-        Rank::with_capacity(alloc, shape, me, 0)
+        Rank::with_capacity(alloc, shape, me, 0, 0)
     }
 
-    /// The same, with room for so many events: the history is laid anew only where more happen.
-    pub fn with_capacity(alloc: Global, shape: Shape, me: u8, events: usize) -> Result<Rank, Memory>
+    /// The same, with room for so many events, and for so many requests, of sends one half and of
+    /// receives the other: what is kept of them is laid anew only where there are more.
+    pub fn with_capacity(
+        alloc: Global,
+        shape: Shape,
+        me: u8,
+        events: usize,
+        requests: usize,
+    ) -> Result<Rank, Memory>
         requires { me < shape.ranks }
         ensures { IfOk result (IsNew shape me) }
     {
@@ -135,13 +159,13 @@ impl Rank {
         let took = zeros(alloc, ranks)?;
         let pulled = zeros(alloc, ranks)?;
         let streams = new_streams(alloc, ranks)?;
-        let sending = Sending::new(alloc, ranks, me)?;
-        let receiving = Receiving::new(alloc, shape)?;
+        let sending = new_sending(alloc, ranks, me, requests / 2)?;
+        let receiving = Receiving::with_capacity(alloc, shape, requests / 2)?;
         Ok(Rank {
             me,
             shape,
             journal,
-            requests: Requests::new(alloc),
+            requests: Requests::with_capacity(alloc, requests)?,
             sending,
             receiving,
             streams,

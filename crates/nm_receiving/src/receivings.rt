@@ -100,13 +100,26 @@ impl Receiving {
         ensures receives { IfOk result (λ r. r.receives ≡ []) }
         ensures drawn { IfOk result (λ r. length r.drawn ≡ shape.ranks) }
     {
+        Receiving::with_capacity(alloc, shape, 0)
+    }
+
+    /// The same, with room for what is kept of so many receives by their numbers.
+    pub fn with_capacity(alloc: Global, shape: Shape, receives: usize) -> Result<Receiving, Memory>
+        ensures sizes { IfOk result (λ r. r.sizes ≡ shape) }
+        ensures none { IfOk result (λ r. AreReceived r []) }
+        ensures nothing { IfOk result (λ r. (from : ℕ) →
+            (stream_of r from ≡ nothing_came) × (drawn_from r from ≡ 0)) }
+        ensures bytes { IfOk result (λ r. (a : Arrival) → came_of r a ≡ []) }
+        ensures receives { IfOk result (λ r. r.receives ≡ []) }
+        ensures drawn { IfOk result (λ r. length r.drawn ≡ shape.ranks) }
+    {
         let ranks = shape.ranks();
         Ok(Receiving {
             joiner: Joiner::new(alloc, shape)?,
             grants: Grants::new(alloc, ranks)?,
             receipts: Receipts::new(alloc, ranks)?,
             drawn: vec![in alloc; 0; ranks as usize]?,
-            receives: Vec::new(alloc),
+            receives: Vec::with_capacity(alloc, receives)?,
             matcher: Matcher::new(alloc),
         })
     }

@@ -97,6 +97,18 @@ impl Requests {
         }
     }
 
+    /// No request, with room for so many.
+    pub fn with_capacity(alloc: Global, requests: usize) -> Result<Self, Memory>
+        ensures none { IfOk result (λ live. (r : Req) → kind_of live r ≡ None) }
+        ensures counted { IfOk result (λ live. live.added ≡ 0) }
+        ensures room { IfOk result (λ live. requests ≤ live.spare) }
+    {
+        Ok(Requests {
+            live: Slab::with_capacity(alloc, requests)?,
+            added: 0,
+        })
+    }
+
     /// Whether no request can be added any more.
     pub fn is_worn(&self) -> bool
         ensures value { IsTrue result ↔ (self.now.added ≡ MAX_REQUESTS) }

@@ -10,10 +10,10 @@ invariant_of-result c =
     let r = c.in_ok-receiving.ensures in
     let events = ap (λ j. j.events) c.reserve.ensures.same ∙ c.new-journal.ensures.events in
     fields-new c.args.me c.args.shape c.reserve.new.self c.in_ok-sending.sending c.in_ok-receiving.receiving
-    (map (λ s. s.known) c.in_ok-streams.streams.items) c.new-3.result c.in_ok-took.took.items
+    (map (λ s. s.known) c.in_ok-streams.streams.items) c.in_ok-with_capacity.field-0 c.in_ok-took.took.items
     c.in_ok-pulled.pulled.items c.requires events s.none s.me (rw n at s.popped)
     (rw n at s.offers) s.staying r.none r.sizes r.nothing
-    (rw n at c.in_ok-streams.ensures) c.new-3.ensures.none
+    (rw n at c.in_ok-streams.ensures) c.in_ok-with_capacity.ensures.none
     (rw n at c.in_ok-took.ensures) (rw n at c.in_ok-pulled.ensures)
 
 pub returns : goal.returns
@@ -34,7 +34,7 @@ returns c =
       came = λ from. (r.nothing from).1;
       drawn = r.drawn;
       bytes = r.bytes;
-      requests = c.new-3.ensures.none;
+      requests = c.in_ok-with_capacity.ensures.none;
       took = rw n at c.in_ok-took.ensures;
       pulled = rw n at c.in_ok-pulled.ensures;
       strays = refl;

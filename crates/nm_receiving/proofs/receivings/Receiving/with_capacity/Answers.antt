@@ -7,33 +7,33 @@ use Rattle.nm_receiving.specs.Steps.{streams_of}
 use Rattle.nm_receiving.proofs.Beginning.{IsEmpty, kept-none, no_grants, no_streams, none_drawn}
 use Rattle.nm_receiving.proofs.Beginning.{received-none, streams_length}
 use Rattle.nm_receiving.proofs.CameLemmas.{came-none}
-use Rattle.nm_receiving.proofs.receivings.Receiving.new.Goals as goal
-use Rattle.nm_receiving.proofs.receivings.Receiving.new.Goals.{After-new-5}
+use Rattle.nm_receiving.proofs.receivings.Receiving.with_capacity.Goals as goal
+use Rattle.nm_receiving.proofs.receivings.Receiving.with_capacity.Goals.{After-new-4}
 
-abbrev made : After-new-5 → ReceivingView
+abbrev made : After-new-4 → ReceivingView
 made c =
     record {
       sizes = c.in_ok-new.field-0.sizes;
-      deeds = c.new-5.result;
+      deeds = c.new-4.result;
       streams = streams_of c.in_ok-new.field-0;
       grants = c.in_ok-new-2.field-0.grants;
       receipts = c.in_ok-new-3.field-0.rows;
-      receives = c.new-4.result.items;
+      receives = c.in_ok-with_capacity.field-0.items;
       drawn = c.in_ok-vec.field-0.items;
     }
 
-is_empty : (c : After-new-5) → IsEmpty (made c)
+is_empty : (c : After-new-4) → IsEmpty (made c)
 is_empty c =
     let n : ℕ = c.in_ok-new.field-0.sizes.ranks in
     let ranks : c.ranks-ranks.result ≡ n =
     c.ranks-ranks.ensures.value ∙ ap (λ (s : Sizes). s.ranks) (sym c.in_ok-new.ensures.shape) in
     record {
-      deeds = c.new-5.ensures;
+      deeds = c.new-4.ensures;
       streams = no_streams c.in_ok-new.field-0 c.in_ok-new.ensures.empty;
       streams' = streams_length c.in_ok-new.field-0;
       grants = c.in_ok-new-2.ensures ∙ ap (λ (k : ℕ). let ys : List (List (ℕ × Granted)) = replicate k [] in ys) ranks;
       receipts = c.in_ok-new-3.ensures ∙ ap (λ (k : ℕ). let ys : List (List Receipt) = replicate k [] in ys) ranks;
-      receives = c.new-4.ensures.items;
+      receives = c.in_ok-with_capacity.ensures.items;
       drawn = c.in_ok-vec.ensures.items_if_clones_equal (λ y is. is)
           ∙ ap (λ (k : ℕ). let ys : List ℕ = replicate k 0 in ys) ranks;
     }
