@@ -16,6 +16,8 @@
 //! for each message at each end, by rank and number. Two switches tell what the history costs (`rustc --cfg`):
 //!   no_history     none is kept
 //!   small_events   events of 24 bytes, and not of 48
+//! and a third one what the size of its records costs:
+//!   wide_records   each record of a message or a request has the bytes that the proved program keeps of it
 //!
 //! Standard output: the summary, as `nemesis flood` prints it. The last line is `done` where each receive got a
 //! message that fits it, with the bytes that were sent, all cells are home and each rank came to its end; else `bad`,
@@ -428,14 +430,38 @@ fn bucket(matcher: &mut Matcher, from: u8, env: Envelope) -> &mut Bucket {
     matcher.entry((from as u32) << 24 | (env.tag as u32) << 8 | env.ctx as u32).or_default()
 }
 
+// What the proved program keeps of a message or a request beside what this one does, in words.
+const WORDS_OF_DEPARTURE: usize = 4;
+const WORDS_OF_RECEIPT: usize = 4;
+const WORDS_OF_POST: usize = 9;
+const WORDS_OF_NOTE: usize = 6;
+const WORDS_OF_REQUEST: usize = 7;
+
+/// So many words more of a record, which are written where it is made.
+#[cfg(wide_records)]
+struct More<const WORDS: usize>([u64; WORDS]);
+#[cfg(not(wide_records))]
+struct More<const WORDS: usize>;
+
+impl<const WORDS: usize> More<WORDS> {
+    fn new() -> Self {
+        #[cfg(wide_records)]
+        return More(std::hint::black_box([1; WORDS]));
+        #[cfg(not(wide_records))]
+        More
+    }
+}
+
 /// A message at its sender.
 struct Departure {
+    _more: More<WORDS_OF_DEPARTURE>,
     env: Envelope,
     out: bool,
 }
 
 /// A message at its receiver.
 struct Receipt {
+    _more: More<WORDS_OF_RECEIPT>,
     body: Vec<u8>,
     env: Envelope,
     link: u32, // while it waits: the next one of its bucket
@@ -449,6 +475,7 @@ impl Receipt {
 
 /// A receive.
 struct Post {
+    _more: More<WORDS_OF_POST>,
     link: u32, // the message that it took; while it waits, the next one of its bucket
     paired: bool,
     from: u8,
@@ -456,6 +483,7 @@ struct Post {
 
 /// A message that is to leave, or a clearance of one.
 struct Note {
+    _more: More<WORDS_OF_NOTE>,
     clear: bool,
     rank: u8,
     n: u32,
@@ -489,6 +517,7 @@ struct Rank<'a> {
     own: &'a [Command],
     at: usize, // the next command
     names: Vec<u32>,
+    requests: Vec<More<WORDS_OF_REQUEST>>,
     peers: Vec<Peer>,
     posts: Vec<Post>,
     matcher: Matcher,
@@ -555,7 +584,7 @@ impl Rank<'_> {
         true
     }
     fn send_next(&mut self, s: &Shared) -> bool {
-        let Some(&Note { clear, rank: to, n }) = self.outbox.front() else { return false };
+        let Some(&Note { clear, rank: to, n, .. }) = self.outbox.front() else { return false };
         if clear {
             let env = Envelope { len: n, ..NONE };
             return self.send(s, to, Kind::Clear, env, &[]) && self.outbox.pop_front().is_some();
@@ -626,7 +655,7 @@ impl Rank<'_> {
         self.peers[from as usize].came[n as usize].body = self.body(len);
         self.peers[from as usize].due += len;
         self.due |= ((len > 0) as u64) << from;
-        self.outbox.push_back(Note { clear: true, rank: from, n });
+        self.outbox.push_back(Note { _more: More::new(), clear: true, rank: from, n });
         if len == 0 {
             self.history.add(Did::Complete, from, n, 0, NONE);
         }
@@ -637,12 +666,12 @@ impl Rank<'_> {
         self.history.add(Did::Arrive, from, n, 0, env);
         let mut body = if env.ask { Vec::new() } else { self.body(env.len) };
         body.extend_from_slice(bytes);
-        self.peers[from as usize].came.push(Receipt { body, env, link: 0 });
+        self.peers[from as usize].came.push(Receipt { _more: More::new(), body, env, link: 0 });
         let bucket = bucket(&mut self.matcher, from, env);
         if bucket.waits == Waits::Receives {
             let post = &mut self.posts[bucket.first as usize];
             bucket.leave(post.link);
-            *post = Post { link: n, paired: true, from };
+            (post.link, post.paired, post.from) = (n, true, from);
             if env.ask {
                 self.grant(from, n);
             }
@@ -671,7 +700,7 @@ impl Rank<'_> {
                 }
             }
             Kind::Clear if peer.sent[env.len as usize].env.len == 0 => self.leave(from, env.len),
-            Kind::Clear => self.cleared.push_back(Note { clear: true, rank: from, n: env.len }),
+            Kind::Clear => self.cleared.push_back(Note { _more: More::new(), clear: true, rank: from, n: env.len }),
         }
     }
     /// Takes the packet in a sender's next box, if it is the next one of all.
@@ -770,9 +799,10 @@ impl Rank<'_> {
         let env = Envelope { ask: env.ask || env.len > EAGER, ..env };
         let peer = &mut self.peers[to as usize];
         let n = peer.sent.len() as u32;
-        peer.sent.push(Departure { env, out: false });
+        peer.sent.push(Departure { _more: More::new(), env, out: false });
         self.history.add(Did::Send, to, n, self.at, env);
-        self.outbox.push_back(Note { clear: false, rank: to, n });
+        self.outbox.push_back(Note { _more: More::new(), clear: false, rank: to, n });
+        self.requests.push(More::new());
         self.names[q as usize] = SEND | (to as u32) << 16 | n;
         self.history.add(Did::Start, 0, 0, self.at, NONE);
         true
@@ -786,7 +816,7 @@ impl Rank<'_> {
             let n = bucket.first;
             let receipt = &self.peers[from as usize].came[n as usize];
             bucket.leave(receipt.link);
-            self.posts.push(Post { link: n, paired: true, from });
+            self.posts.push(Post { _more: More::new(), link: n, paired: true, from });
             if receipt.env.ask {
                 self.grant(from, n);
             }
@@ -794,8 +824,9 @@ impl Rank<'_> {
             if let Some(last) = bucket.join(Waits::Receives, number) {
                 self.posts[last as usize].link = number;
             }
-            self.posts.push(Post { link: 0, paired: false, from });
+            self.posts.push(Post { _more: More::new(), link: 0, paired: false, from });
         }
+        self.requests.push(More::new());
         self.names[q as usize] = RECEIVE | number;
         self.history.add(Did::Start, 0, 0, self.at, NONE);
         true
@@ -810,7 +841,7 @@ impl Rank<'_> {
             self.totals[0] += 1;
             self.history.add(Did::Sent, 0, 0, self.at, NONE);
         } else {
-            let Post { link: n, paired, from } = self.posts[(name & !RECEIVE) as usize];
+            let Post { link: n, paired, from, .. } = self.posts[(name & !RECEIVE) as usize];
             if !paired || !self.peers[from as usize].came[n as usize].is_whole() {
                 return false;
             }
