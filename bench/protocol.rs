@@ -17,7 +17,7 @@
 //!   no_history     none is kept
 //!   small_events   events of 24 bytes, and not of 48
 //! and a third one what the size of its records costs:
-//!   wide_records   each record of a message or a request has the bytes that the proved program keeps of it
+//!   wide_records   each record of a message or a request has about as many bytes as the proved program keeps of it
 //!
 //! Standard output: the summary, as `nemesis flood` prints it. The last line is `done` where each receive got a
 //! message that fits it, with the bytes that were sent, all cells are home and each rank came to its end; else `bad`,
