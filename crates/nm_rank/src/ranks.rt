@@ -5,10 +5,8 @@ ghost use Rattle.nm_types.specs.declared.limits.TheConstants.{MAX_STAMP};
 ghost use Rattle.nm_history.specs.Known.{nothing_known};
 ghost use Rattle.nm_history.specs.Rest.{EmptyAreHere};
 ghost use Rattle.nm_history.specs.Rules.{AreRight};
-ghost use Rattle.nm_rndv.specs.Offers.{no_offers};
 ghost use Rattle.nm_sending.specs.Outboxes.{popped_to};
 ghost use Rattle.nm_sending.specs.Departures.{pushed_to};
-ghost use Rattle.nm_sending.specs.Sent.{AreSent};
 ghost use Rattle.nm_rank.specs.Journals.{IsJournal};
 ghost use Rattle.nm_rank.specs.New.{IsNew};
 ghost use Rattle.nm_rank.specs.Ranks.{IsFresh, count_of};
@@ -117,21 +115,6 @@ fn new_streams(alloc: Global, ranks: u8) -> Result<Vec<Stream>, Memory>
     Ok(streams)
 }
 
-/// Nothing was sent, with room for so many messages.
-fn new_sending(alloc: Global, ranks: u8, me: u8, messages: usize) -> Result<Sending, Memory>
-    ensures me { IfOk result (λ s. s.outbox.me ≡ me) }
-    ensures letters { IfOk result (λ s. s.outbox.letters ≡ []) }
-    ensures popped { IfOk result (λ s. s.outbox.popped ≡ replicate ranks 0) }
-    ensures none { IfOk result (λ s. AreSent s []) }
-    ensures offers { IfOk result (λ s. s.offers ≡ no_offers ranks) }
-    ensures pushed { IfOk result (λ s. s.pushed ≡ replicate ranks 0) }
-    ensures staying { IfOk result (λ s. s.staying ≡ 0) }
-{
-    let mut sending = Sending::new(alloc, ranks, me)?;
-    sending.reserve(messages)?;
-    Ok(sending)
-}
-
 impl Rank {
     /// A rank at which nothing happened, in a run of these sizes.
     pub fn new(alloc: Global, shape: Shape, me: u8) -> Result<Rank, Memory>
@@ -142,7 +125,7 @@ impl Rank {
     }
 
     /// The same, with room for so many events, and for so many requests, of sends one half and of
-    /// receives the other: what is kept of them is laid anew only where there are more.
+    /// receives the other.
     pub fn with_capacity(
         alloc: Global,
         shape: Shape,
@@ -159,7 +142,7 @@ impl Rank {
         let took = zeros(alloc, ranks)?;
         let pulled = zeros(alloc, ranks)?;
         let streams = new_streams(alloc, ranks)?;
-        let sending = new_sending(alloc, ranks, me, requests / 2)?;
+        let sending = Sending::with_capacity(alloc, ranks, me, requests / 2)?;
         let receiving = Receiving::with_capacity(alloc, shape, requests / 2)?;
         Ok(Rank {
             me,

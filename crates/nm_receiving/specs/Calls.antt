@@ -3,8 +3,10 @@ use Rattle.std.specs.Prelude.{◌≡◌, ℕ, ◌+◌, ◌<◌, true, false, if�
 use Rattle.std.specs.Prelude.{length, map, option_map, slice_set, IfSome, IsNone, IsSome}
 use Rattle.std.specs.List.{slice_get}
 use Rattle.std.specs.Option.{option_map_or}
+use Rattle.nm_types.specs.Sizes.{Sizes}
 use Rattle.nm_types.specs.declared.answers.Answer.{Answer}
 use Rattle.nm_types.specs.declared.limits.TheConstants.{MAX_PACKETS}
+use Rattle.nm_types.specs.declared.messages.Arrival.{Arrival}
 use Rattle.nm_types.specs.declared.packets.Packet.{Packet}
 use Rattle.nm_types.specs.declared.packets.Piece.{Piece}
 use Rattle.nm_history.specs.declared.events.Event.{Event}
@@ -16,13 +18,24 @@ use Rattle.nm_history.specs.Completion.Request.{Receiving}
 use Rattle.nm_history.specs.Effects.{whole_if}
 use Rattle.nm_history.specs.Known.{Known}
 use Rattle.nm_history.specs.Pieces.{due_pieces, is_due, piece_makes}
-use Rattle.nm_eager.specs.Streams.{after, continues, is_kept, missing}
+use Rattle.nm_eager.specs.Streams.{after, continues, is_kept, missing, nothing_came}
 use Rattle.nm_receiving.specs.declared.receivings.Drawn.{Drawn}
 use Rattle.nm_receiving.specs.declared.receivings.Started.{Started}
 use Rattle.nm_receiving.specs.Receipts.{AddsBytes, ReceivingView, SameBytes, SameOtherBytes, ShowsBytes}
-use Rattle.nm_receiving.specs.Receipts.{drawn_from, of_asked, of_eager, pair_at, stream_of, taken_events}
+use Rattle.nm_receiving.specs.Receipts.{came_of, drawn_from, of_asked, of_eager, pair_at, stream_of}
+use Rattle.nm_receiving.specs.Receipts.{taken_events}
 use Rattle.nm_receiving.specs.Received.{AreReceived, Preserves, TakesPacket}
 use Rattle.nm_receiving.specs.Steps.{with_ended}
+
+-- nothing came and nothing was received, in a run of these sizes
+pub record ReceivedNothing (shape : Sizes) (v : ReceivingView) : Type 0 where
+  pub sizes : v.sizes ≡ shape
+  pub none : AreReceived v []
+  pub streams : (from : ℕ) → stream_of v from ≡ nothing_came
+  pub pieces : (from : ℕ) → drawn_from v from ≡ 0
+  pub bytes : (a : Arrival) → came_of v a ≡ []
+  pub receives : v.receives ≡ []
+  pub drawn : length v.drawn ≡ shape.ranks
 
 -- A receive of at most so many bytes was started, and took a message or not. With what begins it, by the
 -- command's line, it happened that an empty message is here that was sent by asking and is taken.

@@ -18,11 +18,11 @@ ghost use Rattle.nm_history.specs.Sends.{message_of};
 ghost use Rattle.nm_history.specs.Effects.{happenings};
 ghost use Rattle.nm_history.specs.Known.{Known, learned};
 ghost use Rattle.nm_history.specs.Pieces.{due_pieces};
-ghost use Rattle.nm_eager.specs.Streams.{missing, nothing_came};
+ghost use Rattle.nm_eager.specs.Streams.{missing};
 ghost use Rattle.nm_receiving.specs.Calls.{DrawsPiece, FinishesReceive, MayBeTakenIn, StartsOne};
-ghost use Rattle.nm_receiving.specs.Calls.{TakesMessagePacket};
+ghost use Rattle.nm_receiving.specs.Calls.{ReceivedNothing, TakesMessagePacket};
 ghost use Rattle.nm_receiving.specs.StreamViews.{is_done_at_once};
-ghost use Rattle.nm_receiving.specs.Receipts.{came_of, drawn_from, receipt_of, receipts_from};
+ghost use Rattle.nm_receiving.specs.Receipts.{drawn_from, receipt_of, receipts_from};
 ghost use Rattle.nm_receiving.specs.Receipts.{stream_of};
 ghost use Rattle.nm_receiving.specs.Received.{AreReceived, PreservesSender, IsOwed, Preserves, MayBeTaken};
 
@@ -92,26 +92,14 @@ impl Model for Receiving {
 impl Receiving {
     /// Nothing came and nothing was received, in a run of these sizes.
     pub fn new(alloc: Global, shape: Shape) -> Result<Receiving, Memory>
-        ensures sizes { IfOk result (λ r. r.sizes ≡ shape) }
-        ensures none { IfOk result (λ r. AreReceived r []) }
-        ensures nothing { IfOk result (λ r. (from : ℕ) →
-            (stream_of r from ≡ nothing_came) × (drawn_from r from ≡ 0)) }
-        ensures bytes { IfOk result (λ r. (a : Arrival) → came_of r a ≡ []) }
-        ensures receives { IfOk result (λ r. r.receives ≡ []) }
-        ensures drawn { IfOk result (λ r. length r.drawn ≡ shape.ranks) }
+        ensures { IfOk result (ReceivedNothing shape) }
     {
         Receiving::with_capacity(alloc, shape, 0)
     }
 
     /// The same, with room for what is kept of so many receives by their numbers.
     pub fn with_capacity(alloc: Global, shape: Shape, receives: usize) -> Result<Receiving, Memory>
-        ensures sizes { IfOk result (λ r. r.sizes ≡ shape) }
-        ensures none { IfOk result (λ r. AreReceived r []) }
-        ensures nothing { IfOk result (λ r. (from : ℕ) →
-            (stream_of r from ≡ nothing_came) × (drawn_from r from ≡ 0)) }
-        ensures bytes { IfOk result (λ r. (a : Arrival) → came_of r a ≡ []) }
-        ensures receives { IfOk result (λ r. r.receives ≡ []) }
-        ensures drawn { IfOk result (λ r. length r.drawn ≡ shape.ranks) }
+        ensures { IfOk result (ReceivedNothing shape) }
     {
         let ranks = shape.ranks();
         Ok(Receiving {

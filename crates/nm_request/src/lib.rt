@@ -12,7 +12,7 @@
 //! - `get` and `free` answer `NoSuch` exactly where the request isn't live (clause `kind`).
 //! - Want of memory leaves everything as it was, and never comes where there is room.
 //! # What is only tested
-//! That `add` and `reserve` succeed with ample memory (`nm_rows`).
+//! That `add`, `reserve` and `with_capacity` succeed with ample memory (`nm_rows`).
 #![tactic(auto)]
 
 ghost use Rattle.std.specs.Prelude.{◌≡◌, ◌<◌, ◌≤◌, ◌↔◌, ◌^◌, None, IsOk, IfOk, OnOk, OnErr, IsTrue};

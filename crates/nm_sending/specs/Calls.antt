@@ -1,6 +1,6 @@
 -- What each call does to a rank's sending side. MPI 3.1, 3.4, 3.7.3, 3.8.4.
 use Rattle.std.specs.Prelude.{◌≡◌, ℕ, ◌+◌, ◌<◌, ◌≤◌, ◌==◌, ◌&&◌, Bool, false, not, Option, Some, None}
-use Rattle.std.specs.Prelude.{List, [], ◌∷◌, ◌++◌, if◌then◌else◌, length, filter, slice_set}
+use Rattle.std.specs.Prelude.{List, [], ◌∷◌, ◌++◌, if◌then◌else◌, length, filter, replicate, slice_set}
 use Rattle.std.specs.Prelude.{IfSome, option_and_then}
 use Rattle.std.specs.List.{slice_get}
 use Rattle.nm_types.specs.Bodies.{body_len, bytes_of}
@@ -16,7 +16,8 @@ use Rattle.nm_history.specs.Delivery.{is_asked}
 use Rattle.nm_history.specs.Effects.{is_empty_send}
 use Rattle.nm_history.specs.Outgoing.{packets_by}
 use Rattle.nm_history.specs.Sends.{Sent, is_ask, sends}
-use Rattle.nm_rndv.specs.Offers.{Offering, destined, first_leaving, out_by_piece, with_answer, with_asked}
+use Rattle.nm_rndv.specs.Offers.{Offering, destined, first_leaving, no_offers, out_by_piece, with_answer}
+use Rattle.nm_rndv.specs.Offers.{with_asked}
 use Rattle.nm_rndv.specs.Offers.{with_clearance, with_destined, with_popped, with_recall}
 use Rattle.nm_sending.specs.declared.TheConstants.{MAX_MESSAGES}
 use Rattle.nm_sending.specs.Departures.{SendingView, cleared_to, departures_to, ended_by, ends_to, pushed_to}
@@ -26,6 +27,16 @@ use Rattle.nm_sending.specs.Sent.{AreSent, Preserves, Puts, only_to, outs}
 -- nothing changed but for how many notes there is room
 abbrev pub SameButRoom : SendingView → SendingView → Type 0
 SameButRoom old new = new ≡ record old { outbox = record old.outbox { spare = new.outbox.spare } }
+
+-- nothing was sent, at this one of so many ranks
+pub record SentNothing (ranks i : ℕ) (v : SendingView) : Type 0 where
+  pub me : v.outbox.me ≡ i
+  pub letters : v.outbox.letters ≡ []
+  pub popped : v.outbox.popped ≡ replicate ranks 0
+  pub none : AreSent v []
+  pub offers : v.offers ≡ no_offers ranks
+  pub pushed : v.pushed ≡ replicate ranks 0
+  pub staying : v.staying ≡ 0
 
 -- One message more can be sent to a rank, in 17 packets at most, and be counted.
 pub record HasRoomFor (v : SendingView) (to : ℕ) : Type 0 where

@@ -1,7 +1,7 @@
 //! The sending side of a rank.
 
 ghost use Rattle.std.specs.Prelude.{◌≡◌, ◌+◌, ◌-◌, ◌<◌, ◌≤◌, ◌↔◌, ℕ, false, None, List, []};
-ghost use Rattle.std.specs.Prelude.{if◌then◌else◌, length, replicate, slice_get, IfOk, IfSome};
+ghost use Rattle.std.specs.Prelude.{if◌then◌else◌, length, slice_get, IfOk, IfSome};
 ghost use Rattle.std.specs.Prelude.{IsSome, IsSomeAnd, IsNone, MatchOption, OnOk, OnErr, option_map};
 ghost use Rattle.std.specs.List.{AllByRecursion};
 ghost use Rattle.nm_types.specs.declared.limits.TheConstants.{MAX_BODY, MAX_EAGER, MAX_PACKETS};
@@ -14,13 +14,13 @@ ghost use Rattle.nm_history.specs.Delivery.{is_asked as is_asked_lem};
 ghost use Rattle.nm_history.specs.Happens.{happened, is_recall};
 ghost use Rattle.nm_history.specs.Sends.{sends, is_ask};
 ghost use Rattle.nm_history.specs.Rest.{EagerHaveLeft};
-ghost use Rattle.nm_rndv.specs.Offers.{AllOut, next_offered, no_offers, offered};
+ghost use Rattle.nm_rndv.specs.Offers.{AllOut, next_offered, offered};
 ghost use Rattle.nm_sending.specs.Letters.{packets_for};
 ghost use Rattle.nm_sending.specs.Outboxes.{popped_to, put_to};
 ghost use Rattle.nm_sending.specs.declared.TheConstants.{MAX_MESSAGES};
 ghost use Rattle.nm_sending.specs.Calls.{AnswersRecall, ClearsMessage, HasRoomFor, PopsFirstPacket};
 ghost use Rattle.nm_sending.specs.Calls.{PopsNextPiece, RecallsMessage, SameButRoom, SendsMessage};
-ghost use Rattle.nm_sending.specs.Calls.{sent_as};
+ghost use Rattle.nm_sending.specs.Calls.{SentNothing, sent_as};
 ghost use Rattle.nm_sending.specs.Departures.{departures_to, pushed_to};
 ghost use Rattle.nm_sending.specs.Sent.{AreSent, MayBeAnswered, MayBeCleared, MayBeRecalled};
 ghost use Rattle.nm_sending.specs.Sent.{Puts, only_to};
@@ -91,18 +91,25 @@ impl Model for Sending {
 impl Sending {
     /// Nothing was sent, at one of so many ranks.
     pub fn new(alloc: Global, ranks: u8, me: u8) -> Result<Sending, Memory>
-        ensures me { IfOk result (λ s. s.outbox.me ≡ me) }
-        ensures letters { IfOk result (λ s. s.outbox.letters ≡ []) }
-        ensures popped { IfOk result (λ s. s.outbox.popped ≡ replicate ranks 0) }
-        ensures none { IfOk result (λ s. AreSent s []) }
-        ensures offers { IfOk result (λ s. s.offers ≡ no_offers ranks) }
-        ensures pushed { IfOk result (λ s. s.pushed ≡ replicate ranks 0) }
-        ensures staying { IfOk result (λ s. s.staying ≡ 0) }
+        ensures { IfOk result (SentNothing ranks me) }
+    {
+        Sending::with_capacity(alloc, ranks, me, 0)
+    }
+
+    /// The same, with room for so many messages or packets without bytes.
+    pub fn with_capacity(
+        alloc: Global,
+        ranks: u8,
+        me: u8,
+        messages: usize,
+    ) -> Result<Sending, Memory>
+        ensures nothing { IfOk result (SentNothing ranks me) }
+        ensures room { IfOk result (λ s. messages ≤ s.outbox.spare) }
     {
         Ok(Sending {
             me,
             ranks,
-            outbox: Outbox::new(alloc, ranks, me)?,
+            outbox: Outbox::with_capacity(alloc, ranks, me, messages)?,
             offers: Offers::new(alloc, ranks)?,
             departures: Table::new(alloc, ranks)?,
             pushed: vec![in alloc; 0; ranks as usize]?,

@@ -21,8 +21,8 @@ use std::marker::Model;
 
 /// The packets that a rank has still to send.
 ///
-/// It keeps one note for a message, and a packet is made where it is sent from. Each call but `new` and
-/// `reserve` takes constant time and no memory.
+/// It keeps one note for a message, and a packet is made where it is sent from. Each call but
+/// `with_capacity` and `reserve` takes constant time and no memory.
 pub struct Outbox {
     me: u8,
     notes: VecDeque<Note>,
@@ -77,15 +77,16 @@ fn put_back(notes: &mut VecDeque<Note>, note: Option<Note>)
 }
 
 impl Outbox {
-    /// The empty outbox of a rank, of so many ranks.
-    pub fn new(alloc: Global, ranks: u8, me: u8) -> Result<Outbox, Memory>
+    /// The empty outbox of a rank, of so many ranks, with room for this many notes.
+    pub fn with_capacity(alloc: Global, ranks: u8, me: u8, notes: usize) -> Result<Outbox, Memory>
         ensures me { IfOk result (λ outbox. outbox.me ≡ me) }
         ensures letters { IfOk result (λ outbox. outbox.letters ≡ []) }
         ensures popped { IfOk result (λ outbox. outbox.popped ≡ replicate ranks 0) }
+        ensures room { IfOk result (λ outbox. notes ≤ outbox.spare) }
     {
         Ok(Outbox {
             me,
-            notes: VecDeque::new(alloc),
+            notes: VecDeque::with_capacity(alloc, notes)?,
             popped: vec![in alloc; 0; ranks as usize]?,
             put: vec![in alloc; 0; ranks as usize]?,
             most: 0,
@@ -131,6 +132,11 @@ impl Outbox {
         ensures kept { self.old.spare ≤ self.new.spare }
         ensures ok { OnOk result (extra ≤ self.new.spare) }
     {
+        // nearly always there is room, and this is asked for each packet
+        let room = self.notes.capacity().saturating_sub(self.notes.len());
+        if extra <= room {
+            return Ok(());
+        }
         self.notes.reserve(extra)?;
         Ok(())
     }

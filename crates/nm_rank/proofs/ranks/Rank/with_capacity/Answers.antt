@@ -6,20 +6,20 @@ use Rattle.nm_rank.proofs.ranks.Rank.with_capacity.Goals as goal
 pub invariant_of-result : goal.invariant_of-result
 invariant_of-result c =
     let n = c.ranks-ranks.ensures.value in
-    let s = c.in_ok-sending.ensures in
+    let s = c.in_ok-sending.ensures.nothing in
     let r = c.in_ok-receiving.ensures in
     let events = ap (λ j. j.events) c.reserve.ensures.same ∙ c.new-journal.ensures.events in
     fields-new c.args.me c.args.shape c.reserve.new.self c.in_ok-sending.sending c.in_ok-receiving.receiving
     (map (λ s. s.known) c.in_ok-streams.streams.items) c.in_ok-with_capacity.field-0 c.in_ok-took.took.items
     c.in_ok-pulled.pulled.items c.requires events s.none s.me (rw n at s.popped)
-    (rw n at s.offers) s.staying r.none r.sizes r.nothing
+    (rw n at s.offers) s.staying r.none r.sizes (λ from. (r.streams from, r.pieces from))
     (rw n at c.in_ok-streams.ensures) c.in_ok-with_capacity.ensures.none
     (rw n at c.in_ok-took.ensures) (rw n at c.in_ok-pulled.ensures)
 
 pub returns : goal.returns
 returns c =
     let n = c.ranks-ranks.ensures.value in
-    let s = c.in_ok-sending.ensures in
+    let s = c.in_ok-sending.ensures.nothing in
     let r = c.in_ok-receiving.ensures in
     record {
       me = refl;
@@ -31,7 +31,7 @@ returns c =
       popped = rw n at s.popped;
       offers = rw n at s.offers;
       pushed = rw n at s.pushed;
-      came = λ from. (r.nothing from).1;
+      came = r.pieces;
       drawn = r.drawn;
       bytes = r.bytes;
       requests = c.in_ok-with_capacity.ensures.none;

@@ -1,4 +1,5 @@
-use Rattle.std.proofs.Common.{◌≡◌, ℕ, List, [], replicate, sym, ◌∙◌, ap}
+use Rattle.std.proofs.Common.{◌≡◌, ℕ, List, [], length, replicate, sym, ◌∙◌, ap}
+use Rattle.std.proofs.lemmas.List.{length-replicate}
 use Rattle.nm_types.specs.Sizes.{Sizes}
 use Rattle.nm_rndv.specs.Grants.{Granted}
 use Rattle.nm_receiving.specs.declared.receipts.Receipt.{Receipt}
@@ -41,12 +42,16 @@ is_empty c =
 pub invariant_of-result : goal.invariant_of-result
 invariant_of-result c = kept-none (made c) (is_empty c)
 
-pub returns-clause-none : goal.returns-clause-none
-returns-clause-none c = received-none (made c) (is_empty c)
-
-pub returns-clause-nothing : goal.returns-clause-nothing
-returns-clause-nothing c = λ from.
-    let empty = is_empty c in (empty.streams from, none_drawn (made c) empty from)
-
-pub returns-clause-bytes : goal.returns-clause-bytes
-returns-clause-bytes c = let empty = is_empty c in came-none (made c) empty.streams (no_grants (made c) empty)
+pub returns : goal.returns
+returns c =
+    let empty = is_empty c in
+    record {
+      sizes = c.in_ok-new.ensures.shape;
+      none = received-none (made c) empty;
+      streams = empty.streams;
+      pieces = none_drawn (made c) empty;
+      bytes = came-none (made c) empty.streams (no_grants (made c) empty);
+      receives = empty.receives;
+      drawn = ap length empty.drawn ∙ length-replicate (made c).sizes.ranks 0
+          ∙ ap (λ (s : Sizes). s.ranks) c.in_ok-new.ensures.shape;
+    }
