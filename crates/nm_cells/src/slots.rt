@@ -14,12 +14,17 @@ use crate::cell::Cell;
 use crate::port::{Fabric, Port};
 use nm_chain::table::{Board, BoardSeat, Item, Parcel};
 
-// One more slot is in hand.
+// One more slot is in hand. Mostly it is the only one.
+#[inline(always)]
 pub(crate) fn carry(carried: &mut Vec<u64>, slot: u64)
     requires { vec_len carried.old < vec_capacity carried.old }
     ensures items { carried.new.items ≡ slot ∷ carried.old.items }
     ensures capacity { vec_capacity carried.old ≤ vec_capacity carried.new }
 {
+    if carried.is_empty() {
+        carried.push_reserved(slot);
+        return;
+    }
     let Ok(()) = carried.insert(0, slot) else {
         unreachable!()
     };

@@ -126,6 +126,7 @@ impl Sender {
     }
 
     /// Makes room for a message of this length.
+    #[inline(always)]
     pub fn reserve(&mut self, len: u32) -> Result<(), Memory>
         ensures ok { OnOk result (CanBegin self.new len) }
         ensures succeeds { CanBegin self.old len → IsOk result }

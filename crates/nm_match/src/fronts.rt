@@ -66,6 +66,7 @@ impl Fronts {
     }
 
     /// Enters a receive that comes last under a key, and answers the number of the oldest.
+    #[inline(always)]
     pub(crate) fn enter(&mut self, key: Picks, number: u64) -> Result<u64, Memory>
         ensures first { IfOk result (λ first.
             first ≡ option_map_or (λ n. n) (get same_picks self.old.map key) number) }

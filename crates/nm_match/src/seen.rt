@@ -65,6 +65,7 @@ impl Seen {
     }
 
     /// Makes room for a name. One that is next of its group stands apart nowhere.
+    #[inline(always)]
     pub(crate) fn make_room(&mut self, id: Message) -> Result<(), Memory>
         ensures same { (i : message.Message) → has_seen self.new i ≡ has_seen self.old i }
         ensures room { OnOk result (HasRoom self.new id) }
@@ -130,6 +131,7 @@ impl Seen {
 
     /// Takes a name. Of those that stand apart up to two are counted, so that they are the fewer
     /// the more names come.
+    #[inline(always)]
     pub(crate) fn add(&mut self, id: Message)
         requires room { HasRoom self.old id }
         ensures { (i : message.Message) →

@@ -26,6 +26,7 @@ pub struct Sent<I> {
 }
 
 // Sends a parcel by a cell of the own free queue, unless that one had a miss.
+#[inline(always)]
 fn send_by_cell<L: Ledger, I: Item>(
     f: &Fabric<I>,
     port: &mut Port<I>,

@@ -289,6 +289,7 @@ impl Process {
     pub fn run_next(&mut self, lines: &[Line]) -> Result<Step, Memory>
         requires { AreLines self.old.rank.sizes.ranks lines.now }
         ensures stepped { IfOk result (HasStepped lines.now self.old self.new) }
+        ensures fresh { IfOk result (λ step. step ≡ step_is.Ran → IsFresh self.old.rank) }
         ensures same { OnOk result ((self.new.rank.me ≡ self.old.rank.me)
             × (self.new.rank.sizes ≡ self.old.rank.sizes)) }
         ensures waits { IfOk result (λ step. step ≡ step_is.Waits → IsFresh self.old.rank →

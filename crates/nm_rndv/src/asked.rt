@@ -39,13 +39,20 @@ pub fn cleared(state: State) -> State
     }
 }
 
-/// The state after one piece more.
-pub fn popped(state: State) -> State
-    ensures { result ≡ after_piece state }
-{
-    match state {
-        State::Cleared(leaving) => leaving_or_out(leaving.pop()),
-        other => other,
+impl State {
+    /// Counts one piece more as sent.
+    #[inline(always)]
+    pub fn pop(&mut self)
+        ensures { self.new ≡ after_piece self.old }
+    {
+        let State::Cleared(leaving) = self else {
+            return;
+        };
+        if leaving.is_last() {
+            *self = State::Out;
+        } else {
+            leaving.pop();
+        }
     }
 }
 

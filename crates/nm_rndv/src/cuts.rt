@@ -1,6 +1,6 @@
 //! A body that is being sent in pieces.
 
-ghost use Rattle.std.specs.Prelude.{◌≡◌, ◌≤◌};
+ghost use Rattle.std.specs.Prelude.{◌≡◌, ◌↔◌, ◌≤◌, IsNone, IsSome, IsTrue, Some};
 ghost use Rattle.nm_types.specs.Bodies.{body_len};
 ghost use Rattle.nm_types.specs.declared.limits.TheConstants.{MAX_BODY};
 ghost use Rattle.nm_rndv.specs.Cuts.{start_of, rest_of, offset_of, next_bytes};
@@ -94,16 +94,18 @@ impl Leaving {
         into.bytes.set(part(&self.body, at, size));
     }
 
-    /// What is left after the next piece, or `None` where that is the last.
-    pub fn pop(self) -> Option<Leaving>
-        ensures { result ≡ rest_of self }
+    /// Whether the next piece is the last.
+    pub fn is_last(&self) -> bool
+        ensures { IsTrue result ↔ IsNone (rest_of self.now) }
     {
-        let Leaving { body, popped } = self;
-        let popped = popped + 1;
-        if PIECE * popped < body.len() {
-            Some(Leaving { body, popped })
-        } else {
-            None
-        }
+        PIECE * (self.popped + 1) >= self.body.len()
+    }
+
+    /// Counts the next piece, which is not the last.
+    pub fn pop(&mut self)
+        requires { IsSome (rest_of self.old) }
+        ensures { rest_of self.old ≡ Some self.new }
+    {
+        self.popped += 1;
     }
 }

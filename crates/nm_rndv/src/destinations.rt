@@ -10,7 +10,7 @@ ghost use Rattle.nm_rndv.specs.Offers.{was_cleared as was_cleared_lem, is_unansw
 ghost use Rattle.nm_rndv.specs.Offers.{with_asked, with_recall, with_step, with_answer};
 ghost use Rattle.nm_rndv.specs.Offers.{after_clearance, after_piece, after_withdrawal};
 
-use crate::asked::{State, cleared, popped, withdrawn};
+use crate::asked::{State, cleared, withdrawn};
 use crate::cuts::{Leaving, LongBody};
 use crate::placing::Places;
 use crate::recalls::Recalls;
@@ -140,8 +140,7 @@ impl Destination {
         ensures { self.new ≡ with_step self.old n after_piece }
     {
         let place = self.places.get(n).unwrap();
-        let state = &mut self.asked[place].1;
-        *state = popped(mem::replace(state, State::Out));
+        self.asked[place].1.pop();
     }
 
     /// Withdraws a message, if it was asked.

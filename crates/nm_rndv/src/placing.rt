@@ -86,6 +86,7 @@ impl Places {
     }
 
     /// Notes the place of a number.
+    #[inline(always)]
     pub fn note(&mut self, n: u64, place: usize) -> Result<(), Memory>
         requires { place_in self.old n ≡ None }
         ensures ok { OnOk result (NotesPlace n place self.old self.new) }

@@ -94,6 +94,7 @@ impl Sender {
     }
 
     /// Makes room for one grant more.
+    #[inline(always)]
     pub fn reserve(&mut self) -> Result<(), Memory>
         ensures room { OnOk result (0 < self.new.spare) }
         ensures same { self.new.grants ≡ self.old.grants }

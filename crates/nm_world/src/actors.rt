@@ -308,12 +308,8 @@ impl Actor {
         ensures stuck { IfOk result (λ ran. ran ≡ false → IsFresh self.old.process.rank →
             goes_on (commands_of self.old.process.rank.me lines.now) self.old.process ≡ false) }
     {
-        let rank = self.process.rank();
-        if rank.is_worn() {
-            return Ok(false);
-        }
         // no step: that the history keeps its rules, and the law of a command that runs
-        rank.history();
+        self.process.rank().history();
         a_command_runs();
         match self.process.run_next(lines)? {
             Step::Ran => {

@@ -69,6 +69,7 @@ impl Numbers {
     }
 
     /// Makes room for one more.
+    #[inline(always)]
     pub fn reserve(&mut self) -> Result<(), Memory>
         ensures room { OnOk result (0 < self.new.spare) }
         ensures same { self.new.numbers ≡ self.old.numbers }

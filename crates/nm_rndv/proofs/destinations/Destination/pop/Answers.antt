@@ -1,4 +1,4 @@
-use Rattle.std.proofs.Common.{◌≡◌, ◌∙◌, sym, ap, subst, arith, IsSome}
+use Rattle.std.proofs.Common.{◌∙◌, sym, subst, arith, IsSome}
 use Rattle.nm_rndv.specs.Offers.{Destined, state_in, after_piece}
 use Rattle.nm_rndv.proofs.PlacingLemmas.{has_place, place_within, places_written, stepped}
 use Rattle.nm_rndv.proofs.destinations.Destination.pop.Goals as goal
@@ -22,14 +22,12 @@ pub invariant_of-self : goal.invariant_of-self
 invariant_of-self c =
     let a = c.self.inside in
     places_written a.places a.asked.items c.self.invariant c.args.n c.unwrap-place.result
-    (sym c.get.ensures ∙ c.unwrap-place.ensures) c.index_mut.result.now c.index_mut.ensures.value c.popped.result
+    (sym c.get.ensures ∙ c.unwrap-place.ensures) c.index_mut.result.now c.index_mut.ensures.value c.pop.new.self
 
 pub returns : goal.returns
 returns c =
     let a = c.self.inside in
     let d : Destined = record { asked = a.asked.items; recalls = a.recalls } in
-    let is : c.popped.result ≡ after_piece c.index_mut.result.now.1 =
-    c.popped.ensures ∙ ap after_piece c.replace.ensures.value in
     rw (← c.self.view_is) (stepped d a.places c.self.invariant c.args.n c.unwrap-place.result
     (sym c.get.ensures ∙ c.unwrap-place.ensures) c.index_mut.result.now c.index_mut.ensures.value
-    c.popped.result after_piece is)
+    c.pop.new.self after_piece c.pop.ensures)

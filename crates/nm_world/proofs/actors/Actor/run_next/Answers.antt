@@ -1,5 +1,5 @@
 -- The process stands, and the ports are as they were.
-use Rattle.std.proofs.Common.{◌≡◌, false, refl, sym, ap, ◌∙◌, subst}
+use Rattle.std.proofs.Common.{◌≡◌, false, refl, sym, ap, subst}
 use Rattle.nm_process.specs.Processes.{ProcessView}
 use Rattle.nm_world.specs.Actors.{Continues, did}
 use Rattle.nm_process.specs.declared.steps.Step.{Step}
@@ -10,18 +10,6 @@ use Rattle.nm_world.proofs.Grows.{kept_same}
 use Rattle.nm_world.proofs.Results.{clash}
 use Rattle.nm_world.proofs.Steps.{run_on, seat_is}
 use Rattle.nm_world.proofs.actors.Actor.run_next.Goals as goal
-
-pub returns-then-is_worn : goal.returns-then-is_worn
-returns-then-is_worn g c =
-    let a = c.args.self.now in
-    record {
-      kept = kept_same c.args.lines.now g.here.fabric g.here.rings a c.requires;
-      moved = did_same g.here.fabric.ranks a;
-      ran = λ e. absurd (clash (sym e));
-      still = λ none. refl;
-      stuck = λ none fresh. absurd
-          (clash (sym c.if-is_worn.true ∙ (rw c.rank-rank.ensures at c.is_worn.ensures).1 fresh));
-    }
 
 pub returns-in-Waits : goal.returns-in-Waits
 returns-in-Waits g c =
@@ -52,10 +40,10 @@ returns-in-Ran g c =
     c.in_ok-run_next.ensures.stepped in
     let work = c.in_ok-run_next.ensures.work shape s.is.standing.work in
     let on = c.a_command_runs.ensures shape c.args.lines.now a.port.rank a.process v s.past s.is.in_range
-    (rw c.rank-rank.ensures at c.history.ensures.right) s.is.standing stepped in
+    (rw c.rank.ensures at c.history.ensures.right) s.is.standing stepped in
     let b : Actor = record a { process = v } in
     let grows = ran_on g.here.fabric.ranks a b s on refl refl in
-    let fresh = (rw c.rank-rank.ensures at c.is_worn.ensures).0 c.if-is_worn.false in
+    let fresh = c.in_ok-run_next.ensures.fresh c.in-Ran.is in
     record {
       ran = λ e. (fresh, stepped);
       still = λ none. absurd (clash none);
