@@ -33,7 +33,7 @@ or_assoc : (x y z : Bool) → (x || (y || z)) ≡ ((x || y) || z)
 or_assoc true y z = refl
 or_assoc false y z = refl
 
-any_next : {E : Type 0} (f : E → Bool) (es : List E) (i : ℕ) →
+pub any_next : {E : Type 0} (f : E → Bool) (es : List E) (i : ℕ) →
     list_any f (take (suc i) es) ≡ (list_any f (take i es) || option_map_or f (slice_get es i) false)
 any_next f [] zero = refl
 any_next f [] (suc i) = refl
@@ -141,13 +141,18 @@ module _ {X S : Type 0} {key : X → Picks} {queue : List (ℕ × X)} {next : �
       at None none = absurd (some (sym (are.holds (key x.1))
           ∙ ap (λ (o : Option (Bucket X)). option_map_or entries_of o []) none))
 
-  -- all buckets
-  pub first_last : (n : ℕ) → length m.entries ≤ n → first_of n ≡ find (λ x. fits (key x.1)) queue
-  first_last n all = find_among_same
-      (λ x. list_any (λ e. fits e.0 && same_picks e.0 (key x.1)) (take n m.entries))
-      (λ x. fits (key x.1)) queue (λ k d inside.
+  -- in one of all buckets whose keys fit is what fits
+  pub each_fits : (n : ℕ) → length m.entries ≤ n →
+      All (λ x. list_any (λ e. fits e.0 && same_picks e.0 (key x.1)) (take n m.entries) ≡ fits (key x.1)) queue
+  each_fits n all = λ k d inside.
       let x : ℕ × X = get_or queue k d in
       any_all (λ e. fits e.0 && same_picks e.0 (key x.1)) m.entries n all
       ∙ some_fits fits (key x.1) m.entries (has_key x (λ none.
       false≢true (sym (filter_nil (λ (y : ℕ × X). same_picks (key x.1) (key y.1)) queue none k d inside)
-      ∙ same_picks-self (key x.1)))))
+      ∙ same_picks-self (key x.1))))
+
+  -- all buckets
+  pub first_last : (n : ℕ) → length m.entries ≤ n → first_of n ≡ find (λ x. fits (key x.1)) queue
+  first_last n all = find_among_same
+      (λ x. list_any (λ e. fits e.0 && same_picks e.0 (key x.1)) (take n m.entries))
+      (λ x. fits (key x.1)) queue (each_fits n all)

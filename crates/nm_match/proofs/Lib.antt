@@ -21,4 +21,6 @@ mod RowLemmas
 mod SearchLemmas
 mod SeenLemmas
 mod WildLemmas
+mod WildcardLemmas
+mod AgeLemmas
 pub mod InTurnLemmas

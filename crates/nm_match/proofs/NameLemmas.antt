@@ -116,15 +116,18 @@ module _ {X K : Type 0} {known : X → K → Bool} {key : X → Picks} {items : 
 
   -- where no bucket and no standing changed
   pub named_kept : (m' : Picks → List (ℕ × X)) (stands_at' : K → Option Standing) → ((k : Picks) → m' k ≡ m k) →
-      ((name : K) → stands_at' name ≡ stands_at name) → IsNamedQueue known key items aside next m' stands_at'
-  named_kept m' stands_at' bucket stands = record {
-    is = record {
-      queue = is.is.queue;
-      are = kept is.is.are m' next (omega arith) bucket;
-      same = is.is.same;
-    };
-    stands = λ name. stands name ∙ is.stands name;
-  }
+      ((name : K) → stands_at' name ≡ stands_at name) → (r : IsNamedQueue known key items aside next m' stands_at') × (r.is.queue ≡ is.is.queue)
+  named_kept m' stands_at' bucket stands = (
+    record {
+      is = record {
+        queue = is.is.queue;
+        are = kept is.is.are m' next (omega arith) bucket;
+        same = is.is.same;
+      };
+      stands = λ name. stands name ∙ is.stands name;
+    },
+    refl,
+  )
 
   module _ (same : K → K → Bool) (m' : Picks → List (ℕ × X)) (stands_at' : K → Option Standing) where
     -- after one was taken from its bucket
@@ -137,19 +140,22 @@ module _ {X K : Type 0} {known : X → K → Bool} {key : X → Picks} {items : 
         (aside' : K → Bool) → ((name : K) → same id name ≡ false → aside' name ≡ aside name) →
         ((name : K) → same id name ≡ true → stands_at' name ≡ cond (aside' name) (Some Aside) None) →
         ((name : K) → same id name ≡ false → stands_at' name ≡ stands_at name) →
-        IsNamedQueue known key (without_first test items) aside' next m' stands_at'
-    named_taken R two apart test x found id is_id own others aside' agree there elsewhere = record {
-      is = record {
-        queue = without_first t queue;
-        are = subst (λ (l : List (ℕ × X)). AreBuckets key l next m')
-            (order_left t queue x is.is.are.rising found)
-            (taken is.is.are m' (λ (y : ℕ × X). x.0 == y.0) x
-            (order_found t queue x is.is.are.rising found) (own ∙ entry_left x.0 (m (key x.1))) others);
-        same = map-without_first (λ (y : ℕ × X). y.1) test queue
-            ∙ ap (λ (l : List X). without_first test l) is.is.same;
-      };
-      stands = λ name. at name (same id name) refl;
-    }
+        (r : IsNamedQueue known key (without_first test items) aside' next m' stands_at') × (r.is.queue ≡ without_first (λ (y : ℕ × X). test y.1) is.is.queue)
+    named_taken R two apart test x found id is_id own others aside' agree there elsewhere = (
+      record {
+        is = record {
+          queue = without_first t queue;
+          are = subst (λ (l : List (ℕ × X)). AreBuckets key l next m')
+              (order_left t queue x is.is.are.rising found)
+              (taken is.is.are m' (λ (y : ℕ × X). x.0 == y.0) x
+              (order_found t queue x is.is.are.rising found) (own ∙ entry_left x.0 (m (key x.1))) others);
+          same = map-without_first (λ (y : ℕ × X). y.1) test queue
+              ∙ ap (λ (l : List X). without_first test l) is.is.same;
+        };
+        stands = λ name. at name (same id name) refl;
+      },
+      refl,
+    )
       where
         queue : List (ℕ × X)
         queue = is.is.queue
@@ -181,7 +187,7 @@ module _ {X K : Type 0} {known : X → K → Bool} {key : X → Picks} {items : 
         (aside' : K → Bool) → ((name : K) → same id name ≡ false → aside' name ≡ aside name) →
         ((name : K) → same id name ≡ true → stands_at' name ≡ cond (aside' name) (Some Aside) None) →
         ((name : K) → same id name ≡ false → stands_at' name ≡ stands_at name) →
-        IsNamedQueue known key (without_first (λ x. known x id) items) aside' next m' stands_at'
+        (r : IsNamedQueue known key (without_first (λ x. known x id) items) aside' next m' stands_at') × (r.is.queue ≡ without_first (λ (y : ℕ × X). known y.1 id) is.is.queue)
     place_taken R two apart id k order there is_id own others aside' agree here elsewhere =
         let waits = at_place id k order there in
         let x : ℕ × X = waits.0 in
@@ -200,15 +206,18 @@ module _ {X K : Type 0} {known : X → K → Bool} {key : X → Picks} {items : 
         (aside' : K → Bool) → ((name : K) → same id name ≡ false → aside' name ≡ aside name) →
         ((name : K) → same id name ≡ true → stands_at' name ≡ cond (aside' name) (Some Aside) None) →
         ((name : K) → same id name ≡ false → stands_at' name ≡ stands_at name) →
-        IsNamedQueue known key items aside' next m' stands_at'
-    named_freed same_true id none bucket aside' agree there elsewhere = record {
-      is = record {
-        queue = is.is.queue;
-        are = kept is.is.are m' next (omega arith) bucket;
-        same = is.is.same;
-      };
-      stands = λ name. at name (same id name) refl;
-    }
+        (r : IsNamedQueue known key items aside' next m' stands_at') × (r.is.queue ≡ is.is.queue)
+    named_freed same_true id none bucket aside' agree there elsewhere = (
+      record {
+        is = record {
+          queue = is.is.queue;
+          are = kept is.is.are m' next (omega arith) bucket;
+          same = is.is.same;
+        };
+        stands = λ name. at name (same id name) refl;
+      },
+      refl,
+    )
       where
         at : (name : K) (b : Bool) → same id name ≡ b →
             stands_at' name ≡ standing_of known key is.is.queue aside' name
@@ -229,16 +238,19 @@ module _ {X K : Type 0} {known : X → K → Bool} {key : X → Picks} {items : 
         ((k : Picks) → same_picks (key item) k ≡ false → m' k ≡ m k) →
         ((name : K) → same id name ≡ true → stands_at' name ≡ Some (Waits (key item) next)) →
         ((name : K) → same id name ≡ false → stands_at' name ≡ stands_at name) →
-        IsNamedQueue known key (items ++ item ∷ []) aside (next + 1) m' stands_at'
-    named_put item id is_id new own others there elsewhere = record {
-      is = record {
-        queue = queue ++ (next, item) ∷ [];
-        are = put_last is.is.are m' item (next + 1) (omega arith)
-            (own below) others;
-        same = map_push (λ (y : ℕ × X). y.1) queue (next, item) ∙ ap (λ (l : List X). l ++ item ∷ []) is.is.same;
-      };
-      stands = λ name. at name (same id name) refl;
-    }
+        (r : IsNamedQueue known key (items ++ item ∷ []) aside (next + 1) m' stands_at') × (r.is.queue ≡ is.is.queue ++ (next, item) ∷ [])
+    named_put item id is_id new own others there elsewhere = (
+      record {
+        is = record {
+          queue = queue ++ (next, item) ∷ [];
+          are = put_last is.is.are m' item (next + 1) (omega arith)
+              (own below) others;
+          same = map_push (λ (y : ℕ × X). y.1) queue (next, item) ∙ ap (λ (l : List X). l ++ item ∷ []) is.is.same;
+        };
+        stands = λ name. at name (same id name) refl;
+      },
+      refl,
+    )
       where
         queue : List (ℕ × X)
         queue = is.is.queue

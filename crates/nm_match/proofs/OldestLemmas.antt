@@ -26,7 +26,7 @@ use Rattle.nm_types.proofs.TruthLemmas.{and_left, and_right}
 flip : (a b : ℕ) → (a == b) ≡ (b == a)
 flip a b = grind (arith, nat_tests)
 
-swapped : (x y z : Bool) → (x && y && z) ≡ (z && x && y)
+pub swapped : (x y z : Bool) → (x && y && z) ≡ (z && x && y)
 swapped true true true = refl
 swapped true true false = refl
 swapped true false true = refl

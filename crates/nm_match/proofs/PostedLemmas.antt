@@ -117,8 +117,8 @@ module _ {posts : List post.Post} {cancelled : List ℕ} {next : ℕ} {p : Poste
         ((n : ℕ) → receive_at p'.standings n ≡ receive_at p.standings n) → ArePosted posts cancelled next p'
     posted_kept fronts receives = record {
       under = is.under;
-      is = named_kept is.is is.under (standing_at p'.standings) (λ k. refl)
-          (λ n. ap (λ (o : Option Receive). option_map standing_of o) (receives n));
+      is = (named_kept is.is is.under (standing_at p'.standings) (λ k. refl)
+          (λ n. ap (λ (o : Option Receive). option_map standing_of o) (receives n))).0;
       rings = rings_same is.under (fronts_of p) (fronts_of p') (receive_at p.standings) (receive_at p'.standings)
           fronts receives is.rings;
     }
@@ -135,7 +135,7 @@ module _ {posts : List post.Post} {cancelled : List ℕ} {next : ℕ} {p : Poste
         ArePosted (without_first test posts) cancelled' next p'
     posted_left two test x found passes changed cancelled' agree there = record {
       under = taken_from is.under x;
-      is = named_taken is.is nat_eq (taken_from is.under x) (standing_at p'.standings) TwoReceives two
+      is = (named_taken is.is nat_eq (taken_from is.under x) (standing_at p'.standings) TwoReceives two
           (λ p q number. posts_apart number p q) test x found x.1.number (λ number. refl)
           (rw (same_picks-self (picks_of_post x.1)) refl) (λ k apart. rw apart refl) (has cancelled') agree
           (there_at same_number-true (has cancelled') (standing_at p'.standings) x.1.number there)
@@ -144,7 +144,7 @@ module _ {posts : List post.Post} {cancelled : List ℕ} {next : ℕ} {p : Poste
           (next_of x.1.number (receive_at p.standings x.1.number))
           (before_of x.1.number (receive_at p.standings x.1.number))
           (before_of x.1.number (receive_at p.standings x.1.number))
-          (next_of x.1.number (receive_at p.standings x.1.number)) n);
+          (next_of x.1.number (receive_at p.standings x.1.number)) n)).0;
       rings = rings_left is.is.is.are two_queue (fronts_of p) (receive_at p.standings) is.rings
           (λ (y : Entry). test y.1) x found (fronts_of p') (receive_at p'.standings) passes changed;
     }
@@ -163,13 +163,13 @@ module _ {posts : List post.Post} {cancelled : List ℕ} {next : ℕ} {p : Poste
         ArePosted (posts ++ item ∷ []) cancelled (next + 1) p'
     posted_put two item none first is_first own others changed = record {
       under = put_under is.under (next, item);
-      is = named_put is.is nat_eq (put_under is.under (next, item)) (standing_at p'.standings) item item.number
+      is = (named_put is.is nat_eq (put_under is.under (next, item)) (standing_at p'.standings) item item.number
           (λ name. refl)
           (λ name here. subst (λ (n : ℕ). find (λ (q : post.Post). q.number == n) posts ≡ None)
           (same_number-true item.number name here) none)
           (λ below. rw (same_picks-self (picks_of_post item)) refl) (λ k apart. rw apart refl)
           (λ name here. stands name ∙ rw here refl)
-          (λ name other. stands name ∙ rw other refl);
+          (λ name other. stands name ∙ rw other refl)).0;
       rings = rings_come is.is.is.are two_queue (fronts_of p) (receive_at p.standings) is.rings (next, item) fresh
           (alone_of item.number (has cancelled item.number) (receive_at p.standings item.number)
           (stands_aside is.is item.number none)) (fronts_of p') (receive_at p'.standings) first is_first own others

@@ -2,7 +2,7 @@
 use Rattle.std.specs.Prelude.{◌≡◌, ℕ, ◌<◌, Bool, false, List, [], ◌∷◌, ◌++◌, Option, Some, None}
 use Rattle.std.specs.Prelude.{if◌then◌else◌, map, nat_le, slice_get, filter}
 use Rattle.std.specs.List.{All}
-use Rattle.std.specs.BTreeMap.{is_at}
+use Rattle.std.specs.BTreeMap.{insert_entry, is_at}
 use Rattle.std.specs.Map.{remove_entry}
 use Rattle.std.specs.Option.{option_map_or}
 use Rattle.std.specs.Ordering.{nat_cmp}
@@ -34,6 +34,15 @@ abbrev pub IsTaken : {X : Type 0} → Picks → ℕ → (Picks → List (ℕ × 
 IsTaken key order before after =
     (after key ≡ remove_entry (is_at (nat_cmp order)) (before key))
     × ((k : Picks) → same_picks key k ≡ false → after k ≡ before k)
+
+-- what waits in the bucket at this place of the map
+abbrev pub bucket_at : {X S : Type 0} → IndexMap Picks (Bucket X) S → ℕ → List (ℕ × X)
+bucket_at m index = option_map_or (λ e. bucket_of m e.0) (slice_get m.entries index) []
+
+-- entries in order of age, with others put among them
+abbrev pub with_entries : {X : Type 0} → List (ℕ × X) → List (ℕ × X) → List (ℕ × X)
+with_entries es [] = es
+with_entries es (x ∷ xs) = with_entries (insert_entry nat_cmp es x.0 x.1) xs
 
 -- the one with the smaller order number
 abbrev pub earlier_of : {X : Type 0} → Option (ℕ × X) → Option (ℕ × X) → Option (ℕ × X)

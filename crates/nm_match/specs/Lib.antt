@@ -7,6 +7,7 @@ pub mod Queues
 pub mod Rings
 pub mod Seen
 pub mod Standings
+pub mod Wildcards
 pub mod InTurn
 pub mod SameKeys
 pub mod SameMatching

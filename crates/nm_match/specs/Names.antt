@@ -18,6 +18,7 @@ use Rattle.nm_match.specs.Deeds.{is_message}
 use Rattle.nm_match.specs.Picks.{names_both, picks_of_arrival, picks_of_post, same_picks}
 use Rattle.nm_match.specs.Rings.{AreRings}
 use Rattle.nm_match.specs.Standings.{receive_at, standing_at}
+use Rattle.nm_match.specs.Wildcards.{IndexQueue}
 
 -- the same message of the same rank
 abbrev pub same_message : Message → Message → Bool
@@ -74,7 +75,8 @@ pub record ArePosted (posts : List post.Post) (cancelled : List ℕ) (next : ℕ
   pub rings : AreRings (fronts_of p) (receive_at p.standings) under
 
 -- these messages wait, and these are claimed
-abbrev pub AreUnexpected : List Arrival → List Arrival → ℕ → Unexpected → Type 0
-AreUnexpected arrivals claimed next u =
-    IsNamedQueue has_id picks_of_arrival arrivals (has_one claimed) next (bucket_of u.waiting.map)
-    (get same_message u.standings)
+pub record AreUnexpected (arrivals claimed : List Arrival) (next : ℕ) (u : Unexpected) : Type 0 where
+  pub named :
+      IsNamedQueue has_id picks_of_arrival arrivals (has_one claimed) next (bucket_of u.waiting.named.map)
+      (get same_message u.standings)
+  pub wildcards : IndexQueue named.is.queue u.waiting.wildcards

@@ -25,7 +25,9 @@
 //! # What a call looks at
 //! An arrival looks at the ring of its own key, and where a receive waits that takes any source or
 //! any tag at the four that can have its receive. A receive, a probe or a claim that names a source
-//! and a tag looks at one bucket; a wildcard looks at the first message of each bucket. A
+//! and a tag looks at one bucket; a wildcard looks at the first message of each bucket, and of more than 64
+//! buckets only once: then all that waits stands under each wildcard that selects it, too, until none
+//! waits, and a wildcard looks at one bucket. A probe does so where `prepare` was called before. A
 //! cancel, a withdrawal, `is_claimed` and `take_claimed` look up one name. A ring and a bucket are found
 //! by hashing. A receive has the numbers of those before and behind it in its ring, and leaves it in a
 //! few steps; a message leaves its bucket in steps that grow with the logarithm of what is there. No
@@ -53,6 +55,8 @@ mod posted;
 mod seen;
 mod standings;
 mod unexpected;
+mod waiting;
+mod wildcards;
 
 pub use deeds::Deed;
 pub use matching::Matcher;

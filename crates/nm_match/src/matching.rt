@@ -33,7 +33,8 @@ use std::marker::Model;
 /// messages of that sender. What waits is found by source, tag and context, and has an order
 /// number, which grows with age: an arrival looks at the four rings of receives that can select
 /// it, a source and a tag that are named at one bucket of messages, and a wildcard at the first
-/// message of each bucket. Receives that name the same are a ring: what is kept of each is found by
+/// message of each bucket, or, where these are many, at one bucket of those that it selects. Receives
+/// that name the same are a ring: what is kept of each is found by
 /// its number, and tells the ones before and behind it. Of messages a map tells which bucket each is in,
 /// and under which order number. What is cancelled or claimed is told there, too: so `cancel`,
 /// `withdraw`, `is_claimed` and `take_claimed` walk nothing.
@@ -187,6 +188,18 @@ impl Matcher {
             self.done = self.done.then(&Deed::Withdraw { from, n });
         }
         was_free
+    }
+
+    /// Prepares for probes of this source and this tag. Where one of them is a wildcard and messages of
+    /// many names wait, these stand under each wildcard, too, from here on until none waits, so that
+    /// `probe` looks one up where it would go through all. That is no deed, and where memory is refused
+    /// nothing is done. `post` and `claim` do so by themselves.
+    pub fn prepare(&mut self, from: Peer, tag: TagPick)
+        ensures { self.new ≡ self.old }
+    {
+        if from == Peer::Any || tag == TagPick::Any {
+            self.unexpected.index();
+        }
     }
 
     /// The oldest free message that a receive with this source, tag and context would take (MPI

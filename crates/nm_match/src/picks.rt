@@ -3,6 +3,8 @@
 ghost use Rattle.std.specs.Prelude.{◌≡◌};
 ghost use Rattle.std.specs.Hash as fed;
 ghost use Rattle.nm_match.specs.Picks.{code_of, names_both, picks_of_arrival, picks_of_post};
+ghost use Rattle.nm_match.specs.Wildcards.{with_any_message as any_message_lem, with_any_source as any_source_lem};
+ghost use Rattle.nm_match.specs.Wildcards.{with_any_tag as any_tag_lem};
 
 use nm_types::{Arrival, Peer, Post, TagPick};
 use std::hash::{Hash, Hasher};
@@ -82,5 +84,38 @@ pub(crate) fn of_arrival(a: &Arrival) -> Picks
         from: Peer::One(a.env.from),
         tag: TagPick::One(a.env.tag),
         ctx: a.env.ctx,
+    }
+}
+
+/// The same source in the same context, and any tag.
+pub(crate) fn with_any_tag(key: Picks) -> Picks
+    ensures { result ≡ any_tag_lem key }
+{
+    Picks {
+        from: key.from,
+        tag: TagPick::Any,
+        ctx: key.ctx,
+    }
+}
+
+/// The same tag in the same context, and any source.
+pub(crate) fn with_any_source(key: Picks) -> Picks
+    ensures { result ≡ any_source_lem key }
+{
+    Picks {
+        from: Peer::Any,
+        tag: key.tag,
+        ctx: key.ctx,
+    }
+}
+
+/// Any source and any tag in the same context.
+pub(crate) fn with_any_message(key: Picks) -> Picks
+    ensures { result ≡ any_message_lem key }
+{
+    Picks {
+        from: Peer::Any,
+        tag: TagPick::Any,
+        ctx: key.ctx,
     }
 }

@@ -9,22 +9,20 @@ ghost use Rattle.nm_types.specs.declared.messages.Arrival as arrival;
 ghost use Rattle.nm_history.specs.Selection.{matches};
 ghost use Rattle.nm_match.specs.declared.names.Message as message;
 ghost use Rattle.nm_match.specs.declared.names.Standing.TheVariants as standing;
-ghost use Rattle.nm_match.specs.Buckets.{AreBuckets, IsTaken, bucket_of, fitting_at};
 ghost use Rattle.nm_match.specs.Deeds.{is_message};
 ghost use Rattle.nm_match.specs.Names.{AreUnexpected, has_one, id_of_arrival, same_message};
-ghost use Rattle.nm_match.specs.Picks.{fits_picks, picks_of_arrival};
 ghost use Rattle.nm_match.specs.Queues.{TwoMessages, without_first};
 
-use crate::buckets::{Buckets, earlier, first};
 use crate::names::{Message, Standing, id_of};
-use crate::picks::{Picks, is_named, of_arrival};
+use crate::picks::{Picks, of_arrival};
+use crate::waiting::Waiting;
 use indexmap::IndexMap;
 use nm_types::{Arrival, Memory, Peer, TagPick};
 use std::alloc::Global;
 
 /// The messages that wait, and those that are claimed.
 pub struct Unexpected {
-    pub waiting: Buckets<Arrival>,
+    pub waiting: Waiting,
     /// Where each of them stands.
     pub standings: IndexMap<Message, Standing>,
 }
@@ -36,72 +34,6 @@ impl Drop for Unexpected {
             standings: _,
         } = self;
     }
-}
-
-/// Whether a receive or a probe that names this selects the messages of a bucket.
-fn fits(wanted: &Picks, key: &Picks) -> bool
-    ensures { result ≡ fits_picks wanted.now key.now }
-{
-    wanted.ctx == key.ctx
-        && (wanted.from == Peer::Any || wanted.from == key.from)
-        && (wanted.tag == TagPick::Any || wanted.tag == key.tag)
-}
-
-/// The oldest message of the bucket at this place of the map, if it is selected.
-fn fitting(waiting: &Buckets<Arrival>, wanted: Picks, index: usize) -> Option<(u128, Arrival)>
-    ensures { result ≡ fitting_at (fits_picks wanted) waiting.now.map index }
-{
-    let (key, bucket) = waiting.map.get_index(index)?;
-    if fits(&wanted, key) {
-        first(bucket)
-    } else {
-        None
-    }
-}
-
-/// The oldest of the first messages of all buckets that a receive or a probe selects.
-#[inline(always)]
-fn best(waiting: &Buckets<Arrival>, wanted: Picks) -> Option<(u128, Arrival)>
-    ensures { (queue : List (ℕ × arrival.Arrival)) (next : ℕ) →
-        AreBuckets picks_of_arrival queue next (bucket_of waiting.now.map) →
-        result ≡ find (λ x. fits_picks wanted (picks_of_arrival x.1)) queue }
-{
-    let mut best = None;
-    for index in 0..waiting.map.len() {
-        best = earlier(best, fitting(waiting, wanted, index));
-    }
-    best
-}
-
-/// The oldest message that a receive or a probe selects, with its order number.
-#[inline(always)]
-fn selected(waiting: &Buckets<Arrival>, wanted: Picks) -> Option<(u128, Arrival)>
-    ensures { (queue : List (ℕ × arrival.Arrival)) (next : ℕ) →
-        AreBuckets picks_of_arrival queue next (bucket_of waiting.now.map) →
-        result ≡ find (λ x. fits_picks wanted (picks_of_arrival x.1)) queue }
-{
-    if is_named(&wanted) {
-        waiting.front(wanted)
-    } else {
-        best(waiting, wanted)
-    }
-}
-
-/// Takes the oldest message that a receive or a probe selects out of its bucket.
-fn take_selected(waiting: &mut Buckets<Arrival>, wanted: Picks) -> Option<(u128, Arrival)>
-    ensures taken { (queue : List (ℕ × arrival.Arrival)) (next : ℕ) →
-        AreBuckets picks_of_arrival queue next (bucket_of waiting.old.map) →
-        (result ≡ find (λ x. fits_picks wanted (picks_of_arrival x.1)) queue)
-        × IfSome result (λ x. IsTaken (picks_of_arrival x.1) x.0 (bucket_of waiting.old.map)
-        (bucket_of waiting.new.map)) }
-    ensures none { result ≡ None → waiting.new ≡ waiting.old }
-{
-    if is_named(&wanted) {
-        return waiting.take_front(wanted);
-    }
-    let (order, a) = best(waiting, wanted)?;
-    waiting.take(of_arrival(&a), order);
-    Some((order, a))
 }
 
 /// Sets aside a message, if it waits.
@@ -122,7 +54,7 @@ impl Unexpected {
         ensures none { (next : ℕ) → AreUnexpected [] [] next result }
     {
         Unexpected {
-            waiting: Buckets::new(alloc),
+            waiting: Waiting::new(alloc),
             standings: IndexMap::new(alloc),
         }
     }
@@ -133,7 +65,7 @@ impl Unexpected {
             AreUnexpected arrivals claimed next self.now →
             result ≡ find (λ a. matches from tag ctx a.env) arrivals }
     {
-        let (_, a) = selected(&self.waiting, Picks { from, tag, ctx })?;
+        let (_, a) = self.waiting.oldest(Picks { from, tag, ctx })?;
         Some(a)
     }
 
@@ -149,7 +81,7 @@ impl Unexpected {
     {
         self.standings.reserve(1)?;
         let key = of_arrival(&a);
-        self.waiting.put(key, order, a)?;
+        self.waiting.put(order, a)?;
         self.standings
             .insert(id_of(&a), Standing::Waits { key, order })
             .unwrap();
@@ -170,9 +102,18 @@ impl Unexpected {
         if self.waiting.is_empty() {
             return None;
         }
-        let (_, a) = take_selected(&mut self.waiting, Picks { from, tag, ctx })?;
+        let (_, a) = self.waiting.take_oldest(Picks { from, tag, ctx })?;
         let _ = self.standings.swap_remove(&id_of(&a));
         Some(a)
+    }
+
+    /// Keeps what waits by each wildcard, too, where that spares looks.
+    pub(crate) fn index(&mut self)
+        ensures { (arrivals claimed : List arrival.Arrival) (next : ℕ) →
+            AreUnexpected arrivals claimed next self.old →
+            AreUnexpected arrivals claimed next self.new }
+    {
+        self.waiting.index();
     }
 
     /// Claims the oldest message that a probe selects. The others keep their order.
@@ -186,7 +127,7 @@ impl Unexpected {
             (λ a. AreUnexpected (without_first (λ a. matches from tag ctx a.env) arrivals)
             (claimed ++ a ∷ []) next self.new) }
     {
-        let (_, a) = take_selected(&mut self.waiting, Picks { from, tag, ctx })?;
+        let (_, a) = self.waiting.take_oldest(Picks { from, tag, ctx })?;
         set_aside(&mut self.standings, id_of(&a));
         Some(a)
     }

@@ -1,11 +1,12 @@
 //! What each command does.
 
 ghost use Rattle.std.specs.Prelude.{◌≡◌, ◌≢◌, ◌<◌, ◌≤◌, ◌⊎◌, ℕ, None, Some, Err, is_some, nat_eq, IfOk};
-ghost use Rattle.std.specs.Prelude.{OnErr, OnOk, if◌then◌else◌};
+ghost use Rattle.std.specs.Prelude.{OnErr, OnOk, if◌then◌else◌, option_map};
 ghost use Rattle.std.specs.Map.{lookup};
 ghost use Rattle.nm_types.specs.declared.limits.TheConstants.{MAX_BODY, MAX_STAMP, MAX_TAG};
 ghost use Rattle.nm_types.specs.Bodies.{body_len};
 ghost use Rattle.nm_history.specs.Answers.{seen as seen_lem};
+ghost use Rattle.nm_history.specs.Matching.{first_message, matched_pairs};
 ghost use Rattle.nm_rank.specs.Ranks.{IsFresh};
 ghost use Rattle.nm_rank.specs.Sends.{next_send};
 ghost use Rattle.nm_rank.specs.Steps.{StartsSend};
@@ -154,6 +155,17 @@ impl Process {
         }
     }
 
+    // The first message that a receive would take, if there is one.
+    fn shown(&mut self, from: Peer, tag: TagPick, ctx: u8) -> Option<Seen>
+        ensures shown { let h = self.old.rank.events in result
+            ≡ option_map (λ a. record { from = a.env.from; tag = a.env.tag; len = a.env.len })
+            (first_message h (matched_pairs h) from tag ctx) }
+        ensures same { self.new ≡ self.old }
+    {
+        self.rank.prepare(from, tag);
+        self.rank.probe(from, tag, ctx)
+    }
+
     // Shows the first message that a receive would take, if there is one.
     pub(crate) fn probe(
         &mut self,
@@ -167,7 +179,7 @@ impl Process {
         ensures ran { IfOk result (λ step. step ≡ step_is.Ran) }
         ensures tried { OnOk result (HasProbed self.old self.new from tag ctx line) }
     {
-        match self.rank.probe(from, tag, ctx) {
+        match self.shown(from, tag, ctx) {
             Some(seen) => self.answer(line, Answer::Seen(seen)),
             None => self.answer(line, Answer::Nothing),
         }
@@ -185,7 +197,7 @@ impl Process {
         ensures places { StandsStill self.old self.new }
         ensures tried { IfOk result (HasTriedAwait self.old self.new from tag ctx line) }
     {
-        match self.rank.probe(from, tag, ctx) {
+        match self.shown(from, tag, ctx) {
             Some(seen) => self.answer(line, Answer::Seen(seen)),
             None => Ok(Step::Waits),
         }

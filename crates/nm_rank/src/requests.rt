@@ -149,6 +149,14 @@ impl Rank {
         }
     }
 
+    /// Prepares for probes of this source and this tag, so that where many messages wait a wildcard
+    /// looks one up.
+    pub fn prepare(&mut self, from: Peer, tag: TagPick)
+        ensures { self.new ≡ self.old }
+    {
+        self.receiving.prepare(from, tag);
+    }
+
     /// The oldest free message that a receive with this source, tag and context would take (section
     /// 3.8.1).
     pub fn probe(&self, from: Peer, tag: TagPick, ctx: u8) -> Option<Seen>

@@ -188,6 +188,14 @@ impl Receiving {
         self.matcher.is_claimed(from, n)
     }
 
+    /// Prepares for probes of this source and this tag, so that where many messages wait a wildcard
+    /// looks one up.
+    pub fn prepare(&mut self, from: Peer, tag: TagPick)
+        ensures { self.new ≡ self.old }
+    {
+        self.matcher.prepare(from, tag);
+    }
+
     /// The oldest free message that a receive would take (MPI 3.1, section 3.8.1).
     pub fn probe(&self, from: Peer, tag: TagPick, ctx: u8) -> Option<Arrival>
         ensures { (h : List Event) → AreReceived self.now h →

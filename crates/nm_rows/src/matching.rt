@@ -115,3 +115,30 @@ fn each_of_many_tags_finds_its_own(rt: HostRuntime) -> Result<(), Fail> {
     post_rising(&rt, &mut m)?;
     bring_falling(&rt, &mut m)
 }
+
+fn bring_rising(rt: &impl Abort, m: &mut Matcher) -> Result<(), Fail> {
+    for k in 0..4096u16 {
+        assert_eq!(rt; brings(rt, m, 1, u64::from(k), k)?, None);
+    }
+    Ok(())
+}
+
+fn take_rising(rt: &impl Abort, m: &mut Matcher) -> Result<(), Fail> {
+    for k in 0..4096u16 {
+        let next = Some(message(1, u64::from(k), k));
+        assert_eq!(rt; m.probe(Peer::Any, TagPick::Any, 0), next);
+        assert_eq!(rt;
+            posts(rt, m, u64::from(k), Peer::One(1), TagPick::Any)?,
+            next
+        );
+    }
+    Ok(())
+}
+
+#[test]
+fn a_wildcard_takes_many_tags_in_the_order_in_which_they_came(rt: HostRuntime) -> Result<(), Fail> {
+    let mut m = Matcher::new(rt.alloc());
+    bring_rising(&rt, &mut m)?;
+    m.prepare(Peer::Any, TagPick::Any);
+    take_rising(&rt, &mut m)
+}

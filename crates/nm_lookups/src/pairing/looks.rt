@@ -22,21 +22,32 @@ fn line_of(what: &Happened) -> Option<u32>
 }
 
 /// The first free message that a command selects, if it is a probe, a matched one too.
-fn found(matcher: &Matcher, command: &Command) -> Option<Arrival>
-    ensures { (h : List event.Event) → HasQueuesOf h matcher.now → result ≡ found_by h command.now }
+fn found(matcher: &mut Matcher, command: &Command) -> Option<Arrival>
+    ensures found { (h : List event.Event) → HasQueuesOf h matcher.old →
+        result ≡ found_by h command.now }
+    ensures same { matcher.new ≡ matcher.old }
 {
     match command {
         Command::Probe { from, tag, ctx }
         | Command::Await { from, tag, ctx }
-        | Command::Mprobe { from, tag, ctx, .. } => matcher.probe(*from, *tag, *ctx),
+        | Command::Mprobe { from, tag, ctx, .. } => {
+            matcher.prepare(*from, *tag);
+            matcher.probe(*from, *tag, *ctx)
+        }
         _ => None,
     }
 }
 
 /// What the command of an event finds of the messages that wait in the matcher.
-pub(crate) fn look(rank: u8, lines: &[Line], matcher: &Matcher, what: &Happened) -> Option<Arrival>
-    ensures { (h : List event.Event) → HasQueuesOf h matcher.now →
+pub(crate) fn look(
+    rank: u8,
+    lines: &[Line],
+    matcher: &mut Matcher,
+    what: &Happened,
+) -> Option<Arrival>
+    ensures found { (h : List event.Event) → HasQueuesOf h matcher.old →
         result ≡ look_of (commands_of rank lines.now) h what.now }
+    ensures same { matcher.new ≡ matcher.old }
 {
     let number = line_of(what)?;
     let command = command_of_line(lines, rank, number)?;

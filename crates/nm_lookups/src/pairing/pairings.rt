@@ -112,7 +112,7 @@ fn replay_all(
         (record { tables = tables.new; looks = looks.new; matcher = replay.new.matcher })) }
 {
     for (k, e) in events.iter().enumerate() {
-        looks.push(look(rank, lines, &replay.matcher, &e.what))?;
+        looks.push(look(rank, lines, &mut replay.matcher, &e.what))?;
         if let Some(pair) = replay.take(&e.what)? {
             tables.keep(k, pair)?;
         }

@@ -1,6 +1,8 @@
-use Rattle.std.proofs.Common.{◌<◌, ◌≤◌, ◌++◌, ◌∷◌, [], length, take, refl, sym, subst, arith}
+use Rattle.std.proofs.Common.{◌<◌, ◌≤◌, ◌++◌, ◌∷◌, [], List, length, take, refl, sym, subst, arith}
 use Rattle.nm_lookups.specs.declared.pairing.pairings.Tables.{Tables}
+use Rattle.nm_match.specs.declared.deeds.Deed.{Deed}
 use Rattle.nm_lookups.specs.Pairings.{ArePairTables}
+use Rattle.nm_lookups.specs.Replays.{Replays}
 use Rattle.nm_lookups.proofs.WalkLemmas.{new_at, pair_made, pair_place, replayed_all, replayed_more, replayed_none}
 use Rattle.nm_lookups.proofs.WalkLemmas.{tables_none_more}
 use Rattle.nm_lookups.proofs.pairing.pairings.replay_all.Goals as goal
@@ -17,7 +19,8 @@ take-requires c =
     record {
       is_new = (
         take c.loop-k.k c.args.events.now,
-        c.loop-k.invariant.followed,
+        subst (λ (m : List Deed). Replays (take c.loop-k.k c.args.events.now) (record c.loop-k.replay { matcher = m }))
+            (sym c.look.ensures.same) c.loop-k.invariant.followed,
         new_at c.requires.numbered.0 c.args.events.now c.loop-k.k c.index-events-k.result inside c.index-events-k.is
             c.requires.numbered.1,
       );
@@ -28,7 +31,10 @@ loop-k-preserved c =
     let inside : c.loop-k.k < length c.args.events.now = omega arith in
     let known = c.loop-k.invariant in
     let e = c.index-events-k.result in
-    let takes = c.in_ok-pair.ensures (take c.loop-k.k c.args.events.now) e.stamp known.followed
+    let looked = subst (λ (m : List Deed).
+    Replays (take c.loop-k.k c.args.events.now) (record c.loop-k.replay { matcher = m })) (sym c.look.ensures.same)
+    known.followed in
+    let takes = c.in_ok-pair.ensures (take c.loop-k.k c.args.events.now) e.stamp looked
     (new_at c.requires.numbered.0 c.args.events.now c.loop-k.k e inside c.index-events-k.is
     c.requires.numbered.1) in
     let events = c.args.events.now in
@@ -46,7 +52,7 @@ loop-k-preserved c =
           (tables_none_more c.args.rank c.args.lines.now events c.loop-k.k e inside c.index-events-k.is known
           c.in_ok-pair.field-0 c.take.new.self takes w.in_default.is)
     ])
-    c.in_ok-push.ensures.items (c.look.ensures (take c.loop-k.k events) known.followed.queues)
+    c.in_ok-push.ensures.items (c.look.ensures.found (take c.loop-k.k events) known.followed.queues)
 
 pub returns : goal.returns
 returns c =

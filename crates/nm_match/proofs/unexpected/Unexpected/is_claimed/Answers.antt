@@ -7,13 +7,13 @@ use Rattle.nm_match.proofs.unexpected.Unexpected.is_claimed.Goals as goal
 pub returns-in-Some-clause-none : goal.returns-in-Some-clause-none
 returns-in-Some-clause-none c = λ arrivals claimed next is none.
     c.is_aside.ensures ∙ some_aside (has_one claimed c.args.id) c.in-Some.standing.now
-    (c.in-Some.ensures.value ∙ stands_aside is c.args.id none)
+    (c.in-Some.ensures.value ∙ stands_aside is.named c.args.id none)
 
 pub returns-in-Some-clause-some : goal.returns-in-Some-clause-some
 returns-in-Some-clause-some c = λ arrivals claimed next is some.
-    c.is_aside.ensures ∙ waits_not_aside is c.args.id c.in-Some.standing.now (sym c.in-Some.ensures.value) some
+    c.is_aside.ensures ∙ waits_not_aside is.named c.args.id c.in-Some.standing.now (sym c.in-Some.ensures.value) some
 
 pub returns-in-None-clause-none : goal.returns-in-None-clause-none
 returns-in-None-clause-none c = λ arrivals claimed next is none.
     sym (none_aside (has_one claimed c.args.id)
-    (c.in-None.ensures.value ∙ stands_aside is c.args.id none))
+    (c.in-None.ensures.value ∙ stands_aside is.named c.args.id none))

@@ -9,7 +9,10 @@ use Rattle.nm_match.proofs.unexpected.Unexpected.new.Goals as goal
 
 pub returns : goal.returns
 returns c = record {
-  none = λ next. named_none c.new.ensures
-      (λ name. ap (λ (es : List (Message × Standing)). lookup (same_message name) es) c.new-2.ensures.empty)
-      (λ name. refl);
+  none = λ next. record {
+    named = named_none c.new.ensures.named
+        (λ name. ap (λ (es : List (Message × Standing)). lookup (same_message name) es) c.new-2.ensures.empty)
+        (λ name. refl);
+    wildcards = rw c.new.ensures.wildcards tt;
+  };
 }
