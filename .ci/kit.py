@@ -11,15 +11,60 @@ it is.
 import importlib.machinery
 import importlib.util
 import os
+import pathlib
 import shutil
+import subprocess
 import sys
+
+TOP = pathlib.Path(__file__).resolve().parent.parent
+
+
+def all_uses(text):
+    """The libraries that each crate names, those of the toolchain among them, by the text of crates.txt."""
+    rows = [line.partition("#")[0].partition(":") for line in text.splitlines()]
+    return {head.split()[0]: deps.split() for head, _, deps in rows if head.strip()}
 
 
 def uses(text):
     """The libraries of the repository that each crate names, by the text of crates.txt."""
-    rows = [line.partition("#")[0].partition(":") for line in text.splitlines()]
-    named = {head.split()[0]: deps.split() for head, _, deps in rows if head.strip()}
+    named = all_uses(text)
     return {name: [it for it in deps if it in named] for name, deps in named.items()}
+
+
+def named():
+    """The libraries of the repository that each crate of it names."""
+    return uses((TOP / "crates.txt").read_text())
+
+
+def program(name):
+    """The file that the launcher runs, built if need be; or the one that the variable of that name in capitals names."""
+    if name.upper() in os.environ:
+        return pathlib.Path(os.environ[name.upper()]).resolve()
+    ran = subprocess.run([TOP / ".ci" / "launch", "--which", name], stdout=subprocess.PIPE, text=True)
+    return pathlib.Path(ran.stdout.rstrip()) if ran.returncode == 0 else sys.exit(ran.returncode)
+
+
+def git(*words):
+    ran = subprocess.run(["git", *words], cwd=TOP, stdout=subprocess.PIPE, stderr=subprocess.PIPE, text=True)
+    return ran.stdout if ran.returncode == 0 else None
+
+
+def parted(rev):
+    """The commit at which this work parted from a revision, or from the main line."""
+    for it in [rev] if rev else ["origin/main", "main"]:
+        found = git("merge-base", it, "HEAD")
+        if found:
+            return found.strip()
+    sys.exit("there is no such revision")
+
+
+def changed(base, named):
+    """The crates with a file or a line of crates.txt that is not as it was, lowest first."""
+    files = git("diff", "--name-only", base, "--", "crates")
+    files += git("ls-files", "--others", "--exclude-standard", "crates")
+    touched = {it.split("/")[1] for it in files.splitlines() if it.count("/") > 1}
+    were = uses(git("show", f"{base}:crates.txt") or "")
+    return [it for it in named if it in touched or named[it] != were.get(it)]
 
 
 def below(name, named, found=()):
