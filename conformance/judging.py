@@ -1,0 +1,81 @@
+"""Asks the judge of reports, and counts what `outcomes` lists."""
+from __future__ import annotations
+
+import pathlib
+import re
+import subprocess
+import sys
+from dataclasses import dataclass
+
+from rounds import Report
+from scripts import Script
+
+HERE = pathlib.Path(__file__).resolve().parent
+TOP = HERE.parent
+PROVED = TOP / "crates/lawful/out/lawful"
+OUTCOMES = TOP / "crates/outcomes/out/outcomes"
+LISTED_STATES, LISTED_SECONDS = 20_000, 20
+FIRST = re.compile(r"unlawful (\d+|rest): (\d+) (\d+) (.*)")
+
+
+class NoVerdict(Exception):
+    """The judge did not answer."""
+
+
+@dataclass(frozen=True)
+class Finding:
+    """The first answer that no lawful run tells: how many stand before it in time, and what could stand there; or, where
+    all can be told, the first wait that no lawful run rests with."""
+
+    before: int | None
+    rank: int
+    line: int
+    answer: str
+    there: tuple[str, ...]
+
+
+@dataclass(frozen=True)
+class Judge:
+    states: int
+
+    @staticmethod
+    def name() -> str:
+        return "./lawful, which is proved" if PROVED.exists() else "conformance/lawful.py, which is not proved"
+
+    def finding(self, script: Script, report: Report) -> Finding | None | str:
+        """What is unlawful; None where nothing is, `limit` where the states were not enough."""
+        words = [PROVED] if PROVED.exists() else [sys.executable, "-B", HERE / "lawful.py"]
+        text = script.text + "---\n" + "".join(f"{it}\n" for it in (*report.answers, *report.waits))
+        ran = subprocess.run([*words, "--cut", "any", str(self.states)], input=text.encode(), capture_output=True, check=False)
+        said = ran.stdout.decode().splitlines()
+        if ran.returncode == 0:
+            return None
+        if ran.returncode == 7:
+            return "limit"
+        match = FIRST.fullmatch(said[0]) if said and ran.returncode == 8 else None
+        if match is None:
+            raise NoVerdict(f"the judge ended with status {ran.returncode}: {' '.join(said[:1])}{ran.stderr.decode()[-300:]}")
+        before = None if match[1] == "rest" else int(match[1]) - 1
+        return Finding(before, int(match[2]), int(match[3]), match[4], tuple(it.removeprefix("there ") for it in said[1:]))
+
+
+def without_lengths(report: str) -> str:
+    """MPI says nothing of the length of a message that was cut, and lines of cells are the program's own."""
+    report = re.sub(r"(?m)^(\d+ \d+ cut \d+ \d+) \d+$", r"\1 -", report)
+    return re.sub(r"(?m)^cells .*\n", "", report)
+
+
+def listed(script: Script, outcomes: pathlib.Path | None) -> set[str] | None:
+    """The reports that `outcomes` lists; None where it is not there, or would take long."""
+    program = outcomes or OUTCOMES
+    if not program.exists():
+        return None
+    try:
+        ran = subprocess.run([program, str(LISTED_STATES)], input=script.text.encode(), capture_output=True,
+                             timeout=LISTED_SECONDS, check=False)
+    except subprocess.TimeoutExpired:
+        return None
+    if ran.returncode not in (0, 1):
+        return None
+    parts = re.split(r"(?m)^outcomes? \d+.*\n", ran.stdout.decode())
+    return {without_lengths(it) for it in parts if it}
