@@ -4,8 +4,6 @@
 class Maker:
     """Commands of random ranks, any behind any other."""
 
-    SIZES = (0, 0, 1, 4)
-
     def __init__(self, rng, ranks, contexts=1, bodies=("x", "xaa", "xbb", "xaabb", "g3")):
         self.rng, self.ranks, self.contexts, self.bodies = rng, ranks, contexts, bodies
 
@@ -35,18 +33,43 @@ class Maker:
 
 
 WORDS = ("isend", "isend", "issend", "irecv", "irecv", "wait", "wait", "test", "probe", "await", "cancel", "mprobe", "mrecv")
-WITHOUT_CANCEL = tuple(it for it in WORDS if it != "cancel")
 
 
 def tiny(rng):
-    """For a search with nothing left out: at most seven lines."""
+    """For a search with nothing left out: five to eleven lines."""
     return Maker(rng, rng.choice([1, 2, 2, 3])).script(rng.randint(5, 11), WORDS)
 
 
-def larger(rng, words=WITHOUT_CANCEL):
-    """Two to six ranks and up to sixty lines."""
-    bodies = ("x", "xaa", "xbb", "xaabb", "g3", "g100", "g1024", "g4097", "g70000")
-    return Maker(rng, rng.randint(2, 6), rng.choice([1, 1, 2]), bodies).script(rng.randint(6, 60), words)
+BODIES = ("x", "x00", "xaa", "xaabb", "g9", "g100", "g1024", "g1025", "g4097", "g70000")
+
+
+def received(rng, name, source, tag, ctx, is_sent):
+    """A receive of this message, or of more, and looks at it before; `is_sent` says that one may wait for it."""
+    pick = f"{source if rng.random() < 0.8 else 'any'} {tag if rng.random() < 0.8 else 'any'} {ctx}"
+    looks = rng.choice([[], [], [f"probe {pick}"], [f"await {pick}"] * is_sent])
+    if is_sent and rng.random() < 0.15:
+        return [f"await {pick}", f"mprobe {name} {pick}", f"mrecv {name} {name} 100000"]
+    return [*looks, f"irecv {name} {pick} {rng.choice([0, 8, 100000, 100000, 100000])}"]
+
+
+def larger(rng):
+    """Two to six ranks, up to twenty messages, each with a receive that selects it. Each rank starts all, with some tests
+    between, and then waits for all, so most of them come to their end."""
+    ranks, contexts, sends_first = rng.randint(2, 6), rng.choice([1, 1, 2]), rng.random() < 0.6
+    parts = [[] for _ in range(ranks)]
+    for name in range(rng.randint(2, 20)):
+        source, to, tag, ctx = rng.randrange(ranks), rng.randrange(ranks), rng.randrange(3), rng.randrange(contexts)
+        word = rng.choice(["isend", "isend", "issend"])
+        parts[source].append([f"{word} {name} {to} {tag} {ctx} {rng.choice(BODIES)}"])
+        parts[to].append(received(rng, 100 + name, source, tag, ctx, sends_first))
+    lines = []
+    for rank, each in enumerate(parts):
+        each.sort(key=lambda it: (sends_first and "send" not in it[0], rng.random()))
+        started = [line for part in each for line in part]
+        names = [line.split(" ")[1] for line in started if line.split(" ")[0] not in ("probe", "await", "mprobe")]
+        started += [f"test {rng.choice(names)}" for _ in range(2) if names]
+        lines += [f"{rank}: {it}" for it in [*started, *(f"wait {name}" for name in names)]]
+    return "\n".join([f"ranks {ranks}", *lines]) + "\n"
 
 
 def forced(rng):

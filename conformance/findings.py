@@ -71,31 +71,36 @@ def short(text: str) -> str:
     return text if len(text) <= MOST_WIDTH else f"{text[:MOST_WIDTH]}.."
 
 
+def counts_of(groups: list[Group]) -> str:
+    counts = [f"{it.rounds} stuck" if it.report.waits else str(it.rounds) for it in groups[:MOST_SHOWN]]
+    return ", ".join([*counts, ".."] if len(groups) > MOST_SHOWN else counts)
+
+
 def seen(result: Result) -> str:
-    """How many different reports there were, of how many."""
-    counts = ", ".join(f"{it.rounds} stuck" if it.report.waits else str(it.rounds) for it in result.groups[:MOST_SHOWN])
-    more = ", .." if len(result.groups) > MOST_SHOWN else ""
-    known = None if result.listed is None else sum(it.text in result.listed for it in result.groups)
-    if known is None:
-        many = number_of(len(result.groups), "report")
-    else:
-        other = len(result.groups) - known
-        many = f"{known} of its {number_of(len(result.listed), 'report')}" + (f" and {other} that `outcomes` does not list" if other else "")
-    return f"{many} {'was' if len(result.groups) == 1 else 'were'} seen ({counts}{more})"
+    """How many different lawful reports there were, of how many."""
+    lawful = [it for it in result.groups if it.finding is None]
+    if not lawful:
+        return ""
+    many = number_of(len(lawful), "report")
+    if result.listed is not None:
+        known = sum(it.text in result.listed for it in lawful)
+        many = f"{known} of its {number_of(len(result.listed), 'report')}"
+        if known < len(lawful):
+            many += f" and {len(lawful) - known} that `outcomes` does not list"
+    word = "lawful " if result.unlawful() else ""
+    return f": {word}{many} seen ({counts_of(lawful)})"
 
 
 def heading(result: Result) -> str:
-    rounds = number_of(result.rounds, "round")
     parts = []
     if result.unlawful():
         parts.append(f"UNLAWFUL in {sum(it.rounds for it in result.unlawful())}")
     if result.crash:
         parts.append(f"CRASH in round {result.crash.round}")
     if result.not_judged():
-        parts.append(f"not judged in {sum(it.rounds for it in result.not_judged())}: more states than STATES")
-    verdict = ", ".join(parts) if parts else "lawful"
-    behind = f": {seen(result)}" if result.groups else ""
-    return f"{result.name}: {number_of(result.script.ranks, 'rank')}, {rounds}, {verdict}{behind}"
+        parts.append(f"not judged in {sum(it.rounds for it in result.not_judged())}, which takes more states")
+    ran = f"{number_of(result.script.ranks, 'rank')}, {number_of(result.rounds, 'round')}"
+    return f"{result.name}: {ran}, {', '.join(parts) or 'lawful'}{seen(result)}"
 
 
 def of_finding(script: Script, group: Group) -> list[str]:

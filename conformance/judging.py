@@ -14,6 +14,8 @@ HERE = pathlib.Path(__file__).resolve().parent
 TOP = HERE.parent
 PROVED = TOP / "crates/lawful/out/lawful"
 OUTCOMES = TOP / "crates/outcomes/out/outcomes"
+# What Python makes of the modules is kept where nothing is committed.
+IN_PYTHON = [sys.executable, "-S", "-X", f"pycache_prefix={HERE / 'out'}", HERE / "lawful.py"]
 LISTED_STATES, LISTED_SECONDS = 20_000, 20
 FIRST = re.compile(r"unlawful (\d+|rest): (\d+) (\d+) (.*)")
 
@@ -44,7 +46,7 @@ class Judge:
 
     def finding(self, script: Script, report: Report) -> Finding | None | str:
         """What is unlawful; None where nothing is, `limit` where the states were not enough."""
-        words = [PROVED] if PROVED.exists() else [sys.executable, "-B", HERE / "lawful.py"]
+        words = [PROVED] if PROVED.exists() else IN_PYTHON
         text = script.text + "---\n" + "".join(f"{it}\n" for it in (*report.answers, *report.waits))
         ran = subprocess.run([*words, "--cut", "any", str(self.states)], input=text.encode(), capture_output=True, check=False)
         said = ran.stdout.decode().splitlines()

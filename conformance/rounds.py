@@ -144,15 +144,19 @@ class Launch:
     def next_round(self) -> int:
         return max(self.rounds, default=self.first - 1) + 1
 
+    def is_broken_off(self) -> bool:
+        """Whether it ended within a round."""
+        begun = {number for it in self.texts for number in it.rounds}
+        return not self.rounds or not begun <= self.rounds.keys()
+
     def fault(self) -> str | None:
         """What is wrong with the launch itself."""
         ended = self.ended
-        begun = {number for it in self.texts for number in it.rounds} - set(self.rounds)
         if ended.stopped:
-            behind = "" if begun else " behind its last round, in MPI_Finalize or mpiexec"
+            behind = "" if self.is_broken_off() else " behind its last round, in MPI_Finalize or mpiexec"
             return f"{ended.stopped}{behind}"
-        if begun or not self.rounds:
-            return f"{'' if begun else 'no round was run, and '}mpiexec ended with status {ended.status}"
+        if self.is_broken_off():
+            return f"{'' if self.rounds else 'no round was run, and '}mpiexec ended with status {ended.status}"
         gone = {it.gone for it in self.texts}
         if not self.is_stuck() and "left" not in gone and gone != {"finalized"}:
             return f"a rank died behind its last round, and mpiexec ended with status {ended.status}"
@@ -186,7 +190,8 @@ class Runner:
             first = launch.next_round()
             fault = launch.fault()
             if fault:
-                runs.crash = Crash(first, fault, launch.ended.said, self.places(script, plan, first))
+                places = self.places(script, plan, first) if launch.is_broken_off() else ()
+                runs.crash = Crash(first, fault, launch.ended.said, places)
                 break
             stuck = stuck + 1 if launch.is_stuck() and len(launch.rounds) == 1 else int(launch.is_stuck())
         return runs
