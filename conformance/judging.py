@@ -4,9 +4,9 @@ from __future__ import annotations
 import pathlib
 import re
 import subprocess
-import sys
 from dataclasses import dataclass
 
+import lawful
 from rounds import Report
 from scripts import Script
 
@@ -14,8 +14,6 @@ HERE = pathlib.Path(__file__).resolve().parent
 TOP = HERE.parent
 PROVED = TOP / "crates/lawful/out/lawful"
 OUTCOMES = TOP / "crates/outcomes/out/outcomes"
-# What Python makes of the modules is kept where nothing is committed.
-IN_PYTHON = [sys.executable, "-S", "-X", f"pycache_prefix={HERE / 'out'}", HERE / "lawful.py"]
 LISTED_STATES, LISTED_SECONDS = 20_000, 20
 FIRST = re.compile(r"unlawful (\d+|rest): (\d+) (\d+) (.*)")
 
@@ -44,19 +42,25 @@ class Judge:
     def name() -> str:
         return "./lawful, which is proved" if PROVED.exists() else "conformance/lawful.py, which is not proved"
 
+    def verdict(self, text: bytes) -> lawful.Verdict:
+        if not PROVED.exists():
+            return lawful.judge(text, self.states, any_cut=True)
+        words = [PROVED, "--cut", "any", str(self.states)]
+        ran = subprocess.run(words, input=text, capture_output=True, check=False)
+        return lawful.Verdict(ran.returncode, ran.stdout.decode())
+
     def finding(self, script: Script, report: Report) -> Finding | None | str:
         """What is unlawful; None where nothing is, `limit` where the states were not enough."""
-        words = [PROVED] if PROVED.exists() else IN_PYTHON
         text = script.text + "---\n" + "".join(f"{it}\n" for it in (*report.answers, *report.waits))
-        ran = subprocess.run([*words, "--cut", "any", str(self.states)], input=text.encode(), capture_output=True, check=False)
-        said = ran.stdout.decode().splitlines()
-        if ran.returncode == 0:
+        verdict = self.verdict(text.encode())
+        said = verdict.text.splitlines()
+        if verdict.status == 0:
             return None
-        if ran.returncode == 7:
+        if verdict.status == 7:
             return "limit"
-        match = FIRST.fullmatch(said[0]) if said and ran.returncode == 8 else None
+        match = FIRST.fullmatch(said[0]) if said and verdict.status == 8 else None
         if match is None:
-            raise NoVerdict(f"the judge ended with status {ran.returncode}: {' '.join(said[:1])}{ran.stderr.decode()[-300:]}")
+            raise NoVerdict(f"the judge ended with status {verdict.status}: {' '.join(said[:1])}")
         before = None if match[1] == "rest" else int(match[1]) - 1
         return Finding(before, int(match[2]), int(match[3]), match[4], tuple(it.removeprefix("there ") for it in said[1:]))
 

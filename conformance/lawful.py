@@ -23,8 +23,7 @@ import sys
 from collections.abc import Iterator
 from dataclasses import dataclass
 
-if sys.pycache_prefix is None:
-    sys.dont_write_bytecode = True
+sys.dont_write_bytecode = True
 
 from guide import BY_NAME, Contradiction, Guide, Told, guide_of
 from scripts import Command, Fault, Script, read
