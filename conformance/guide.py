@@ -12,6 +12,11 @@ BY_NAME = {
     "isend": ("busy",), "issend": ("busy",), "irecv": ("busy",), "mrecv": ("busy", "null"), "mprobe": ("busy",),
     "wait": ("null",), "test": ("null",), "cancel": ("null",), "probe": (), "await": (),
 }
+# What a request can end with at all, by its start.
+ENDS = {
+    "isend": ("sent", "cancelled"), "issend": ("sent", "cancelled"),
+    "irecv": ("got", "cut", "cancelled"), "mrecv": ("got", "cut"),
+}
 # The answers of a rank, in the order of its commands: the line and the answer.
 Told = list[tuple[int, str]]
 
@@ -22,13 +27,15 @@ class Contradiction(Exception):
 
 @dataclass
 class Guide:
-    """The answer of each command that a rank ran, None of a start; then what these answers are of."""
+    """The answer of each command that a rank ran, None of a start; what these answers are of; and the requests that ranks
+    stand at, with a command that is not answered."""
 
     steps: list[list[tuple[Command, str | None]]]
     start_of: dict[int, int] = field(default_factory=dict)
     claim_of: dict[int, int] = field(default_factory=dict)
     ends: dict[int, str] = field(default_factory=dict)
     cancels: dict[int, list[str]] = field(default_factory=dict)
+    standing: set[int] = field(default_factory=set)
 
     def never_receives(self, start: int) -> bool:
         """The receive is told to be cancelled."""
@@ -47,7 +54,7 @@ class RankGuide:
 
     def __init__(self, guide: Guide, told: Told):
         self.guide, self.told, self.at = guide, told, 0
-        self.names: dict[str, int] = {}
+        self.names: dict[str, Command] = {}
         self.handles: dict[str, int] = {}
 
     def answer(self, command: Command) -> str | None:
@@ -69,7 +76,7 @@ class RankGuide:
         return None
 
     def started(self, command: Command) -> None:
-        self.names[command.arguments[0]] = command.line
+        self.names[command.arguments[0]] = command
         if command.word == "mrecv":
             self.guide.claim_of[command.line] = self.handles.pop(command.arguments[1])
 
@@ -104,12 +111,17 @@ class RankGuide:
             raise Contradiction(f"line {command.line} is of a name that is {'free' if start is None else 'live'}")
         if start is None:
             return
-        self.guide.start_of[command.line] = start
+        self.guide.start_of[command.line] = start.line
         if command.word == "cancel":
-            self.guide.cancels.setdefault(start, []).append(answer)
-        elif answer != "no":
-            self.guide.ends[start] = answer
-            del self.names[command.arguments[0]]
+            self.guide.cancels.setdefault(start.line, []).append(answer)
+        elif command.word == "wait" or answer != "no":
+            self.end(command, start, answer)
+
+    def end(self, command: Command, start: Command, answer: str) -> None:
+        if answer.split(" ")[0] not in ENDS[start.word]:
+            raise Contradiction(f"line {command.line} is of {start.word}")
+        self.guide.ends[start.line] = answer
+        del self.names[command.arguments[0]]
 
     def of_handle(self, command: Command, answer: str) -> None:
         handle = command.arguments[0]
@@ -121,7 +133,8 @@ class RankGuide:
     def stop(self, command: Command) -> None:
         """The rank stands at this command; what it is of is known."""
         if command.word in ("wait", "test", "cancel") and command.arguments[0] in self.names:
-            self.guide.start_of[command.line] = self.names[command.arguments[0]]
+            self.guide.start_of[command.line] = self.names[command.arguments[0]].line
+            self.guide.standing.add(self.guide.start_of[command.line])
 
     def run(self, commands: tuple[Command, ...]) -> None:
         """Stops at the first command that answers and has told nothing: there the rank stands."""

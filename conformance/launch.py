@@ -3,10 +3,11 @@
 from __future__ import annotations
 
 import argparse
-import pathlib
 import os
+import pathlib
 import signal
 import sys
+from dataclasses import replace
 
 sys.dont_write_bytecode = True
 
@@ -101,7 +102,8 @@ class Conform:
 
     def shows(self, text: str, kind: str) -> bool:
         script = read(text.encode())
-        return result_of("", script, self.runner.run(script, self.plan), self.judge).kind() == kind
+        runs = self.runner.run(script, replace(self.plan, most_stuck=1), is_placing=False)
+        return result_of("", script, runs, self.judge).kind() == kind
 
     def shrunk(self, result: Result) -> str:
         kind = result.kind()

@@ -13,7 +13,7 @@ from libraries import Library
 from scripts import Command, Script
 
 STALL_SECONDS = 60
-# So many rounds in a row in which a rank waits are enough: each costs a launch and the watchdog's time.
+# Each costs a launch and the watchdog's time.
 MOST_STUCK = 5
 PLACING_TRIES = 3
 
@@ -62,11 +62,13 @@ class Runs:
 
 @dataclass(frozen=True)
 class Plan:
-    """How often a script runs, with what pauses, and how long nothing may happen."""
+    """How often a script runs, with what pauses, how long nothing may happen, and how many rounds in a row in which a rank
+    waits are enough."""
 
     rounds: int
     seed: int
     wait_ms: int
+    most_stuck: int = MOST_STUCK
 
 
 @dataclass
@@ -181,16 +183,17 @@ class Runner:
             texts = texts_of(script, folder / "told")
             return Launch(first, whole_rounds(texts), texts, ended)
 
-    def run(self, script: Script, plan: Plan) -> Runs:
+    def run(self, script: Script, plan: Plan, is_placing: bool = True) -> Runs:
+        """All rounds; where one crashes, it is run again to place the crash."""
         runs, first, stuck = Runs(), 0, 0
-        while first < plan.rounds and stuck < MOST_STUCK:
+        while first < plan.rounds and stuck < plan.most_stuck:
             launch = self.launch(script, plan, first)
             runs.reports += launch.rounds.values()
             runs.said = runs.said or own_words(launch.ended.said, launch.is_stuck())
             first = launch.next_round()
             fault = launch.fault()
             if fault:
-                places = self.places(script, plan, first) if launch.is_broken_off() else ()
+                places = self.places(script, plan, first) if is_placing and launch.is_broken_off() else ()
                 runs.crash = Crash(first, fault, launch.ended.said, places)
                 break
             stuck = stuck + 1 if launch.is_stuck() and len(launch.rounds) == 1 else int(launch.is_stuck())
@@ -220,7 +223,7 @@ class StandIn:
     def __init__(self, program: str):
         self.program = program
 
-    def run(self, script: Script, plan: Plan) -> Runs:
+    def run(self, script: Script, plan: Plan, is_placing: bool = True) -> Runs:
         runs = Runs()
         for number in range(plan.rounds):
             ran = subprocess.run([self.program, "run"], input=script.text.encode(), capture_output=True, check=False)
