@@ -48,7 +48,7 @@ class Words(argparse.ArgumentParser):
 
 def number_up_to(most: int, least_one: int = 0):
     def number(word: str) -> int:
-        if not word.isdecimal() or not least_one <= int(word) <= most:
+        if not (word.isascii() and word.isdecimal()) or not least_one <= int(word) <= most:
             raise argparse.ArgumentTypeError("no number in range")
         return int(word)
     return number
@@ -139,9 +139,12 @@ def conform(words: list[str]) -> int:
     except NotBuilt as failed:
         complain(str(failed))
         return 5
-    except (NoVerdict, OSError) as failed:
+    except OSError as failed:
         complain(str(failed))
         return 4
+    except NoVerdict as failed:
+        complain(str(failed))
+        return 70
     if len(statuses) > 1:
         sys.stdout.write(summary(statuses))
     return next((it for it in (1, 4, 7) if it in statuses), 0)

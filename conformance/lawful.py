@@ -163,7 +163,7 @@ class Judge:
 def answers_of(script: Script, text: str, first: int) -> tuple[list[Answer], list[Answer]]:
     """The answers and the waits of a text whose first line has this number."""
     answers, waits = [], []
-    for number, line in enumerate(text.splitlines(), first):
+    for number, line in enumerate(text.removesuffix("\n").split("\n") if text else [], first):
         match = ANSWER_LINE.fullmatch(line)
         command = script.at_line.get(int(match[2])) if match else None
         if command is None or command.rank != int(match[1]) or any(it.rank == command.rank for it in waits):

@@ -4,6 +4,7 @@ from __future__ import annotations
 import pathlib
 import re
 import subprocess
+import sys
 import tempfile
 import time
 from dataclasses import dataclass, field
@@ -98,7 +99,7 @@ class RankText:
                 self.gone = word
             else:
                 answer, _, stamp = rest.rpartition(" @")
-                now.append((int(stamp), Answer(rank, int(word), answer)))
+                now.append((int(stamp), Answer(rank, int(word), sys.intern(answer))))
         return self
 
 
@@ -172,7 +173,7 @@ class Runner:
         self.library = library
 
     def launch(self, script: Script, plan: Plan, first: int, is_placing: bool = False) -> Launch:
-        with tempfile.TemporaryDirectory(prefix="conform-") as name:
+        with tempfile.TemporaryDirectory(prefix="conform-", ignore_cleanup_errors=True) as name:
             folder = pathlib.Path(name)
             (folder / "script").write_text(script.text)
             rounds = 1 if is_placing else plan.rounds - first
