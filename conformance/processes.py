@@ -11,7 +11,7 @@ import uuid
 from collections.abc import Callable
 from dataclasses import dataclass
 
-GRACE_SECONDS = 3.0
+GRACE_SECONDS = 2.0
 MOST_SAID = 1_000_000
 TOKEN = f"CONFORM_LAUNCH={uuid.uuid4().hex}"
 # Open MPI: more ranks than processors are no fault; no text of its own where a rank leaves without MPI_Finalize.
