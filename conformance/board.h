@@ -54,6 +54,7 @@ static void tick(int signal)
     if (ran != last) {
         last = ran;
         still_ms = 0;
+        is_stuck = 0;
         for (k = 0; k < ranks; k++) {
             worked[k] = board->worked[k];
             looks[k] = board->looks[k];
