@@ -10,6 +10,7 @@ import time
 from dataclasses import dataclass, field
 
 import processes
+from lawful import Answer
 from libraries import Library
 from scripts import Command, Script
 
@@ -17,16 +18,6 @@ STALL_SECONDS = 60
 # Each costs a launch and the watchdog's time.
 MOST_STUCK = 5
 PLACING_TRIES = 3
-
-
-@dataclass(frozen=True)
-class Answer:
-    rank: int
-    line: int
-    text: str
-
-    def __str__(self) -> str:
-        return f"{self.rank} {self.line} {self.text}"
 
 
 @dataclass(frozen=True)
