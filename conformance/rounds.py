@@ -6,7 +6,6 @@ import re
 import subprocess
 import sys
 import tempfile
-import time
 from dataclasses import dataclass, field
 
 import processes
@@ -112,17 +111,18 @@ def report_of(each: list[list[tuple[int, Answer]]]) -> Report:
 
 
 class Progress:
-    """Tells a launch whose ranks have written nothing for long."""
+    """Tells a launch whose ranks have written nothing for long: at so many looks, of which there is one in a second. The
+    clock is not asked, since it goes on where all is stopped for a while."""
 
-    def __init__(self, folder: pathlib.Path, seconds: float):
-        self.folder, self.seconds = folder, seconds
-        self.size, self.since = -1, time.monotonic()
+    def __init__(self, folder: pathlib.Path, looks: float):
+        self.folder, self.looks = folder, looks
+        self.size, self.equal = -1, 0
 
     def is_stalled(self) -> bool:
         size = sum(it.stat().st_size for it in self.folder.glob("told.*"))
-        if size != self.size:
-            self.size, self.since = size, time.monotonic()
-        return time.monotonic() - self.since > self.seconds
+        self.equal = self.equal + 1 if size == self.size else 0
+        self.size = size
+        return self.equal > self.looks
 
 
 @dataclass(frozen=True)
