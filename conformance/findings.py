@@ -8,7 +8,8 @@ from judging import Finding, Judge, without_lengths
 from rounds import Crash, Report, Runs
 from scripts import Script
 
-MOST_SHOWN, MOST_WIDTH, MOST_LINES = 8, 100, 6
+MOST_SHOWN, MOST_LINES = 8, 6
+WIDTH, NARROW = 100, 40
 
 
 @dataclass(frozen=True)
@@ -67,8 +68,8 @@ def number_of(count: int, what: str) -> str:
     return f"{count} {what}{'' if count == 1 else 's'}"
 
 
-def short(text: str) -> str:
-    return text if len(text) <= MOST_WIDTH else f"{text[:MOST_WIDTH]}.."
+def short(text: str, width: int = WIDTH) -> str:
+    return text if len(text) <= width else f"{text[:width]}.."
 
 
 def counts_of(groups: list[Group]) -> str:
@@ -111,7 +112,7 @@ def of_finding(script: Script, group: Group) -> list[str]:
         return [f"{place} waits for ever; lawful there: to go on"]
     there = ", ".join(f"`{short(it)}`" for it in finding.there[:MOST_SHOWN]) or (
         "to wait" if command.word in ("wait", "await") else "no answer")
-    told = [f"`{short(str(it))}`" for it in group.report.answers[:finding.before][-MOST_LINES:]]
+    told = [f"`{short(str(it), NARROW)}`" for it in group.report.answers[:finding.before][-MOST_LINES:]]
     before = [f"    told before it: {', '.join(told)}"] if told else []
     return [f"{place} answers `{short(finding.answer)}`; lawful there: {there}", *before, *of_meaning(finding.answer)]
 
@@ -147,7 +148,8 @@ def notes(result: Result) -> list[str]:
 
 def text_of(result: Result) -> str:
     lines = [heading(result)]
-    for group in result.unlawful():
+    each = {(it.finding.line, it.finding.answer, it.finding.there): it for it in reversed(result.unlawful())}
+    for group in reversed(each.values()):
         lines += of_finding(result.script, group)
     lines += notes(result)
     if result.crash:
