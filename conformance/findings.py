@@ -88,8 +88,7 @@ def seen(result: Result) -> str:
         many = f"{known} of its {number_of(len(result.listed), 'report')}"
         if known < len(lawful):
             many += f" and {len(lawful) - known} that `outcomes` does not list"
-    word = "lawful " if result.unlawful() else ""
-    return f": {word}{many} seen ({counts_of(lawful)})"
+    return f"{'; lawful' if result.unlawful() else ''}: {many} seen ({counts_of(lawful)})"
 
 
 def heading(result: Result) -> str:
