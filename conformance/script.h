@@ -139,7 +139,7 @@ static struct script read_script(const char *path, int rank, int ranks)
         if (length && text[length - 1] == '\n') text[length - 1] = 0;
         if (++line > 1) read_line(&s, text, line, rank);
         else if (strncmp(text, "ranks ", 6) || atol(text + 6) != ranks) {
-            fprintf(stderr, "conform: %d ranks were started, and the script has %s\n", ranks, text + 6);
+            fprintf(stderr, "conform: %d ranks were started, and the script has %s: is mpiexec of this library?\n", ranks, text + 6);
             exit(3);
         }
     }
