@@ -46,6 +46,12 @@ class Words(argparse.ArgumentParser):
         sys.exit(2)
 
 
+def program(word: str) -> pathlib.Path:
+    if not os.access(word, os.X_OK):
+        raise argparse.ArgumentTypeError("no program")
+    return pathlib.Path(word)
+
+
 def number_up_to(most: int, least_one: int = 0):
     def number(word: str) -> int:
         if not (word.isascii() and word.isdecimal()) or not least_one <= int(word) <= most:
@@ -62,7 +68,7 @@ def words_of(words: list[str]) -> argparse.Namespace:
     parser.add_argument("--shake", type=number_up_to(1_000_000_000), default=1)
     parser.add_argument("--wait", type=number_up_to(3_600_000, 100), default=1000)
     parser.add_argument("--states", type=number_up_to(16_777_216, 1), default=20_000)
-    parser.add_argument("--outcomes", type=pathlib.Path)
+    parser.add_argument("--outcomes", type=program)
     parser.add_argument("--shrink", action="store_true")
     parser.add_argument("scripts", nargs="+", type=pathlib.Path)
     return parser.parse_args(words)
