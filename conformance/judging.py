@@ -12,8 +12,8 @@ from scripts import Script
 
 HERE = pathlib.Path(__file__).resolve().parent
 TOP = HERE.parent
-PROVED = TOP / "crates/lawful/out/lawful"
-OUTCOMES = TOP / "crates/outcomes/out/outcomes"
+PROVED = TOP / "built/proved/lawful"
+OUTCOMES = [TOP / "built/proved/outcomes", TOP / "built/unproved/outcomes"]
 LISTED_STATES, LISTED_SECONDS = 20_000, 20
 FIRST = re.compile(r"unlawful (\d+|rest): (\d+) (\d+) (.*)")
 
@@ -73,8 +73,8 @@ def without_lengths(report: str) -> str:
 
 def listed(script: Script, outcomes: pathlib.Path | None) -> set[str] | None:
     """The reports that `outcomes` lists; None where it is not there, or would take long."""
-    program = outcomes or OUTCOMES
-    if not program.exists():
+    program = next((it for it in ([outcomes] if outcomes else OUTCOMES) if it.exists()), None)
+    if program is None:
         return None
     try:
         ran = subprocess.run([program, str(LISTED_STATES)], input=script.text.encode(), capture_output=True,
