@@ -26,11 +26,14 @@ class Sources:
         self.seal = subprocess.run(launch, stdin=subprocess.DEVNULL, stdout=subprocess.PIPE, text=True, check=True).stdout
         self.sum = self.summed()
 
+    def files(self):
+        crates = [*kit.below(self.name, kit.named()), self.name]
+        parts = [kit.TOP / "crates" / it / part for it in crates for part in ("src", "specs")]
+        return [kit.TOP / "crates.txt", *sorted(it for part in parts for it in part.rglob("*") if it.is_file())]
+
     def summed(self):
-        parts = [kit.TOP / "crates" / it / part for it in kit.below(self.name, kit.named()) + [self.name] for part in ("src", "specs")]
-        files = sorted(it for part in parts for it in part.rglob("*") if it.is_file())
         found = hashlib.sha256()
-        for it in [kit.TOP / "crates.txt", *files]:
+        for it in self.files():
             text = it.read_bytes()
             found.update(f"{it.relative_to(kit.TOP)} {len(text)}\n".encode())
             found.update(text)
