@@ -18,14 +18,14 @@ use Rattle.nm_history.specs.declared.events.Happened.{Happened}
 use Rattle.nm_history.specs.declared.events.Happened.TheVariants.{Send, Recall}
 use Rattle.nm_history.specs.Happens.{happened, is_send}
 use Rattle.nm_history.specs.Quiescence.{Ended, Packets, EachRank, EachPair, IsAnswered, RecallsAnswered, IsStopped}
-use Rattle.nm_history.specs.Quiescence.{packets_of, AskedOver, EagerOver}
+use Rattle.nm_history.specs.Quiescence.{packets_of, packets_of_by, commands_by_rank, AskedOver, EagerOver}
 use Rattle.nm_history.specs.RankRun.{IsRankRun, Always, CancelAt}
-use Rattle.nm_history.specs.Run.{IsRunOf}
+use Rattle.nm_history.specs.Run.{IsRunBy, IsRunOf}
 use Rattle.nm_history.proofs.AtEachLemmas.{AtEach-split}
 use Rattle.nm_history.proofs.OnceLemmas.{find_among}
 use Rattle.nm_channels.specs.Moments.{history_of}
 use Rattle.nm_channels.specs.Ends.{AreEnds}
-use Rattle.nm_channels.specs.Finished.{Finished, ended_of, AreAllEnds}
+use Rattle.nm_channels.specs.Finished.{Finished, ended_of, AreAllEnds, AreAllEndsBy, AreInRange}
 use Rattle.nm_channels.specs.Settled.{AreSettled, RecallAnswered}
 use Rattle.nm_history.proofs.Basic.{self_true, at_true}
 use Rattle.nm_channels.proofs.Over.{Found, found_at}
@@ -118,57 +118,58 @@ if_along P Q None along holds = tt
 if_along P Q (Some x) along holds = along x holds
 
 -- what holds of each two ranks
-each_pair : (shape : Sizes) (lines : List Line) (ranks : List Finished) (R : ℕ → ℕ → List Event → List Event →
-    Type 0) → AreAllEnds shape lines ranks →
-    ((i j : ℕ) (a b : Finished) → AreSettled i j (commands_of i lines) (commands_of j lines) a.log b.log →
+each_pair : (shape : Sizes) (commands : ℕ → List Numbered) (ranks : List Finished)
+    (R : ℕ → ℕ → List Event → List Event → Type 0) → AreAllEndsBy shape commands ranks →
+    ((i j : ℕ) (a b : Finished) → AreSettled i j (commands i) (commands j) a.log b.log →
     R i j (history_of a.log) (history_of b.log)) → EachPair R (map ended_of ranks)
-each_pair shape lines ranks R all gives i =
+each_pair shape commands ranks R all gives i =
     mapped_at (λ a. EachRank (λ j b. R i j a.events b.events) (map ended_of ranks)) ranks i
     (by_first (slice_get ranks i) (λ j. all i j))
   where
     by_first : (o : Option Finished) →
         ((j : ℕ) → IfSome o (λ a. IfSome (slice_get ranks j)
-        (λ b. AreEnds shape i j (commands_of i lines) (commands_of j lines) a.at b.at a.log b.log))) →
+        (λ b. AreEnds shape i j (commands i) (commands j) a.at b.at a.log b.log))) →
         IfSome o (λ a. EachRank (λ j b. R i j (history_of a.log) b.events) (map ended_of ranks))
     by_first None each = tt
     by_first (Some a) each = λ j.
         mapped_at (λ b. R i j (history_of a.log) b.events) ranks j
-        (if_along (λ b. AreEnds shape i j (commands_of i lines) (commands_of j lines) a.at b.at a.log b.log)
+        (if_along (λ b. AreEnds shape i j (commands i) (commands j) a.at b.at a.log b.log)
         (λ b. R i j (history_of a.log) (history_of b.log)) (slice_get ranks j)
-        (λ b ends. gives i j a b (ends_settle shape i j (commands_of i lines) (commands_of j lines) a.at b.at a.log
+        (λ b ends. gives i j a b (ends_settle shape i j (commands i) (commands j) a.at b.at a.log
         b.log ends)) (each j))
 
 -- a rank's end is its own other end
-own_end : (shape : Sizes) (lines : List Line) (ranks : List Finished) (i : ℕ) → AreAllEnds shape lines ranks →
-    IfSome (slice_get ranks i) (λ a. AreEnds shape i i (commands_of i lines) (commands_of i lines) a.at a.at a.log
+own_end : (shape : Sizes) (commands : ℕ → List Numbered) (ranks : List Finished) (i : ℕ) →
+    AreAllEndsBy shape commands ranks →
+    IfSome (slice_get ranks i) (λ a. AreEnds shape i i (commands i) (commands i) a.at a.at a.log
     a.log)
-own_end shape lines ranks i all = by_rank (slice_get ranks i) (all i i) where
+own_end shape commands ranks i all = by_rank (slice_get ranks i) (all i i) where
   by_rank : (o : Option Finished) →
-      IfSome o (λ a. IfSome o (λ b. AreEnds shape i i (commands_of i lines) (commands_of i lines) a.at b.at a.log
-      b.log)) → IfSome o (λ a. AreEnds shape i i (commands_of i lines) (commands_of i lines) a.at a.at a.log a.log)
+      IfSome o (λ a. IfSome o (λ b. AreEnds shape i i (commands i) (commands i) a.at b.at a.log
+      b.log)) → IfSome o (λ a. AreEnds shape i i (commands i) (commands i) a.at a.at a.log a.log)
   by_rank None ends = tt
   by_rank (Some a) ends = ends
 
 -- recalls of a rank's run have their answers
-recalls_in : (shape : Sizes) (lines : List Line) (ranks : List Finished) (i : ℕ) (a : Finished) →
-    IsScript shape.ranks lines → length ranks ≡ shape.ranks → IsRankRun shape (commands_of i lines) a.at
+recalls_in : (shape : Sizes) (commands : ℕ → List Numbered) (ranks : List Finished) (i : ℕ) (a : Finished) →
+    AreInRange shape.ranks commands → length ranks ≡ shape.ranks → IsRankRun shape (commands i) a.at
     (history_of a.log) →
     ((j : ℕ) → IfSome (slice_get ranks j)
-    (λ b. AreEnds shape i j (commands_of i lines) (commands_of j lines) a.at b.at a.log b.log)) →
+    (λ b. AreEnds shape i j (commands i) (commands j) a.at b.at a.log b.log)) →
     RecallsAnswered (history_of a.log)
-recalls_in shape lines ranks i a script count run each =
+recalls_in shape commands ranks i a in_range count run each =
     by_splits (λ (e : Event). IsAnswered (history_of a.log) e.what) (history_of a.log) [] (history_of a.log) refl
     (λ before e after split. by_what before e after split e.what refl)
   where
     answered : (to n : ℕ) (before : List Event) (e : Event) (after : List Event) →
         history_of a.log ≡ before ++ e ∷ after → e.what ≡ Recall to n → (o : Option Finished) → slice_get ranks to ≡ o →
         to < shape.ranks →
-        IfSome o (λ b. AreEnds shape i to (commands_of i lines) (commands_of to lines) a.at b.at a.log b.log) →
+        IfSome o (λ b. AreEnds shape i to (commands i) (commands to) a.at b.at a.log b.log) →
         IsAnswered (history_of a.log) (Recall to n)
     answered to n before e after split is None at within ends =
         let past : Some (get_or ranks to a) ≡ None = sym (slice_get-get_or ranks to a (omega (arith, count))) ∙ at in cc
     answered to n before e after split is (Some b) at within ends =
-        let settled = ends_settle shape i to (commands_of i lines) (commands_of to lines) a.at b.at a.log b.log ends in
+        let settled = ends_settle shape i to (commands i) (commands to) a.at b.at a.log b.log ends in
         let here = all_at (λ e. RecallAnswered to (history_of a.log) e.what) before e after
         (subst (λ (k : List Event). AllByRecursion (λ e. RecallAnswered to (history_of a.log) e.what) k) split
         settled.recalls) in
@@ -178,42 +179,51 @@ recalls_in shape lines ranks i a script count run each =
         (w : Happened) → e.what ≡ w → IsAnswered (history_of a.log) w
     by_what before e after split (Recall to n) is =
         answered to n before e after split is (slice_get ranks to) refl
-        (recall_in_range shape.ranks (commands_of i lines) (history_of a.log) before e after to n
-        (in_range_from shape.ranks i 2 lines script.lines_in_range)
-        (sends_commanded shape.eager (commands_of i lines) (history_of a.log) run.starts) split run.cancels.made is)
+        (recall_in_range shape.ranks (commands i) (history_of a.log) before e after to n
+        (in_range i)
+        (sends_commanded shape.eager (commands i) (history_of a.log) run.starts) split run.cancels.made is)
         (each to)
     by_what before e after split w is = tt
 
--- the histories of all ranks are a run of the script
-pub all_settle : (shape : Sizes) (lines : List Line) (ranks : List Finished) (packets : List Packets) →
-    IsScript shape.ranks lines → length ranks ≡ shape.ranks → AreAllEnds shape lines ranks →
-    EachRank (λ i rank. IsStopped (commands_of i lines) rank) (map ended_of ranks) → packets ≡ packets_of lines
-    (map ended_of ranks) → IsRunOf shape lines (map ended_of ranks) packets
-all_settle shape lines ranks packets script count all waits counts = record {
+-- the histories of all ranks are a run of these commands
+pub all_settle_by : (shape : Sizes) (commands : ℕ → List Numbered) (ranks : List Finished) (packets : List Packets) →
+    AreInRange shape.ranks commands → length ranks ≡ shape.ranks → AreAllEndsBy shape commands ranks →
+    EachRank (λ i rank. IsStopped (commands i) rank) (map ended_of ranks) → packets ≡ packets_of_by commands
+    (map ended_of ranks) → IsRunBy shape commands (map ended_of ranks) packets
+all_settle_by shape commands ranks packets in_range count all waits counts = record {
   one_each = length-map ranks ended_of ∙ count;
-  rank_runs = λ i. mapped_at (λ rank. IsRankRun shape (commands_of i lines) rank.at rank.events) ranks i
-      (if_along (λ a. AreEnds shape i i (commands_of i lines) (commands_of i lines) a.at a.at a.log a.log)
-      (λ a. IsRankRun shape (commands_of i lines) a.at (history_of a.log)) (slice_get ranks i)
-      (λ a ends. ends.sender.run) (own_end shape lines ranks i all));
-  delivered = each_pair shape lines ranks
-      (λ i j hi hj. AreDelivered i j (commands_of i lines) (commands_of j lines) hi hj) all
+  rank_runs = λ i. mapped_at (λ rank. IsRankRun shape (commands i) rank.at rank.events) ranks i
+      (if_along (λ a. AreEnds shape i i (commands i) (commands i) a.at a.at a.log a.log)
+      (λ a. IsRankRun shape (commands i) a.at (history_of a.log)) (slice_get ranks i)
+      (λ a ends. ends.sender.run) (own_end shape commands ranks i all));
+  delivered = each_pair shape commands ranks
+      (λ i j hi hj. AreDelivered i j (commands i) (commands j) hi hj) all
       (λ i j a b settled. settled.delivered);
   quiescent = record {
-    arrived = each_pair shape lines ranks (λ i j hi hj. length (arrivals hj i) ≡ length (sends hi j)) all
+    arrived = each_pair shape commands ranks (λ i j hi hj. length (arrivals hj i) ≡ length (sends hi j)) all
         (λ i j a b settled. settled.arrived);
-    eager = each_pair shape lines ranks EagerOver all (λ i j a b settled. settled.eager);
-    asked = each_pair shape lines ranks AskedOver all (λ i j a b settled. settled.asked);
+    eager = each_pair shape commands ranks EagerOver all (λ i j a b settled. settled.eager);
+    asked = each_pair shape commands ranks AskedOver all (λ i j a b settled. settled.asked);
     recalls = λ i. mapped_at (λ rank. RecallsAnswered rank.events) ranks i
-        (by_rank i (slice_get ranks i) (own_end shape lines ranks i all) (λ j. all i j));
+        (by_rank i (slice_get ranks i) (own_end shape commands ranks i all) (λ j. all i j));
     waits = waits;
     counts = counts;
   };
 }
   where
     by_rank : (i : ℕ) (o : Option Finished) →
-        IfSome o (λ a. AreEnds shape i i (commands_of i lines) (commands_of i lines) a.at a.at a.log a.log) →
+        IfSome o (λ a. AreEnds shape i i (commands i) (commands i) a.at a.at a.log a.log) →
         ((j : ℕ) → IfSome o (λ a. IfSome (slice_get ranks j)
-        (λ b. AreEnds shape i j (commands_of i lines) (commands_of j lines) a.at b.at a.log b.log))) →
+        (λ b. AreEnds shape i j (commands i) (commands j) a.at b.at a.log b.log))) →
         IfSome o (λ a. RecallsAnswered (history_of a.log))
     by_rank i None own each = tt
-    by_rank i (Some a) own each = recalls_in shape lines ranks i a script count own.sender.run each
+    by_rank i (Some a) own each = recalls_in shape commands ranks i a in_range count own.sender.run each
+
+-- the same of a script
+pub all_settle : (shape : Sizes) (lines : List Line) (ranks : List Finished) (packets : List Packets) →
+    IsScript shape.ranks lines → length ranks ≡ shape.ranks → AreAllEnds shape lines ranks →
+    EachRank (λ i rank. IsStopped (commands_of i lines) rank) (map ended_of ranks) → packets ≡ packets_of lines
+    (map ended_of ranks) → IsRunOf shape lines (map ended_of ranks) packets
+all_settle shape lines ranks packets script =
+    all_settle_by shape (commands_by_rank lines) ranks packets
+    (λ i. in_range_from shape.ranks i 2 lines script.lines_in_range)

@@ -20,8 +20,9 @@
 //!   their bodies; the eager ones, and those that were sent by asking and are paired, are over;
 //!   those that are claimed and not received are kept back; recalls have their answers; and nothing
 //!   that was taken was a stray.
-//! - `settled::ends_make_a_run`: where this holds of each two ranks, and each rank is at its end or
-//!   waits for what can't come, the histories are a run of the script.
+//! - `settled::ends_make_a_run_by`: where this holds of each two ranks, and each rank is at its end or
+//!   waits for what can't come, the histories are a run of their commands, whatever gave these; a script
+//!   is one case (`ends_make_a_run`).
 //!
 //! The laws say what the lemmas of `proofs/` come to, which proofs above cite, as they do the lemma
 //! that an eager message has its body once it is over by the packets taken so far (`SoFar`).

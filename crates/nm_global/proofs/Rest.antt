@@ -7,15 +7,13 @@ use Rattle.std.proofs.lemmas.List.{length-map}
 use Rattle.std.proofs.lemmas.Option.{slice_get_within}
 use Rattle.nm_types.specs.declared.packets.Packet.{Packet}
 use Rattle.nm_types.specs.declared.packets.Piece.{Piece}
-use Rattle.nm_types.specs.declared.scripts.Line.{Line}
-use Rattle.nm_types.specs.Commands.{commands_of}
-use Rattle.nm_types.specs.Limits.{IsScript}
+use Rattle.nm_types.specs.Commands.{Numbered}
 use Rattle.nm_types.specs.Sizes.{Sizes}
 use Rattle.nm_history.specs.declared.events.Event.{Event}
 use Rattle.nm_history.specs.Outgoing.{AreCalled, AreCalledPieces, outgoing, packets_to, ring}
-use Rattle.nm_history.specs.Quiescence.{EachRank, Ended, Packets, IsStopped, packets_of}
+use Rattle.nm_history.specs.Quiescence.{EachRank, Ended, Packets, IsStopped, packets_of_by}
 use Rattle.nm_history.specs.RankRun.{IsRankRun}
-use Rattle.nm_history.specs.Run.{IsRunOf}
+use Rattle.nm_history.specs.Run.{IsRunBy}
 use Rattle.nm_history.specs.Sends.{Sent, sent_body}
 use Rattle.nm_history.proofs.OutgoingLemmas.{outgoing_count}
 use Rattle.nm_history.specs.Clearance.{pushed_out, to_push}
@@ -30,10 +28,10 @@ use Rattle.nm_rank.specs.Ranks.{RankView}
 use Rattle.nm_global.specs.Emitted.{IsEmitted, Emitted}
 use Rattle.nm_global.proofs.Packets.{count_is}
 use Rattle.nm_channels.specs.Ends.{AreEnds, ClearedHaveLeft, IsChannel, IsEnd}
-use Rattle.nm_channels.specs.Finished.{AreAllEnds, ended_of}
+use Rattle.nm_channels.specs.Finished.{AreAllEndsBy, AreInRange, ended_of}
 use Rattle.nm_channels.specs.Moments.{history_of, taken_from}
 use Rattle.nm_channels.specs.Settled.{HasNoStray}
-use Rattle.nm_channels.proofs.Run.{all_settle}
+use Rattle.nm_channels.proofs.Run.{all_settle_by}
 use Rattle.nm_channels.proofs.Settled.{ends_settle}
 use Rattle.nm_global.specs.Ranks.{AreAtRest, Each, EachTwo, HasNothingToSend, IsPassed, RankInvariant, OneRank}
 use Rattle.nm_global.specs.Ranks.{finished_of, recorded_of}
@@ -55,19 +53,19 @@ pub record HaveAllLeft : Type 0 where
 below : (stamp clock limit : ℕ) → stamp ≤ clock → clock < limit → stamp < limit
 below stamp clock limit early less = omega arith
 
-module _ (all : HaveAllLeft) (shape : Sizes) (lines : List Line) where
-  end_of : (i : ℕ) (r : OneRank) → RankInvariant shape lines i r → HasNothingToSend r →
-      IsEnd shape (commands_of i lines) r.at r.log
+module _ (all : HaveAllLeft) (shape : Sizes) (commands : ℕ → List Numbered) where
+  end_of : (i : ℕ) (r : OneRank) → RankInvariant shape (commands i) i r → HasNothingToSend r →
+      IsEnd shape (commands i) r.at r.log
   end_of i r stands none =
       let same = stands.logged.events in
       record {
-        run = subst (λ (h : List Event). IsRankRun shape (commands_of i lines) r.at h) same stands.run;
+        run = subst (λ (h : List Event). IsRankRun shape (commands i) r.at h) same stands.run;
         sound = stands.logged.sound;
         eager = subst (λ (h : List Event). EagerHaveLeft h) same none.eager;
         empty = subst (λ (h : List Event). EmptyAreHere h) same none.empty;
       }
 
-  cleared_left : (i j : ℕ) (r : OneRank) → RankInvariant shape lines i r → HasNothingToSend r → j < shape.ranks →
+  cleared_left : (i j : ℕ) (r : OneRank) → RankInvariant shape (commands i) i r → HasNothingToSend r → j < shape.ranks →
       ClearedHaveLeft r.log j
   cleared_left i j r stands none within =
       let here : j < r.view.sizes.ranks = subst (λ (s : Sizes). j < s.ranks) (sym stands.sizes) within in
@@ -76,10 +74,10 @@ module _ (all : HaveAllLeft) (shape : Sizes) (lines : List Line) where
       (subst (λ (k : Known). length (pushed_out r.view.events j) ≡ length (to_push r.view.events k j))
       (stands.logged.taken.known j) (ap (λ (ns : List ℕ). length ns) (none.cleared j here)))
 
-  channel : (i j : ℕ) (a b : OneRank) → RankInvariant shape lines i a → HasNothingToSend a → j < shape.ranks →
-      IsPassed i j a b → IsChannel i j (commands_of i lines) a.log b.log
+  channel : (i j : ℕ) (a b : OneRank) → RankInvariant shape (commands i) i a → HasNothingToSend a → j < shape.ranks →
+      IsPassed i j a b → IsChannel i j (commands i) a.log b.log
   channel i j a b stands none within passed =
-      let bodies = sent_body (commands_of i lines) in
+      let bodies = sent_body (commands i) in
       let same = stands.logged.events in
       let is = stands.left j within in
       record {
@@ -106,11 +104,11 @@ module _ (all : HaveAllLeft) (shape : Sizes) (lines : List Line) where
 
   -- two ranks are the ends of the channels between them
   abbrev pub TwoEnds : ℕ → ℕ → OneRank → OneRank → Type 0
-  TwoEnds i j a b = AreEnds shape i j (commands_of i lines) (commands_of j lines) a.at b.at a.log b.log
+  TwoEnds i j a b = AreEnds shape i j (commands i) (commands j) a.at b.at a.log b.log
 
-  module _ (ranks : List OneRank) (rest : AreAtRest shape lines ranks) where
-    pub stands_at : (i : ℕ) (r : OneRank) → slice_get ranks i ≡ Some r → RankInvariant shape lines i r
-    stands_at i r is = if_some (RankInvariant shape lines i) (slice_get ranks i) r is (rest.standing i)
+  module _ (ranks : List OneRank) (rest : AreAtRest shape commands ranks) where
+    pub stands_at : (i : ℕ) (r : OneRank) → slice_get ranks i ≡ Some r → RankInvariant shape (commands i) i r
+    stands_at i r is = if_some (RankInvariant shape (commands i) i) (slice_get ranks i) r is (rest.standing i)
 
     pub rests_at : (i : ℕ) (r : OneRank) → slice_get ranks i ≡ Some r → HasNothingToSend r
     rests_at i r is = if_some HasNothingToSend (slice_get ranks i) r is (rest.resting i)
@@ -128,18 +126,18 @@ module _ (all : HaveAllLeft) (shape : Sizes) (lines : List Line) where
           (of_two IsPassed ranks rest.passed j i b a is' is);
     })
 
-    pub all_ends : AreAllEnds shape lines (map finished_of ranks)
+    pub all_ends : AreAllEndsBy shape commands (map finished_of ranks)
     all_ends i j =
         mapped_at finished_of
         (λ a. IfSome (slice_get (map finished_of ranks) j)
-        (λ b. AreEnds shape i j (commands_of i lines) (commands_of j lines) a.at b.at a.log b.log)) ranks i
+        (λ b. AreEnds shape i j (commands i) (commands j) a.at b.at a.log b.log)) ranks i
         (if_each _ (slice_get ranks i) (λ a is. mapped_at finished_of
-        (λ b. AreEnds shape i j (commands_of i lines) (commands_of j lines) a.at b.at a.log b.log) ranks j
+        (λ b. AreEnds shape i j (commands i) (commands j) a.at b.at a.log b.log) ranks j
         (if_some (λ a. Each (λ j b. TwoEnds i j a b) ranks) (slice_get ranks i) a is (two_ends i) j)))
 
     pub no_strays : EachTwo (λ i j a b. HasNoStray i b.log) ranks
     no_strays = two_of (λ i j a b. HasNoStray i b.log) ranks (λ i j a b is is'.
-        (ends_settle shape i j (commands_of i lines) (commands_of j lines) a.at b.at a.log b.log
+        (ends_settle shape i j (commands i) (commands j) a.at b.at a.log b.log
         (of_two TwoEnds ranks two_ends i j a b is is')).no_stray)
 
 -- what is recorded of ranks is what their logs show
@@ -151,20 +149,20 @@ recorded (r ∷ ranks) each =
     (each zero)
     ∙ ap (λ (es : List Ended). ended_of (finished_of r) ∷ es) (recorded ranks (λ i. each (suc i)))
 
--- the histories are a run of the script
-pub rest_is_run : HaveAllLeft → (shape : Sizes) (lines : List Line) (ranks : List OneRank)
-    (packets : List Packets) → IsScript shape.ranks lines → AreAtRest shape lines ranks →
-    EachRank (λ i rank. IsStopped (commands_of i lines) rank) (map recorded_of ranks) →
-    packets ≡ packets_of lines (map recorded_of ranks) → IsRunOf shape lines (map recorded_of ranks) packets
-rest_is_run all shape lines ranks packets script rest stand counts =
+-- the histories are a run of the commands
+pub rest_is_run : HaveAllLeft → (shape : Sizes) (commands : ℕ → List Numbered) (ranks : List OneRank)
+    (packets : List Packets) → AreInRange shape.ranks commands → AreAtRest shape commands ranks →
+    EachRank (λ i rank. IsStopped (commands i) rank) (map recorded_of ranks) →
+    packets ≡ packets_of_by commands (map recorded_of ranks) → IsRunBy shape commands (map recorded_of ranks) packets
+rest_is_run all shape commands ranks packets in_range rest stand counts =
     let same : map recorded_of ranks ≡ map ended_of (map finished_of ranks) =
     recorded ranks (λ i. if_each (λ r. r.view.events ≡ history_of r.log) (slice_get ranks i)
-    (λ r is. (stands_at all shape lines ranks rest i r is).logged.events)) in
-    subst (λ (es : List Ended). IsRunOf shape lines es packets) (sym same)
-    (all_settle shape lines (map finished_of ranks) packets script (length-map ranks finished_of ∙ rest.many)
-    (all_ends all shape lines ranks rest)
-    (subst (λ (es : List Ended). EachRank (λ i rank. IsStopped (commands_of i lines) rank) es) same stand)
-    (counts ∙ ap (λ (es : List Ended). packets_of lines es) same))
+    (λ r is. (stands_at all shape commands ranks rest i r is).logged.events)) in
+    subst (λ (es : List Ended). IsRunBy shape commands es packets) (sym same)
+    (all_settle_by shape commands (map finished_of ranks) packets in_range (length-map ranks finished_of ∙ rest.many)
+    (all_ends all shape commands ranks rest)
+    (subst (λ (es : List Ended). EachRank (λ i rank. IsStopped (commands i) rank) es) same stand)
+    (counts ∙ ap (λ (es : List Ended). packets_of_by commands es) same))
 
 -- as many packets were popped as the history calls for
 counted : (bodies : Sent → List ℕ) (v : RankView) (to : ℕ) (left : Emitted) → v.sending.outbox.letters ≡ [] →
@@ -176,13 +174,13 @@ counted bodies v to left none is =
     ap (λ (ls : List Letter). length (packets_for to ls)) none in
     omega (arith, put, called, here)
 
-pub rest_counts : (shape : Sizes) (lines : List Line) (ranks : List OneRank) → AreAtRest shape lines ranks →
+pub rest_counts : (shape : Sizes) (commands : ℕ → List Numbered) (ranks : List OneRank) → AreAtRest shape commands ranks →
     Each (λ i r. (to : ℕ) → to < shape.ranks →
     popped_to r.view.sending.outbox to ≡ packets_to r.view.events to) ranks
-rest_counts shape lines ranks rest i =
+rest_counts shape commands ranks rest i =
     if_each (λ r. (to : ℕ) → to < shape.ranks →
     popped_to r.view.sending.outbox to ≡ packets_to r.view.events to) (slice_get ranks i)
     (λ r is to within.
-    let stands = if_some (RankInvariant shape lines i) (slice_get ranks i) r is (rest.standing i) in
+    let stands = if_some (RankInvariant shape (commands i) i) (slice_get ranks i) r is (rest.standing i) in
     let none = if_some HasNothingToSend (slice_get ranks i) r is (rest.resting i) in
-    counted (sent_body (commands_of i lines)) r.view to (r.left to) none.outbox (stands.left to within))
+    counted (sent_body (commands i)) r.view to (r.left to) none.outbox (stands.left to within))

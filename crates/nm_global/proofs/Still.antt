@@ -1,7 +1,7 @@
 -- What a moment of the rank's own leaves as it was.
 use Rattle.std.proofs.Common.{◌≡◌, ℕ, ◌+◌, List, [], ◌∷◌, ◌++◌, length, length-append, ap, refl, ◌∙◌, arith}
 use Rattle.std.proofs.lemmas.List.{append_assoc}
-use Rattle.nm_types.specs.declared.scripts.Line.{Line}
+use Rattle.nm_types.specs.Commands.{Numbered}
 use Rattle.nm_types.specs.Sizes.{Sizes}
 use Rattle.nm_history.specs.declared.events.Event.{Event}
 use Rattle.nm_rank.specs.Ranks.{RankView}
@@ -45,9 +45,9 @@ same_on a b c one two =
       );
     }
 
-pub then_on : (shape : Sizes) (lines : List Line) (i : ℕ) (v : RankView) (a b : GhostHistory) → Same a b →
-    GoesOn shape lines i v b → GoesOn shape lines i v a
-then_on shape lines i v a b same on =
+pub then_on : (shape : Sizes) (commands : List Numbered) (i : ℕ) (v : RankView) (a b : GhostHistory) → Same a b →
+    GoesOn shape commands i v b → GoesOn shape commands i v a
+then_on shape commands i v a b same on =
     record {
       after = on.after;
       is = on.is;

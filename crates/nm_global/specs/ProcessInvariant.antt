@@ -2,8 +2,7 @@
 use Rattle.std.specs.Prelude.{◌≡◌, ℕ, ◌<◌, None, List, [], ◌∷◌, ◌++◌, length}
 use Rattle.nm_types.specs.declared.packets.Packet.{Packet}
 use Rattle.nm_types.specs.declared.packets.Piece.{Piece}
-use Rattle.nm_types.specs.declared.scripts.Line.{Line}
-use Rattle.nm_types.specs.Commands.{commands_of}
+use Rattle.nm_types.specs.Commands.{Numbered}
 use Rattle.nm_types.specs.Sizes.{Sizes}
 use Rattle.nm_history.specs.Sends.{sent_body}
 use Rattle.nm_history.specs.declared.events.Event.{Event}
@@ -12,7 +11,7 @@ use Rattle.nm_global.specs.Emitted.{IsEmitted, Emitted, nothing, with_packet, wi
 use Rattle.nm_channels.specs.Moments.{LogEntry, history_of, pulled_from, taken_from}
 use Rattle.nm_global.specs.Logged.{IsLogged}
 use Rattle.nm_process.specs.Processes.{ProcessView}
-use Rattle.nm_process.specs.Work.{IsAtWork}
+use Rattle.nm_process.specs.Work.{IsWorking}
 use Rattle.nm_global.specs.Ranks.{OneRank}
 
 -- What was: the moments of a process, the receives whose results were given, and what left it for
@@ -38,21 +37,18 @@ with_packet_left past sent = record past { left = λ to. with_packet to sent (pa
 abbrev pub with_piece_left : GhostHistory → ℕ × Piece → GhostHistory
 with_piece_left past sent = record past { left = λ to. with_piece to sent (past.left to) }
 
--- a rank is that of these moments, and what left it is what its history calls for
-pub record IsOf (shape : Sizes) (lines : List Line) (i : ℕ) (v : RankView) (past : GhostHistory)
+-- a rank whose commands are these is that of these moments, and what left it is what its history calls for
+pub record IsOf (shape : Sizes) (commands : List Numbered) (i : ℕ) (v : RankView) (past : GhostHistory)
     : Type 0 where
   pub me : v.me ≡ i
-  pub logged :
-      IsLogged shape.eager (sent_body (commands_of i lines)) (commands_of i lines) v past.log
-      past.given
-  pub left :
-      (to : ℕ) → to < shape.ranks → IsEmitted (sent_body (commands_of i lines)) v to (past.left to)
+  pub logged : IsLogged shape.eager (sent_body commands) commands v past.log past.given
+  pub left : (to : ℕ) → to < shape.ranks → IsEmitted (sent_body commands) v to (past.left to)
 
--- a process stands at its place in a run of these lines
-pub record ProcessInvariant (shape : Sizes) (lines : List Line) (i : ℕ) (v : ProcessView) (past : GhostHistory)
-    : Type 0 where
-  pub work : IsAtWork shape lines v
-  pub rank : IsOf shape lines i v.rank past
+-- a process stands at its place in a run, where its commands are these
+pub record ProcessInvariant (shape : Sizes) (commands : List Numbered) (bound i : ℕ) (v : ProcessView)
+    (past : GhostHistory) : Type 0 where
+  pub work : IsWorking shape commands bound v
+  pub rank : IsOf shape commands i v.rank past
 
 -- the same was taken of each rank, and the same left, and the history goes on
 pub record Same (old new : GhostHistory) : Type 0 where
@@ -62,10 +58,10 @@ pub record Same (old new : GhostHistory) : Type 0 where
   pub front : (more : List Event) × (history_of new.log ≡ history_of old.log ++ more)
 
 -- a rank went on by itself, something happened, and nothing left it and nothing came
-pub record GoesOn (shape : Sizes) (lines : List Line) (i : ℕ) (v : RankView) (past : GhostHistory)
+pub record GoesOn (shape : Sizes) (commands : List Numbered) (i : ℕ) (v : RankView) (past : GhostHistory)
     : Type 0 where
   pub after : GhostHistory
-  pub is : IsOf shape lines i v after
+  pub is : IsOf shape commands i v after
   pub same : Same past after
   pub grew : length (history_of past.log) < length (history_of after.log)
 

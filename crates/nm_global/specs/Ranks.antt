@@ -1,8 +1,7 @@
 -- The ranks of a run: where each stands, what left it, and what each took of the others.
 use Rattle.std.specs.Prelude.{◌≡◌, ℕ, ◌<◌, Option, None, IfSome, List, [], length, map}
 use Rattle.std.specs.List.{slice_get}
-use Rattle.nm_types.specs.declared.scripts.Line.{Line}
-use Rattle.nm_types.specs.Commands.{commands_of}
+use Rattle.nm_types.specs.Commands.{Numbered}
 use Rattle.nm_types.specs.Sizes.{Sizes}
 use Rattle.nm_history.specs.Quiescence.{Ended}
 use Rattle.nm_history.specs.RankRun.{IsRankRun}
@@ -48,17 +47,14 @@ Each R ranks = (i : ℕ) → IfSome (slice_get ranks i) (R i)
 abbrev pub EachTwo : (ℕ → ℕ → OneRank → OneRank → Type 0) → List OneRank → Type 0
 EachTwo R ranks = Each (λ i a. Each (λ j b. R i j a b) ranks) ranks
 
--- Rank i stands at its place in a run of these lines: its history is a run of its commands, its log
+-- Rank i stands at its place in a run, where its commands are these: its history is a run of them, its log
 -- is sound, and what left it for each rank is what its history calls for.
-pub record RankInvariant (shape : Sizes) (lines : List Line) (i : ℕ) (r : OneRank) : Type 0 where
+pub record RankInvariant (shape : Sizes) (commands : List Numbered) (i : ℕ) (r : OneRank) : Type 0 where
   pub me : r.view.me ≡ i
   pub sizes : r.view.sizes ≡ shape
-  pub run : IsRankRun shape (commands_of i lines) r.at r.view.events
-  pub logged :
-      IsLogged shape.eager (sent_body (commands_of i lines)) (commands_of i lines) r.view r.log
-      r.given
-  pub left :
-      (to : ℕ) → to < shape.ranks → IsEmitted (sent_body (commands_of i lines)) r.view to (r.left to)
+  pub run : IsRankRun shape commands r.at r.view.events
+  pub logged : IsLogged shape.eager (sent_body commands) commands r.view r.log r.given
+  pub left : (to : ℕ) → to < shape.ranks → IsEmitted (sent_body commands) r.view to (r.left to)
 
 -- What rank j took of rank i is what left that one for it: nothing is between them.
 pub record IsPassed (i j : ℕ) (a b : OneRank) : Type 0 where
@@ -77,9 +73,10 @@ pub record HasNothingToSend (r : OneRank) : Type 0 where
   pub empty : EmptyAreHere r.view.events
   pub early : r.view.clock < WORN_STAMP
 
--- The ranks of a run of these lines, where nothing is left to send and nothing is between them.
-pub record AreAtRest (shape : Sizes) (lines : List Line) (ranks : List OneRank) : Type 0 where
+-- The ranks of a run, where the commands of each are these, nothing is left to send and nothing is between
+-- them.
+pub record AreAtRest (shape : Sizes) (commands : ℕ → List Numbered) (ranks : List OneRank) : Type 0 where
   pub many : length ranks ≡ shape.ranks
-  pub standing : Each (RankInvariant shape lines) ranks
+  pub standing : Each (λ i r. RankInvariant shape (commands i) i r) ranks
   pub passed : EachTwo IsPassed ranks
   pub resting : Each (λ i r. HasNothingToSend r) ranks

@@ -1,10 +1,9 @@
 -- What a step of a rank does to its past, when it is one of a run, and where a rank stands in one.
 use Rattle.std.specs.Prelude.{◌≡◌, ℕ, ◌<◌, ◌≤◌, List, [], ◌∷◌, length}
 use Rattle.nm_types.specs.Bodies.{body_len, bytes_of}
-use Rattle.nm_types.specs.Commands.{Numbered, commands_of}
+use Rattle.nm_types.specs.Commands.{Numbered}
 use Rattle.nm_types.specs.Sizes.{Sizes}
 use Rattle.nm_types.specs.declared.limits.TheConstants.{MAX_BODY, MAX_TAG}
-use Rattle.nm_types.specs.declared.scripts.Line.{Line}
 use Rattle.nm_history.specs.declared.events.Happened.TheVariants as event
 use Rattle.nm_history.specs.Pieces.{due_pieces}
 use Rattle.nm_history.specs.Rules.{AreRight}
@@ -33,15 +32,10 @@ pub record Setting : Type 0 where
   pub commands : List Numbered
   pub bodies : Sent → List ℕ
 
--- the run of these lines, as one of its ranks sees it
-abbrev pub setting_of : Sizes → List Line → ℕ → Setting
-setting_of shape lines i =
-    record {
-      eager = shape.eager;
-      ranks = shape.ranks;
-      commands = commands_of i lines;
-      bodies = sent_body (commands_of i lines);
-    }
+-- the run of a rank whose commands are these
+abbrev pub setting_of : Sizes → List Numbered → Setting
+setting_of shape commands =
+    record { eager = shape.eager; ranks = shape.ranks; commands = commands; bodies = sent_body commands }
 
 -- A rank stands at its place in a run, where this was: it is that of the log, and what left it for each rank
 -- is what its history calls for.

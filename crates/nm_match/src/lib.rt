@@ -45,7 +45,6 @@
 
 mod buckets;
 mod deeds;
-mod done;
 mod fronts;
 pub mod laws;
 mod matching;

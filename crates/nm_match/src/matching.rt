@@ -12,11 +12,11 @@ ghost use Rattle.nm_match.specs.declared.deeds.Deed.TheVariants as deed;
 ghost use Rattle.nm_match.specs.Deeds.{history_of, is_known_message, is_known_receive};
 
 use crate::deeds::Deed;
-use crate::done::Done;
 use crate::names::{Message, message_id, receive_id};
 use crate::posted::Posted;
 use crate::seen::Seen;
 use crate::unexpected::Unexpected;
+use nm_ghost::Trace;
 use nm_types::{Arrival, Memory, Peer, Post, TagPick};
 use std::alloc::Global;
 use std::marker::Model;
@@ -44,7 +44,7 @@ use std::marker::Model;
 /// time takes a place until those before it came. A cancelled receive takes a place for good, since
 /// `cancel` tells it from a paired one.
 pub struct Matcher {
-    done: Done,
+    done: Trace<Deed>,
     posted: Posted,
     unexpected: Unexpected,
     receives: Seen,
@@ -76,9 +76,9 @@ impl Model for Matcher {
 
     ghost Value = { List Deed };
 
-    ghost view = { λ m. m.done.deeds };
+    ghost view = { λ m. m.done.items };
 
-    ghost invariant = { λ m. AreHeld m.done.deeds m.order m.next m.posted m.unexpected
+    ghost invariant = { λ m. AreHeld m.done.items m.order m.next m.posted m.unexpected
         m.receives m.messages };
 }
 
@@ -88,7 +88,7 @@ impl Matcher {
         ensures { result ≡ [] }
     {
         Matcher {
-            done: Done::new(),
+            done: Trace::new(),
             posted: Posted::new(alloc),
             unexpected: Unexpected::new(alloc),
             receives: Seen::new(alloc),

@@ -1,16 +1,17 @@
 mod DoingLemmas
+mod EffectLemmas
 mod HeldLemmas
 mod LineLemmas
 mod MessageLemmas
 mod MidLemmas
 mod NameLemmas
+pub mod NextLemmas
 mod PacketLemmas
 mod PageLemmas
 pub mod PlaceLemmas
+mod PlayLemmas
 mod SameLemmas
 mod SparseLemmas
 mod StartLemmas
 mod StepLemmas
-mod EffectLemmas
-mod NextLemmas
-mod WorkLemmas
+pub mod WorkLemmas

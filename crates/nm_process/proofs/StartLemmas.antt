@@ -63,9 +63,9 @@ pub start_answered : (Call : Req → RankView → RankView → Type 0)
     AddsRequest a.rank.requests v.requests r kind → AreGiven a.rank.requests a.names →
     named a q ≡ None → Call r a.rank v → mid.rank ≡ v →
     ((k : ℕ) → lookup (nat_eq k) mid.names ≡ cond (nat_eq q k) (Some r) (lookup (nat_eq k) a.names)) →
-    (mid.at ≡ a.at) × (mid.next ≡ a.next) →
+    mid.at ≡ a.at →
     HasAnswered mid b line answer.Started → HasStarted Call kind a b q line
-start_answered Call kind a mid b v r q line adds given free starts is sets place answered =
+start_answered Call kind a mid b v r q line adds given free starts is sets at answered =
     record {
       free = free;
       mid = mid;
@@ -79,7 +79,7 @@ start_answered Call kind a mid b v r q line adds given free starts is sets place
               others = λ k isnt. named_others v.requests a.names mid.names q (Some r) sets k isnt
                   ∙ named_more a.rank.requests v.requests r kind adds a.names given k;
             });
-        place = place;
+        at = at;
       };
       answered = answered;
     }
@@ -94,14 +94,10 @@ none_found b None is same = refl
 none_found b (Some x) is same = cc
 
 -- the handles and the place after the answer of a command
-pub keeps_handles : (a mid b : ProcessView) (line : ℕ) (x : Answer) → (mid.at ≡ a.at)
-    × (mid.next ≡ a.next) → mid.handles ≡ a.handles → HasAnswered mid b line x → KeepsHandles a b
-keeps_handles a mid b line x place same answered = record {
-  place = (
-    ap (λ (v : ProcessView). v.at) answered.others
-        ∙ place.0,
-    ap (λ (v : ProcessView). v.next) answered.others ∙ place.1,
-  );
+pub keeps_handles : (a mid b : ProcessView) (line : ℕ) (x : Answer) → mid.at ≡ a.at →
+    mid.handles ≡ a.handles → HasAnswered mid b line x → KeepsHandles a b
+keeps_handles a mid b line x at same answered = record {
+  at = ap (λ (v : ProcessView). v.at) answered.others ∙ at;
   handles = ap (λ (v : ProcessView). v.handles) answered.others ∙ same;
 }
 

@@ -1,5 +1,5 @@
 -- A process at work, one event after another.
-use Rattle.std.proofs.Common.{◌≡◌, ℕ, List, [], refl, sym, subst, arith}
+use Rattle.std.proofs.Common.{◌≡◌, ℕ, ◌+◌, ◌<◌, ◌≤◌, List, [], refl, sym, subst, arith}
 use Rattle.nm_types.specs.declared.scripts.Line.{Line}
 use Rattle.nm_types.specs.Commands.{Numbered, commands_of}
 use Rattle.nm_types.specs.Sizes.{Sizes}
@@ -11,9 +11,10 @@ use Rattle.nm_request.specs.Requests.{Live}
 use Rattle.nm_rank.specs.Ranks.{RankView}
 use Rattle.nm_process.specs.declared.steps.Handle.{Handle}
 use Rattle.nm_process.specs.Names.{AreHeld, AreGiven}
-use Rattle.nm_process.specs.Places.{ArePlaces, place_at}
-use Rattle.nm_process.specs.Work.{IsAtWork}
-use Rattle.nm_process.proofs.PlaceLemmas.{IsPlaceFrom, place_from}
+use Rattle.nm_process.specs.Places.{IsAtWork, IsPlaced, ScriptedView}
+use Rattle.nm_process.specs.Processes.{ProcessView}
+use Rattle.nm_process.specs.Work.{IsWorking}
+use Rattle.nm_process.proofs.LineLemmas.{below-more}
 
 -- where there is no name, each has a request of its own, and where there is no handle, each a message
 pub none_given : (requests : Live) (names : List (ℕ × Req)) → names ≡ [] → AreGiven requests names
@@ -28,20 +29,16 @@ none_held h handles none = subst (λ (hs : List (ℕ × Handle)). AreHeld h hs) 
   one_handle = λ m k x one two. cc;
 })
 
--- a process that begins
-pub begins : (shape : Sizes) (lines : List Line) (v : RankView) (own : List ℕ) (next : ℕ) (names : List (ℕ × Req))
-    (handles : List (ℕ × Handle)) → ArePlaces lines v.me own → next ≡ place_at own lines 0 →
-    v.sizes ≡ shape → v.events ≡ [] → names ≡ [] → handles ≡ [] →
-    IsAtWork shape lines (record { rank = v; own = own; at = 0; next = next; names = names; handles = handles })
+-- a process of which no command ran
+pub begins : (shape : Sizes) (commands : List Numbered) (bound : ℕ) (v : RankView) (names : List (ℕ × Req))
+    (handles : List (ℕ × Handle)) → v.sizes ≡ shape → v.events ≡ [] → names ≡ [] → handles ≡ [] →
+    IsWorking shape commands bound (record { rank = v; at = 0; names = names; handles = handles })
 unfolding AtEach
-begins shape lines v own next names handles are stands sizes none no_names no_handles =
-    let commands : List Numbered = commands_of v.me lines in
-    let place : IsPlaceFrom lines v.me 0 next = subst (λ (k : ℕ). IsPlaceFrom lines v.me 0 k) (sym stands)
-    (place_from lines v.me 0 0 own are (omega arith) refl) in
-    subst (λ (ns : List (ℕ × Req)). IsAtWork shape lines
-    (record { rank = v; own = own; at = 0; next = next; names = ns; handles = handles })) (sym no_names)
-    (subst (λ (hs : List (ℕ × Handle)). IsAtWork shape lines
-    (record { rank = v; own = own; at = 0; next = next; names = []; handles = hs })) (sym no_handles)
+begins shape commands bound v names handles sizes none no_names no_handles =
+    subst (λ (ns : List (ℕ × Req)). IsWorking shape commands bound
+    (record { rank = v; at = 0; names = ns; handles = handles })) (sym no_names)
+    (subst (λ (hs : List (ℕ × Handle)). IsWorking shape commands bound
+    (record { rank = v; at = 0; names = []; handles = hs })) (sym no_handles)
     (let is = none in record {
       sizes = sizes;
       answers = subst (λ (h : List Event). Answers commands 0 h) (sym is)
@@ -52,10 +49,43 @@ begins shape lines v own next names handles are stands sizes none no_names no_ha
           (record { made = tt; no_others = refl });
       claims = subst (λ (h : List Event). Claims commands h) (sym is)
           (record { made = tt; no_others = refl });
-      places = are;
       past = rw is refl;
-      counted = place.first;
-      own = place.own;
       requests = λ q. rw is refl;
       handles = λ m. rw is refl;
     }))
+
+-- a later bound
+bound_more : (shape : Sizes) (commands : List Numbered) (bound more : ℕ) (v : ProcessView) → bound ≤ more →
+    IsWorking shape commands bound v → IsWorking shape commands more v
+bound_more shape commands bound more v less work = record {
+  sizes = work.sizes;
+  answers = work.answers;
+  starts = work.starts;
+  cancels = work.cancels;
+  claims = work.claims;
+  past = below-more bound more v.rank.events less work.past;
+  requests = work.requests;
+  handles = work.handles;
+}
+
+-- a process that ran no command is still at work on those of a script
+pub stays_at_work : (shape : Sizes) (lines : List Line) (s : ScriptedView) (a v : ProcessView) →
+    v.rank.me ≡ a.rank.me → v.at ≡ a.at →
+    ((commands : List Numbered) (bound : ℕ) → 0 < bound → IsWorking shape commands bound a →
+    IsWorking shape commands bound v) → IsAtWork shape lines s a → IsAtWork shape lines s v
+stays_at_work shape lines s a v me at keeps work = record {
+  work = subst (λ (k : ℕ). IsWorking shape (commands_of k lines) (s.next + 2) v) (sym me)
+      (keeps (commands_of a.rank.me lines) (s.next + 2) (omega arith) work.work);
+  place = subst (λ (k : ℕ). IsPlaced lines k v.at s) (sym me)
+      (subst (λ (k : ℕ). IsPlaced lines a.rank.me k s) (sym at) work.place);
+}
+
+-- and so is one that ran the next of them
+pub ran_at_work : (shape : Sizes) (lines : List Line) (me line : ℕ) (t : ScriptedView) (v : ProcessView) →
+    v.rank.me ≡ me → IsWorking shape (commands_of me lines) (line + 1) v → IsPlaced lines me v.at t →
+    line + 1 ≤ t.next + 2 → IsAtWork shape lines t v
+ran_at_work shape lines me line t v same work place less = record {
+  work = subst (λ (k : ℕ). IsWorking shape (commands_of k lines) (t.next + 2) v) (sym same)
+      (bound_more shape (commands_of me lines) (line + 1) (t.next + 2) v less work);
+  place = subst (λ (k : ℕ). IsPlaced lines k v.at t) (sym same) place;
+}

@@ -1,6 +1,8 @@
+pub mod LastAnswer
 pub mod Lines
 pub mod Names
 pub mod Places
+pub mod Playing
 pub mod Processes
 pub mod Sparse
 pub mod Starts

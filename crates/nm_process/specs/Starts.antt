@@ -33,9 +33,9 @@ use Rattle.nm_process.specs.Processes.{ProcessView}
 abbrev pub KeepsAllBut : ProcessView → ProcessView → Type 0
 KeepsAllBut a b = b ≡ record a { rank = b.rank }
 
--- the process stands at the same command of the same script
+-- the process counts as many commands
 abbrev pub StandsStill : ProcessView → ProcessView → Type 0
-StandsStill a b = (b.next ≡ a.next) × (b.at ≡ a.at) × (b.own ≡ a.own)
+StandsStill a b = b.at ≡ a.at
 
 -- the rank recorded the answer of a line's command, and did nothing else
 pub record HasAnswered (a b : ProcessView) (line : ℕ) (x : Answer) : Type 0 where
@@ -52,9 +52,9 @@ pub record SetsHandle (a b : ProcessView) (m : ℕ) (message : Option Message) :
   pub own : handled b m ≡ message
   pub others : (k : ℕ) → k ≢ m → handled b k ≡ handled a k
 
--- the place is the same, and so is what the handles stand for
+-- the process counts as many commands, and the handles stand for what they stood for
 pub record KeepsHandles (a b : ProcessView) : Type 0 where
-  pub place : (b.at ≡ a.at) × (b.next ≡ a.next)
+  pub at : b.at ≡ a.at
   pub handles : b.handles ≡ a.handles
 
 -- the rank made this call, which started a request of this kind, and the name stands for it
@@ -63,7 +63,7 @@ pub record HasBegun (Call : Req → RankView → RankView → Type 0) (kind : Ki
   pub request : Req
   pub starts : Call request a.rank b.rank
   pub names : SetsName a b q (Some (request_of kind))
-  pub place : (b.at ≡ a.at) × (b.next ≡ a.next)
+  pub at : b.at ≡ a.at
 
 -- a start of a free name, and its answer
 pub record HasStarted (Call : Req → RankView → RankView → Type 0) (kind : Kind)
@@ -197,7 +197,7 @@ pub record HasClaimed (a b : ProcessView) (m : ℕ) (from : Peer) (tag : TagPick
   pub first : message_probed a from tag ctx ≡ Some message
   pub claims : Claims message line a.rank mid.rank
   pub names : mid.names ≡ a.names
-  pub place : (mid.at ≡ a.at) × (mid.next ≡ a.next)
+  pub at : mid.at ≡ a.at
   pub handles : SetsHandle a mid m (Some (record { from = message.env.from; n = message.n }))
   pub answered : HasAnswered mid b line (seen message)
 

@@ -1,10 +1,9 @@
--- What a process's next command comes to.
+-- What a command of a process comes to.
 use Rattle.std.specs.Prelude.{◌≡◌, ℕ, ◌+◌, Bool, true, false, is_some, List}
 use Rattle.std.specs.List.{slice_get}
 use Rattle.std.specs.Option.{option_map_or}
 use Rattle.nm_types.specs.declared.scripts.Command.{Command}
 use Rattle.nm_types.specs.declared.scripts.Command.TheVariants as command
-use Rattle.nm_types.specs.declared.scripts.Line.{Line}
 use Rattle.nm_types.specs.Commands.{Numbered}
 use Rattle.nm_history.specs.Answers.{can_go_on}
 use Rattle.nm_history.specs.Completion.{is_complete}
@@ -12,7 +11,6 @@ use Rattle.nm_history.specs.Matching.{first_message, matched_pairs}
 use Rattle.nm_process.specs.declared.steps.Step.{Step}
 use Rattle.nm_process.specs.declared.steps.Step.TheVariants.{Waits, Ran as Took}
 use Rattle.nm_process.specs.Names.{named}
-use Rattle.nm_process.specs.Places.{IsNextLine, place_at}
 use Rattle.nm_process.specs.Processes.{ProcessView}
 use Rattle.nm_process.specs.Starts.{HasTried}
 
@@ -40,17 +38,12 @@ can_go_on_by v (command.Await from tag ctx) =
     is_some (first_message v.rank.events (matched_pairs v.rank.events) from tag ctx)
 can_go_on_by v _ = true
 
--- the process ran the command of its next line, counts it, and stands at the next one
-pub record HasRun (lines : List Line) (a b : ProcessView) : Type 0 where
-  pub place : ℕ
-  pub line : Line
-  pub is : IsNextLine lines a.rank.me a.next place line
-  pub tried : HasTried a (record b { at = a.at; next = a.next }) line.command (place + 2) Took
+-- the process ran this command of this line, and counts it
+pub record HasRun (command : Command) (line : ℕ) (a b : ProcessView) : Type 0 where
+  pub tried : HasTried a (record b { at = a.at }) command line Took
   pub at : b.at ≡ a.at + 1
-  pub own : b.own ≡ a.own
-  pub next : b.next ≡ place_at a.own lines (a.at + 1)
 
--- what the process's next command came to
-abbrev pub HasStepped : List Line → ProcessView → ProcessView → Step → Type 0
-HasStepped lines a b Waits = b ≡ a
-HasStepped lines a b Took = HasRun lines a b
+-- what this command of this line came to
+abbrev pub HasStepped : Command → ℕ → ProcessView → ProcessView → Step → Type 0
+HasStepped command line a b Waits = b ≡ a
+HasStepped command line a b Took = HasRun command line a b

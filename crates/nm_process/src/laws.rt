@@ -1,19 +1,19 @@
 //! Laws of the definitions. Each is the contract of a function that does nothing.
 
-ghost use Rattle.std.specs.Prelude.{List, []};
-ghost use Rattle.nm_types.specs.declared.scripts.Line.{Line};
-ghost use Rattle.nm_types.specs.Commands.{commands_of};
+ghost use Rattle.std.specs.Prelude.{ℕ, List, []};
+ghost use Rattle.nm_types.specs.Commands.{Numbered};
 ghost use Rattle.nm_types.specs.Sizes.{Sizes};
 ghost use Rattle.nm_history.specs.RankRun.{IsRankRun};
 ghost use Rattle.nm_history.specs.Rules.{AreRight};
 ghost use Rattle.nm_rank.specs.Journals.{IsJournal};
 ghost use Rattle.nm_process.specs.Processes.{ProcessView};
-ghost use Rattle.nm_process.specs.Work.{IsAtWork};
+ghost use Rattle.nm_process.specs.Work.{IsWorking};
 
-/// The history of a process at work is a run of its rank's commands, where it keeps the rules that
-/// commands play no part in, and its stamps rise.
+/// The history of a process at work is a run of these commands, where it keeps the rules that commands
+/// play no part in, and its stamps rise.
 pub fn a_process_runs()
-    ensures { (shape : Sizes) (lines : List Line) (v : ProcessView) → IsAtWork shape lines v →
+    ensures { (shape : Sizes) (commands : List Numbered) (bound : ℕ) (v : ProcessView) →
+        IsWorking shape commands bound v →
         AreRight shape.ranks [] v.rank.events → IsJournal v.rank.events v.rank.clock →
-        IsRankRun shape (commands_of v.rank.me lines) v.at v.rank.events }
+        IsRankRun shape commands v.at v.rank.events }
 {}

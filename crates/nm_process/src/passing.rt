@@ -1,14 +1,14 @@
 //! The calls that pass to the rank.
 
-ghost use Rattle.std.specs.Prelude.{◌≡◌, ◌<◌, List, length, IsSome, OnErr, OnOk};
-ghost use Rattle.nm_types.specs.declared.scripts.Line.{Line};
+ghost use Rattle.std.specs.Prelude.{◌≡◌, ◌<◌, ℕ, List, length, IsSome, OnErr, OnOk};
+ghost use Rattle.nm_types.specs.Commands.{Numbered};
 ghost use Rattle.nm_types.specs.Sizes.{Sizes};
 ghost use Rattle.nm_rndv.specs.Offers.{next_offered};
 ghost use Rattle.nm_rank.specs.Calls.{TakesPacket, TakesPiece};
 ghost use Rattle.nm_rank.specs.Pops.{PopsPacket, PopsPiece};
 ghost use Rattle.nm_rank.specs.Ranks.{IsFresh, count_of};
 ghost use Rattle.nm_process.specs.Starts.{KeepsAllBut};
-ghost use Rattle.nm_process.specs.Work.{IsAtWork};
+ghost use Rattle.nm_process.specs.Work.{IsWorking};
 
 use crate::Process;
 use nm_history::History;
@@ -39,8 +39,8 @@ impl Process {
         requires fresh { IsFresh self.old.rank }
         ensures pops { PopsPacket self.old.rank self.new.rank }
         ensures others { KeepsAllBut self.old self.new }
-        ensures work { (shape : Sizes) (lines : List Line) → IsAtWork shape lines self.old →
-            IsAtWork shape lines self.new }
+        ensures work { (shape : Sizes) (commands : List Numbered) (bound : ℕ) → 0 < bound →
+            IsWorking shape commands bound self.old → IsWorking shape commands bound self.new }
     {
         self.rank.pop_front();
         // no step: it tells that the history keeps its rules
@@ -54,8 +54,8 @@ impl Process {
         requires fresh { IsFresh self.old.rank }
         ensures pops { PopsPiece self.old.rank self.new.rank }
         ensures others { KeepsAllBut self.old self.new }
-        ensures work { (shape : Sizes) (lines : List Line) → IsAtWork shape lines self.old →
-            IsAtWork shape lines self.new }
+        ensures work { (shape : Sizes) (commands : List Numbered) (bound : ℕ) → 0 < bound →
+            IsWorking shape commands bound self.old → IsWorking shape commands bound self.new }
     {
         self.rank.pop_piece();
         // no step: it tells that the history keeps its rules
@@ -70,8 +70,9 @@ impl Process {
         requires fresh { IsFresh self.old.rank }
         ensures taken { OnOk result (TakesPacket p.now self.old.rank self.new.rank) }
         ensures others { OnOk result (KeepsAllBut self.old self.new) }
-        ensures work { OnOk result ((shape : Sizes) (lines : List Line) →
-            IsAtWork shape lines self.old → IsAtWork shape lines self.new) }
+        ensures work { OnOk result ((shape : Sizes) (commands : List Numbered) (bound : ℕ) →
+            0 < bound → IsWorking shape commands bound self.old →
+            IsWorking shape commands bound self.new) }
         ensures err { OnErr result (self.new ≡ self.old) }
     {
         self.rank.take_packet(p)?;
@@ -88,8 +89,9 @@ impl Process {
         requires fresh { IsFresh self.old.rank }
         ensures taken { OnOk result (TakesPiece p.now self.old.rank self.new.rank) }
         ensures others { OnOk result (KeepsAllBut self.old self.new) }
-        ensures work { OnOk result ((shape : Sizes) (lines : List Line) →
-            IsAtWork shape lines self.old → IsAtWork shape lines self.new) }
+        ensures work { OnOk result ((shape : Sizes) (commands : List Numbered) (bound : ℕ) →
+            0 < bound → IsWorking shape commands bound self.old →
+            IsWorking shape commands bound self.new) }
         ensures err { OnErr result (self.new ≡ self.old) }
     {
         self.rank.take_piece(p)?;

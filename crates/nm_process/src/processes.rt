@@ -1,31 +1,25 @@
-//! A process: a rank with its commands, and the names of its requests and messages.
+//! A process: a rank that runs commands, and the names of its requests and messages.
 
-ghost use Rattle.std.specs.Prelude.{◌≡◌, ◌<◌, ◌≤◌, true, false, None, length};
-ghost use Rattle.std.specs.Prelude.{IfOk, IfSome, IfNone};
-ghost use Rattle.std.specs.Prelude.{option_map, slice_get, OnOk};
-ghost use Rattle.nm_types.specs.declared.limits.TheConstants.{MAX_LINES};
-ghost use Rattle.nm_types.specs.declared.scripts.Line.{Line};
-ghost use Rattle.nm_types.specs.Commands.{commands_of};
+ghost use Rattle.std.specs.Prelude.{◌≡◌, ◌+◌, ◌<◌, ℕ, true, false, IfOk, OnOk, List};
+ghost use Rattle.std.specs.Option.{option_map_or};
+ghost use Rattle.nm_types.specs.Commands.{Numbered};
 ghost use Rattle.nm_types.specs.Limits.{is_in_range};
 ghost use Rattle.nm_types.specs.Sizes.{Sizes};
+ghost use Rattle.nm_history.specs.Completion.{is_complete};
 ghost use Rattle.nm_rank.specs.New.{IsNew};
 ghost use Rattle.nm_rank.specs.Ranks.{IsFresh};
-ghost use Rattle.nm_process.specs.Lines.{AreLines};
-ghost use Rattle.nm_process.specs.Places.{ArePlaces, IsNextLine, NoneBetween, place_at as place_at_lem};
-ghost use Rattle.nm_process.specs.Starts.{HasTried};
-ghost use Rattle.nm_process.specs.Steps.{HasStepped, can_go_on_by, goes_on, is_look, looks_on};
 ghost use Rattle.nm_process.specs.Names.{named};
+ghost use Rattle.nm_process.specs.Starts.{HasTried};
+ghost use Rattle.nm_process.specs.Steps.{HasStepped, can_go_on_by};
+ghost use Rattle.nm_process.specs.Work.{IsNext, IsWorking};
 ghost use Rattle.nm_process.specs.declared.steps.Step.TheVariants as step_is;
-ghost use Rattle.nm_history.specs.Completion.{is_complete};
-ghost use Rattle.std.specs.Option.{option_map_or};
-ghost use Rattle.nm_process.specs.Work.{IsAtWork};
 
 use crate::names::RequestNames;
 use crate::{Handle, Step};
 use indexmap::IndexMap;
 use nm_history::History;
 use nm_rank::{NoSuch, Rank, State};
-use nm_types::{Command, Line, Memory, Shape};
+use nm_types::{Command, Memory, Shape};
 use std::alloc::Global;
 use std::marker::Model;
 
@@ -37,12 +31,8 @@ pub struct Process {
     pub(crate) requests: RequestNames,
     // by name of a handle
     pub(crate) handles: IndexMap<u16, Handle>,
-    // where its commands stand in the script, in order
-    own: Vec<u32>,
-    // where its next command stands there, past all lines if there is none
-    pub(crate) next: usize,
-    // how many of its commands ran
-    pub(crate) at: u32,
+    // how many commands ran
+    at: u32,
 }
 
 impl Drop for Process {
@@ -52,8 +42,6 @@ impl Drop for Process {
             rank: _,
             requests: _,
             handles: _,
-            own: _,
-            next: _,
             at: _,
         } = self;
     }
@@ -64,7 +52,6 @@ pub struct Leavings {
     rank: nm_rank::Leavings,
     requests: RequestNames,
     handles: IndexMap<u16, Handle>,
-    own: Vec<u32>,
 }
 
 impl Drop for Leavings {
@@ -73,7 +60,6 @@ impl Drop for Leavings {
             rank: _,
             requests: _,
             handles: _,
-            own: _,
         } = self;
     }
 }
@@ -85,9 +71,8 @@ impl Model for Leavings {
 }
 
 impl Model for Process {
-    ghost use Rattle.std.specs.Prelude.{◌≡◌, ◌≤◌};
+    ghost use Rattle.std.specs.Prelude.{◌≡◌};
     ghost use Rattle.nm_process.specs.Names.{AreHeld, AreGiven};
-    ghost use Rattle.nm_process.specs.Places.{AreAhead};
     ghost use Rattle.nm_process.specs.Processes.{ProcessView};
 
     ghost Value = { ProcessView };
@@ -95,9 +80,7 @@ impl Model for Process {
     ghost view = { λ p.
         record {
           rank = p.rank;
-          own = p.own.items;
           at = p.at;
-          next = p.next;
           names = p.requests;
           handles = p.handles.entries;
         } };
@@ -105,30 +88,7 @@ impl Model for Process {
     ghost invariant = { λ p.
         AreGiven p.rank.requests p.requests
         × AreHeld p.rank.events p.handles.entries
-        × (p.me ≡ p.rank.me) × (p.at ≤ p.next) × AreAhead p.own.items };
-}
-
-// The place of the command of this number, past all lines where there is none.
-fn place_at(own: &[u32], lines: &[Line], at: u32) -> usize
-    ensures { result ≡ place_at_lem own.now lines.now at }
-{
-    match own.get(at as usize) {
-        Some(place) => *place as usize,
-        None => lines.len(),
-    }
-}
-
-// Whether it is a command that looks at what came: a test, a probe, an await or a matched probe.
-fn looks(command: Option<&Command>) -> bool
-    ensures { result ≡ option_map_or is_look (option_map (λ c. c.now) command.entry) false }
-{
-    match command {
-        Some(Command::Test { .. }) => true,
-        Some(Command::Probe { .. }) => true,
-        Some(Command::Await { .. }) => true,
-        Some(Command::Mprobe { .. }) => true,
-        _ => false,
-    }
+        × (p.me ≡ p.rank.me) };
 }
 
 impl Process {
@@ -141,8 +101,6 @@ impl Process {
             rank,
             requests,
             handles,
-            own,
-            next: _,
             at: _,
         } = self;
         let (history, rank) = rank.into_parts();
@@ -150,37 +108,27 @@ impl Process {
             rank,
             requests,
             handles,
-            own,
         };
         (history, left)
     }
 
-    /// A process at its first command of a script, whose commands stand at these places, in a run of
-    /// these sizes. It has room for as many names and requests as if every other command started one, and
-    /// for three events of each command.
-    pub fn new(
-        alloc: Global,
-        shape: Shape,
-        me: u8,
-        own: Vec<u32>,
-        lines: &[Line],
-    ) -> Result<Process, Memory>
+    /// A process of which no command ran, in a run of these sizes. It has room for as many names and
+    /// requests as if every other of so many commands started one, and for three events of each command.
+    pub fn new(alloc: Global, shape: Shape, me: u8, commands: usize) -> Result<Process, Memory>
         requires rank { me < shape.ranks }
-        requires places { ArePlaces lines.now me own.items }
         ensures new { IfOk result (λ p. IsNew shape me p.rank) }
-        ensures begins { IfOk result (λ p. (p.at ≡ 0) × IsAtWork shape lines.now p) }
+        ensures at { IfOk result (λ p. p.at ≡ 0) }
+        ensures begins { IfOk result (λ p. (commands : List Numbered) (bound : ℕ) →
+            IsWorking shape commands bound p) }
     {
-        let next = place_at(&own, lines, 0);
-        let names = own.len() / 2;
+        let names = commands / 2;
         let requests = RequestNames::with_capacity(alloc, names)?;
-        let events = own.len().saturating_mul(3);
+        let events = commands.saturating_mul(3);
         Ok(Process {
             me,
             rank: Rank::with_capacity(alloc, shape, me, events, names + 1)?,
             requests,
             handles: IndexMap::new(alloc),
-            own,
-            next,
             at: 0,
         })
     }
@@ -192,75 +140,15 @@ impl Process {
         self.me
     }
 
-    /// How many of its commands ran.
+    /// How many commands ran.
     pub fn at(&self) -> u32
         ensures { result ≡ self.now.at }
     {
         self.at
     }
 
-    /// The line of the next command, if not every command ran.
-    pub fn next_line(&self, lines: &[Line]) -> Option<u32>
-        requires { length lines.now < MAX_LINES }
-        ensures { (shape : Sizes) → IsAtWork shape lines.now self.now → result
-            ≡ option_map (λ c. c.line)
-            (slice_get (commands_of self.now.rank.me lines.now) self.now.at) }
-    {
-        let place = self.next_place(lines)?;
-        Some(place as u32 + 2)
-    }
-
-    /// The next command, if not every command ran.
-    pub fn next_command<'a>(&self, lines: &'a [Line]) -> Option<&'a Command>
-        ensures { (shape : Sizes) → IsAtWork shape lines.now self.now →
-            option_map (λ c. c.now) result ≡ option_map (λ c. c.command)
-            (slice_get (commands_of self.now.rank.me lines.now) self.now.at) }
-    {
-        let place = self.next_place(lines)?;
-        Some(&lines[place].command)
-    }
-
-    // The place of the next command in the script that the process is at work on.
-    fn next_place(&self, lines: &[Line]) -> Option<usize>
-        ensures some { IfSome result (λ place. (place < length lines.now)
-            × IfSome (slice_get lines.now place)
-            (IsNextLine lines.now self.now.rank.me self.now.next place)) }
-        ensures none { IfNone result ((shape : Sizes) → IsAtWork shape lines.now self.now →
-            NoneBetween lines.now self.now.rank.me self.now.next (length lines.now)) }
-    {
-        let place = self.next;
-        if place >= lines.len() {
-            return None;
-        }
-        if lines[place].rank == self.me {
-            Some(place)
-        } else {
-            None
-        }
-    }
-
-    /// Whether there is a next command and it looks at what came: a test, a probe, an await or a
-    /// matched probe.
-    pub fn next_looks(&self, lines: &[Line]) -> bool
-        ensures { (shape : Sizes) → IsAtWork shape lines.now self.now → result
-            ≡ looks_on (commands_of self.now.rank.me lines.now) self.now }
-    {
-        looks(self.next_command(lines))
-    }
-
-    /// Whether there is a next command and it can go on.
-    pub fn can_run(&self, lines: &[Line]) -> bool
-        ensures { (shape : Sizes) → IsAtWork shape lines.now self.now → result
-            ≡ goes_on (commands_of self.now.rank.me lines.now) self.now }
-    {
-        let Some(place) = self.next_place(lines) else {
-            return false;
-        };
-        self.can_go_on(&lines[place].command)
-    }
-
-    // Whether a command can go on.
-    fn can_go_on(&self, command: &Command) -> bool
+    /// Whether a command can go on: only a wait and an await can be unable to.
+    pub fn can_go_on(&self, command: &Command) -> bool
         ensures { result ≡ can_go_on_by self.now command.now }
     {
         match command {
@@ -285,31 +173,32 @@ impl Process {
         }
     }
 
-    /// Runs the next command, if there is one and it can go on. A rank that is worn runs none.
-    pub fn run_next(&mut self, lines: &[Line]) -> Result<Step, Memory>
-        requires { AreLines self.old.rank.sizes.ranks lines.now }
-        ensures stepped { IfOk result (HasStepped lines.now self.old self.new) }
+    /// Runs a command at its line, if it can go on. A rank that is worn runs none.
+    ///
+    /// Whatever commands the process is at work on, it is still if this is the next of them.
+    pub fn run(&mut self, command: &Command, line: u32) -> Result<Step, Memory>
+        requires in_range { is_in_range self.old.rank.sizes.ranks command.now ≡ true }
+        requires counted { self.old.at < line }
+        ensures stepped { IfOk result (HasStepped command.now line self.old self.new) }
         ensures fresh { IfOk result (λ step. step ≡ step_is.Ran → IsFresh self.old.rank) }
         ensures same { OnOk result ((self.new.rank.me ≡ self.old.rank.me)
             × (self.new.rank.sizes ≡ self.old.rank.sizes)) }
         ensures waits { IfOk result (λ step. step ≡ step_is.Waits → IsFresh self.old.rank →
-            (shape : Sizes) → IsAtWork shape lines.now self.old →
-            goes_on (commands_of self.old.rank.me lines.now) self.old ≡ false) }
-        ensures work { OnOk result ((shape : Sizes) → IsAtWork shape lines.now self.old →
-            IsAtWork shape lines.now self.new) }
+            can_go_on_by self.old command.now ≡ false) }
+        ensures work { IfOk result (λ step. step ≡ step_is.Ran →
+            (shape : Sizes) (commands : List Numbered) (bound : ℕ) →
+            IsWorking shape commands bound self.old →
+            IsNext commands self.old.at bound line command.now →
+            IsWorking shape commands (line + 1) self.new) }
     {
         if self.rank.is_worn() {
             return Ok(Step::Waits);
         }
-        let Some(place) = self.next_place(lines) else {
-            return Ok(Step::Waits);
-        };
-        let step = self.run_command(&lines[place].command, place as u32 + 2)?;
+        let step = self.run_command(command, line)?;
         if let Step::Waits = step {
             return Ok(Step::Waits);
         }
         self.at += 1;
-        self.next = place_at(&self.own, lines, self.at);
         // no step: it tells that the history keeps its rules
         self.rank.history();
         Ok(step)
@@ -319,8 +208,7 @@ impl Process {
     fn run_command(&mut self, command: &Command, line: u32) -> Result<Step, Memory>
         requires fresh { IsFresh self.old.rank }
         requires in_range { is_in_range self.old.rank.sizes.ranks command.now ≡ true }
-        ensures places { (self.new.next ≡ self.old.next) × (self.new.at ≡ self.old.at)
-            × (self.new.own ≡ self.old.own) }
+        ensures places { self.new.at ≡ self.old.at }
         ensures tried { IfOk result (HasTried self.old self.new command.now line) }
     {
         match command {

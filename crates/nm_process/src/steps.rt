@@ -1,11 +1,17 @@
-//! What a process's next command comes to.
+//! What a command of a process comes to.
 
-/// What a process's next command came to.
+ghost use Rattle.std.specs.Prelude.{◌≡◌, false, option_map};
+ghost use Rattle.std.specs.Option.{option_map_or};
+ghost use Rattle.nm_process.specs.Steps.{is_look};
+
+use nm_types::Command;
+
+/// What a command came to.
 #[derive(Clone, Copy)]
 pub enum Step {
     /// It ran.
     Ran,
-    /// There is none, or it can't go on.
+    /// It can't go on, or the rank is worn.
     Waits,
 }
 
@@ -15,4 +21,17 @@ pub enum Step {
 pub struct Handle {
     pub from: u8,
     pub n: u64,
+}
+
+/// Whether it is a command that looks at what came: a test, a probe, an await or a matched probe.
+pub fn looks(command: Option<&Command>) -> bool
+    ensures { result ≡ option_map_or is_look (option_map (λ c. c.now) command.entry) false }
+{
+    match command {
+        Some(Command::Test { .. }) => true,
+        Some(Command::Probe { .. }) => true,
+        Some(Command::Await { .. }) => true,
+        Some(Command::Mprobe { .. }) => true,
+        _ => false,
+    }
 }

@@ -216,7 +216,7 @@ told_run shape lines f r actors c q ends ranks pairs place many closed run told 
   own i a at =
       let s = in_place_at shape lines f r 0 i actors a place at in
       let rank : a.port.rank ≡ i = s.1 ∙ omega arith in
-      (rank, s.0.is.standing.rank.me ∙ rank)
+      (rank, s.0.is.stands.me ∙ rank)
 
   same : ends ≡ map (λ (x : Actor). ended_of lines x.process) actors
   same = ends_same lines actors ends long (λ i a at. by i a at (slice_get ends i) (run.are i a at)) where
@@ -249,7 +249,7 @@ pub to_tell : (shape : Sizes) (lines : List Line) (f : Fabric Packet) (r : Rings
     InPlace shape lines f r k actors → f.ranks ≡ shape.ranks → AreToTell shape.ranks lines actors
 to_tell shape lines f r k [] place ranks = tt
 to_tell shape lines f r k (a ∷ actors) place ranks = (
-  place.0.is.standing.work,
+  place.0.is.work,
   place.0.is.cells.2 ∙ ranks,
   to_tell shape lines f r (k + 1) actors place.2 ranks,
 )

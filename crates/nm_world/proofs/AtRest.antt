@@ -33,7 +33,7 @@ each_ends law shape lines f r actors place still i = by (slice_get actors i) ref
       let s = in_place_at shape lines f r 0 i actors a place at in
       subst (λ (k : ℕ). EndsAt shape lines f r k a) (s.1 ∙ omega arith)
       (subst (λ (z : Sizes). EndsAt z lines f r a.port.rank a) s.2
-      (law lines f r a s.0 (is s.0.is.standing.work)))
+      (law lines f r a s.0 (is s.0.is.work)))
 
 pub all_taken_of : (n : ℕ) (actors : List Actor) (c : Closed Packet) → length actors ≡ n →
     IsClosed n (map (λ (a : Actor). a.port) actors) c → AllAgree actors → AllTaken n c

@@ -2,6 +2,7 @@
 use Rattle.std.proofs.Common.{◌≡◌, ℕ, ◌<◌, List, sym, ap, ◌∙◌, arith}
 use Rattle.std.proofs.lemmas.List.{get_or-replicate}
 use Rattle.nm_types.specs.declared.scripts.Line.{Line}
+use Rattle.nm_types.specs.Commands.{commands_of}
 use Rattle.nm_types.specs.Sizes.{Sizes}
 use Rattle.nm_chain.specs.declared.table.table.Entry.{Entry}
 use Rattle.nm_chain.specs.Rule.{sent_to}
@@ -16,8 +17,9 @@ use Rattle.nm_copyring.specs.declared.table.Lane.{Lane}
 use Rattle.nm_copyring.specs.Rule as ring_rule
 use Rattle.nm_copyring.specs.Ports as ring
 use Rattle.nm_process.specs.Lines.{AreLines}
+use Rattle.nm_process.specs.Places.{IsAtWork, ScriptedView}
 use Rattle.nm_process.specs.Processes.{ProcessView}
-use Rattle.nm_global.specs.ProcessInvariant.{ProcessInvariant, no_past}
+use Rattle.nm_global.specs.ProcessInvariant.{IsOf, no_past}
 use Rattle.nm_world.specs.Actors.{ActorInvariant}
 use Rattle.nm_world.proofs.Steps.{stands_of}
 use Rattle.nm_types.specs.declared.packets.Packet.{Packet}
@@ -25,15 +27,16 @@ use Rattle.nm_types.specs.declared.packets.Packet.{Packet}
 new_lane_at : (n k i : ℕ) → i < n → ring_rule.lane (ring_rule.newcomer n k) i ≡ ring_rule.new_lane
 new_lane_at n k i within = get_or-replicate n i ring_rule.new_lane ring_rule.new_lane within
 
-pub new_stands : (shape : Sizes) (lines : List Line) (f : Fabric Packet) (r : Rings) (v : ProcessView) (port : Port Packet)
-    (rp : RingPort) → AreLines shape.ranks lines → f.ranks ≡ shape.ranks → r.ranks ≡ shape.ranks →
+pub new_stands : (shape : Sizes) (lines : List Line) (f : Fabric Packet) (r : Rings) (v : ProcessView)
+    (script : ScriptedView) (port : Port Packet) (rp : RingPort) → AreLines shape.ranks lines → f.ranks ≡ shape.ranks → r.ranks ≡ shape.ranks →
     IsNew f port port.rank → ring.IsNew r rp port.rank → v.rank.sizes ≡ shape →
-    ProcessInvariant shape lines port.rank v no_past →
-    ActorInvariant lines f r (record { process = v; port = port; ring = rp; places = tt })
-new_stands shape lines f r v port rp in_range cells rings new fresh sizes standing =
-    stands_of shape lines f r (record { process = v; port = port; ring = rp; places = tt }) no_past sizes
+    IsAtWork shape lines script v → IsOf shape (commands_of port.rank lines) port.rank v.rank no_past →
+    ActorInvariant lines f r (record { process = v; script = script; port = port; ring = rp; places = tt })
+new_stands shape lines f r v script port rp in_range cells rings new fresh sizes work stands =
+    stands_of shape lines f r (record { process = v; script = script; port = port; ring = rp; places = tt }) no_past sizes
     (record {
-      standing = standing;
+      work = work;
+      stands = stands;
       in_range = in_range;
       cells = new.0;
       rings = fresh.0;

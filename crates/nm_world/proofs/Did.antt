@@ -18,6 +18,7 @@ use Rattle.nm_world.specs.declared.actors.Actor.{Actor}
 use Rattle.nm_world.specs.Actors.{Grew, Grows, PortGrows, RingGrows, did}
 use Rattle.nm_world.specs.Actors.{AllContinue, Continues, SomeGrew, ActorInvariant, did_any, done_by, done_of}
 use Rattle.nm_types.specs.declared.scripts.Line.{Line}
+use Rattle.nm_types.specs.Commands.{Numbered}
 use Rattle.nm_types.specs.Sizes.{Sizes}
 use Rattle.nm_global.specs.ProcessInvariant.{GoesOn}
 use Rattle.nm_cells.specs.declared.port.Fabric.{Fabric}
@@ -162,10 +163,10 @@ or_one false q one = sym one
 
 -- a command that ran
 pub ran_on : (n : ℕ) {lines : List Line} {f : Fabric Packet} {r : Rings} (a b : Actor) (s : ActorInvariant lines f r a) →
-    {sizes : Sizes} {i : ℕ} → GoesOn sizes lines i b.process.rank s.past → b.port ≡ a.port → b.ring ≡ a.ring →
+    {sizes : Sizes} {commands : List Numbered} {i : ℕ} → GoesOn sizes commands i b.process.rank s.past → b.port ≡ a.port → b.ring ≡ a.ring →
     Grows a b × Grew n a b
 ran_on n a b s on port ring =
-    let was = s.is.standing.rank.logged.events in
+    let was = s.is.stands.logged.events in
     let is = on.is.logged.events in
     let grew = on.grew in
     let old = ap length was in

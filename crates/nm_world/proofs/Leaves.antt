@@ -7,6 +7,7 @@ use Rattle.nm_types.specs.declared.packets.Path.{Path}
 use Rattle.nm_types.specs.declared.packets.Path.TheVariants.{Box, Cell}
 use Rattle.nm_types.specs.declared.packets.Piece.{Piece}
 use Rattle.nm_types.specs.declared.scripts.Line.{Line}
+use Rattle.nm_types.specs.Commands.{commands_of}
 use Rattle.nm_history.specs.declared.events.Event.{Event}
 use Rattle.nm_history.specs.Known.{Taken}
 use Rattle.nm_history.specs.Pieces.{Pulled}
@@ -30,9 +31,9 @@ use Rattle.nm_channels.specs.Moments.{LogEntry, taken_from}
 use Rattle.nm_channels.specs.Moments.Cause.{Acted}
 use Rattle.nm_global.proofs.Shown.{pulled_still, taken_still}
 use Rattle.nm_process.specs.Processes.{ProcessView}
-use Rattle.nm_process.specs.Work.{IsAtWork}
+use Rattle.nm_process.specs.Places.{IsAtWork}
 use Rattle.nm_port.specs.CarriedPackets.{HasPassed, HasSent, one_more}
-use Rattle.nm_global.specs.ProcessInvariant.{IsOf, ProcessInvariant, with_moment, with_packet_left}
+use Rattle.nm_global.specs.ProcessInvariant.{IsOf, with_moment, with_packet_left}
 use Rattle.nm_global.specs.ProcessInvariant.{with_piece_left}
 use Rattle.nm_chain.specs.declared.table.parcels.Parcel.{Parcel}
 use Rattle.nm_world.specs.Parcels.{packet_of, parcel_of}
@@ -77,19 +78,19 @@ pub send_on : SendCarries → (lines : List Line) (f : Fabric Packet) (r : Rings
     (port : Port Packet) (way : Path) (fits : Bool) (to : ℕ) (p : Packet) (events : List Event)
     (s : ActorInvariant lines f r a) {idle : Type 0} → KeepsPort f idle a.port port → SameTaken a.port port →
     SendsBy way fits to (parcel_of p) a.port port → p.seq ≡ sent_by a.port to →
-    IsAtWork a.process.rank.sizes lines v →
-    IsOf a.process.rank.sizes lines a.port.rank v.rank
+    IsAtWork a.process.rank.sizes lines a.script v →
+    IsOf a.process.rank.sizes (commands_of a.port.rank lines) a.port.rank v.rank
     (with_moment (with_packet_left s.past (to, p)) (record { cause = Acted; events = events })) →
-    ActorInvariant lines f r (record { process = v; port = port; ring = a.ring; places = tt })
+    ActorInvariant lines f r (record { process = v; script = a.script; port = port; ring = a.ring; places = tt })
 send_on law lines f r a v port way fits to p events s keeps same sends number work on =
     let m : LogEntry = record { cause = Acted; events = events } in
     let now = with_moment (with_packet_left s.past (to, p)) m in
     let got = got_by way fits to (parcel_of p) a.port port sends in
     stands_of a.process.rank.sizes lines f r
-    (record { process = v; port = port; ring = a.ring; places = tt }) now work.sizes
+    (record { process = v; script = a.script; port = port; ring = a.ring; places = tt }) now work.work.sizes
     (record {
-      standing = subst (λ (k : ℕ). ProcessInvariant a.process.rank.sizes lines k v now) (sym keeps.rank)
-          (record { work = work; rank = on });
+      work = work;
+      stands = subst (λ (k : ℕ). IsOf a.process.rank.sizes (commands_of k lines) k v.rank now) (sym keeps.rank) on;
       in_range = s.is.in_range;
       cells = keeps.owns;
       rings = s.is.rings;
@@ -121,18 +122,19 @@ piece_packets j piece l = by (piece.0 == j) where
 pub push_on : (lines : List Line) (f : Fabric Packet) (r : Rings) (a : Actor) (v : ProcessView)
     (port : RingPort) (to : ℕ) (q : Piece) (events : List Event) (s : ActorInvariant lines f r a) →
     KeepsRingPort r a.ring port → to < r.ranks → Pushes to q a.ring port →
-    IsAtWork a.process.rank.sizes lines v →
-    IsOf a.process.rank.sizes lines a.port.rank v.rank
+    IsAtWork a.process.rank.sizes lines a.script v →
+    IsOf a.process.rank.sizes (commands_of a.port.rank lines) a.port.rank v.rank
     (with_moment (with_piece_left s.past (to, q)) (record { cause = Acted; events = events })) →
-    ActorInvariant lines f r (record { process = v; port = a.port; ring = port; places = tt })
+    ActorInvariant lines f r (record { process = v; script = a.script; port = a.port; ring = port; places = tt })
 push_on lines f r a v port to q events s keeps within knew work on =
     let m : LogEntry = record { cause = Acted; events = events } in
     let now = with_moment (with_piece_left s.past (to, q)) m in
     let wide = s.is.rings.1.2 in
     stands_of a.process.rank.sizes lines f r
-    (record { process = v; port = a.port; ring = port; places = tt }) now work.sizes
+    (record { process = v; script = a.script; port = a.port; ring = port; places = tt }) now work.work.sizes
     (record {
-      standing = record { work = work; rank = on };
+      work = work;
+      stands = on;
       in_range = s.is.in_range;
       cells = s.is.cells;
       rings = keeps.owns;

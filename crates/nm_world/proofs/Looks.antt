@@ -18,16 +18,15 @@ use Rattle.nm_copyring.specs.declared.port.Rings.{Rings}
 use Rattle.nm_cells.specs.declared.port.Port.{Port}
 use Rattle.nm_cells.specs.Ports.{taken_by}
 use Rattle.nm_process.specs.Processes.{ProcessView}
-use Rattle.nm_process.specs.Steps.{HasRun, is_look}
-use Rattle.nm_process.specs.Work.{IsAtWork}
-use Rattle.nm_process.proofs.PlaceLemmas.{next_command, next_found}
+use Rattle.nm_process.specs.Steps.{is_look}
+use Rattle.nm_process.specs.Places.{IsAtWork, ScriptedView}
 use Rattle.nm_types.specs.Sizes.{Sizes}
 use Rattle.nm_rank.specs.Ranks.{IsFresh}
 use Rattle.nm_world.specs.declared.actors.Actor.{Actor}
 use Rattle.nm_world.specs.Actors.{Grows, Continues, Environment, PortGrows, Seat, ActorInvariant, did}
 use Rattle.nm_world.specs.Idle.{Moves, QueueMissed}
 use Rattle.nm_world.specs.Looks.{IsAtLast, Polled, PolledBefore, PolledUnlessWorn, is_look_at, looks_in}
-use Rattle.nm_world.specs.Looks.{looks_next, polls_of}
+use Rattle.nm_world.specs.Looks.{RanNext, looks_next, polls_of}
 use Rattle.nm_world.proofs.Did.{did_same, sum_more, sum_up}
 use Rattle.nm_world.proofs.Grows.{kept_on, port_same}
 use Rattle.nm_world.proofs.Loops.{HasLooped}
@@ -102,26 +101,27 @@ sole_look commands line c found =
       by true = omega arith
       by false = omega arith
 
-pub looks_ran : (sizes : Sizes) (lines : List Line) (a b : ProcessView) → IsAtWork sizes lines a →
-    IsAtWork sizes lines b → b.rank.me ≡ a.rank.me → HasRun lines a b →
+pub looks_ran : (sizes : Sizes) (lines : List Line) (s t : ScriptedView) (a b : ProcessView) →
+    IsAtWork sizes lines s a → IsAtWork sizes lines t b → b.rank.me ≡ a.rank.me →
+    RanNext (commands_of a.rank.me lines) a b →
     looks_in (commands_of a.rank.me lines) b.rank.events
     ≡ looks_in (commands_of a.rank.me lines) a.rank.events + looks_next lines a
-looks_ran sizes lines a b one two me run =
+looks_ran sizes lines s t a b one two me run =
     let commands = commands_of a.rank.me lines in
-    let next = next_command lines a.rank.me a.next run.place a.at run.line run.is one.counted in
-    let found = next_found lines a.rank.me a.next run.place run.line run.is in
-    let line : Numbered = record { line = run.place + 2; command = run.line.command } in
-    let answers = subst (λ (k : ℕ). Answers (commands_of k lines) b.at b.rank.events) me two.answers in
-    let at = run.at in
+    let next = run.next.next in
+    let found = run.next.found in
+    let line : Numbered = record { line = run.line; command = run.command } in
+    let answers = subst (λ (k : ℕ). Answers (commands_of k lines) b.at b.rank.events) me two.work.answers in
+    let at = run.ran.at in
     let more : b.at ≡ suc a.at = omega (arith, at) in
     let taken : take b.at commands ≡ take a.at commands ++ line ∷ [] =
     ap (λ (k : ℕ). take k commands) more ∙ take_more commands a.at line next in
     ap (count_by (is_look_at commands)) (answers.in_order
     ∙ ap (map (λ (c : Numbered). c.line)) taken
     ∙ map-append (λ (c : Numbered). c.line) (take a.at commands) (line ∷ [])
-    ∙ ap (λ (ls : List ℕ). ls ++ line.line ∷ []) (sym one.answers.in_order))
+    ∙ ap (λ (ls : List ℕ). ls ++ line.line ∷ []) (sym one.work.answers.in_order))
     ∙ sum_by-append (λ x. cond (is_look_at commands x) 1 0) (ran_lines a.rank.events) (line.line ∷ [])
-    ∙ ap (λ (k : ℕ). looks_in commands a.rank.events + k) (sole_look commands line.line run.line.command found
+    ∙ ap (λ (k : ℕ). looks_in commands a.rank.events + k) (sole_look commands line.line run.command found
     ∙ sym (ap (λ (o : Option Numbered). cond (option_map_or (λ c. is_look c.command) o false) 1 0) next))
 
 -- one step of a loop that takes packets, and its last one
@@ -159,13 +159,13 @@ polled_last here k a b d looped before up = ⊎_elim
 module _ (lines : List Line) (f : Fabric Packet) (r : Rings) where
   pub me_same : (a b : Actor) → ActorInvariant lines f r a → Continues lines f r a b → b.process.rank.me ≡ a.process.rank.me
   me_same a b s kept =
-      kept.stands.is.standing.rank.me ∙ ap (λ (s : Seat). s.rank) kept.seat ∙ sym s.is.standing.rank.me
+      kept.stands.is.stands.me ∙ ap (λ (s : Seat). s.rank) kept.seat ∙ sym s.is.stands.me
 
   answers_of : (a b : Actor) → ActorInvariant lines f r a → Continues lines f r a b →
       Answers (commands_of a.process.rank.me lines) b.process.at b.process.rank.events
   answers_of a b s kept =
       subst (λ (k : ℕ). Answers (commands_of k lines) b.process.at b.process.rank.events) (me_same a b s kept)
-      kept.stands.is.standing.work.answers
+      kept.stands.is.work.work.answers
 
   -- the looks of an actor that ran no command
   pub looks_kept : (a b c : Actor) → ActorInvariant lines f r a → Continues lines f r a b → Continues lines f r b c →
@@ -207,7 +207,7 @@ module _ (lines : List Line) (f : Fabric Packet) (r : Rings) where
   pub looked_more : (a b m d : Actor) → ActorInvariant lines f r a → Continues lines f r a b → Continues lines f r b m →
       Continues lines f r m d → m.process.at ≡ b.process.at → PolledBefore lines a b →
       PolledUnlessWorn b.process.rank.sizes.ranks (looks_next lines b.process) b m → IsFresh m.process.rank →
-      HasRun lines m.process d.process → PolledBefore lines a d
+      RanNext (commands_of m.process.rank.me lines) m.process d.process → PolledBefore lines a d
   looked_more a b m d s one two three at before looked fresh run looks is =
       let commands = commands_of a.process.rank.me lines in
       let n = a.process.rank.sizes.ranks in
@@ -215,9 +215,9 @@ module _ (lines : List Line) (f : Fabric Packet) (r : Rings) where
       let so_far = looks_in commands one.grows.events.0 in
       let first = looks_front a b one.grows in
       let same = looks_kept a b m s one two at in
-      let ran = looks_ran m.process.rank.sizes lines m.process d.process two.stands.is.standing.work
-      (subst (λ (z : Sizes). IsAtWork z lines d.process) (ap (λ (s : Seat). s.sizes) three.seat)
-      three.stands.is.standing.work) (me_same m d two.stands three) run in
+      let ran = looks_ran m.process.rank.sizes lines m.script d.script m.process d.process two.stands.is.work
+      (subst (λ (z : Sizes). IsAtWork z lines d.script d.process) (ap (λ (s : Seat). s.sizes) three.seat)
+      three.stands.is.work) (me_same m d two.stands three) run in
       let here = subst (λ (k : ℕ). looks_in (commands_of k lines) d.process.rank.events
       ≡ looks_in (commands_of k lines) m.process.rank.events + looks_next lines m.process)
       (me_same a m s (kept_on lines f r a b m one two)) ran in

@@ -42,7 +42,8 @@ module _ (here : Environment) where
       stands = record {
         past = s.past;
         is = record {
-          standing = s.is.standing;
+          work = s.is.work;
+          stands = s.is.stands;
           in_range = s.is.in_range;
           cells = s.is.cells;
           rings = keeps.owns;

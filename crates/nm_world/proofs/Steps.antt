@@ -7,6 +7,7 @@ use Rattle.std.proofs.lemmas.List.{map-append}
 use Rattle.nm_types.specs.declared.packets.Packet.{Packet}
 use Rattle.nm_types.specs.declared.packets.Piece.{Piece}
 use Rattle.nm_types.specs.declared.scripts.Line.{Line}
+use Rattle.nm_types.specs.Commands.{commands_of}
 use Rattle.nm_types.specs.Sizes.{Sizes}
 use Rattle.nm_history.specs.Known.{Taken}
 use Rattle.nm_history.specs.Pieces.{Pulled}
@@ -35,9 +36,9 @@ use Rattle.nm_rank.specs.Ranks.{RankView}
 use Rattle.nm_global.specs.Moments.{drew, pulled, took}
 use Rattle.nm_global.proofs.Shown.{pulled_still, taken-push, taken_still}
 use Rattle.nm_process.specs.Processes.{ProcessView}
-use Rattle.nm_process.specs.Work.{IsAtWork}
+use Rattle.nm_process.specs.Places.{IsAtWork, ScriptedView}
 use Rattle.nm_port.specs.CarriedPackets.{HasPassed, HasSent, one_more}
-use Rattle.nm_global.specs.ProcessInvariant.{GoesOn, IsOf, ProcessInvariant, GhostHistory, with_moment}
+use Rattle.nm_global.specs.ProcessInvariant.{GoesOn, IsOf, GhostHistory, with_moment}
 use Rattle.nm_world.specs.Parcels.{packet_of}
 use Rattle.nm_world.specs.declared.actors.Actor.{Actor}
 use Rattle.nm_world.specs.Actors.{IsActor, Seat, ActorInvariant, seat_of}
@@ -120,8 +121,9 @@ pub nothing_carried : (lines : List Line) (f : Fabric Packet) (r : Rings) (a : A
 nothing_carried lines f r a port s keeps rest taken sent got = record {
   past = s.past;
   is = record {
-    standing = subst (λ (k : ℕ). ProcessInvariant a.process.rank.sizes lines k a.process s.past) (sym keeps.rank)
-        s.is.standing;
+    work = s.is.work;
+    stands = subst (λ (k : ℕ). IsOf a.process.rank.sizes (commands_of k lines) k a.process.rank s.past) (sym keeps.rank)
+        s.is.stands;
     in_range = s.is.in_range;
     cells = keeps.owns;
     rings = s.is.rings;
@@ -140,13 +142,15 @@ nothing_carried lines f r a port s keeps rest taken sent got = record {
 }
 
 -- a command that ran
-pub run_on : (lines : List Line) (f : Fabric Packet) (r : Rings) (a : Actor) (v : ProcessView)
-    (s : ActorInvariant lines f r a) → IsAtWork a.process.rank.sizes lines v →
-    GoesOn a.process.rank.sizes lines a.port.rank v.rank s.past → ActorInvariant lines f r (record a { process = v })
-run_on lines f r a v s work on =
-    stands_of a.process.rank.sizes lines f r (record a { process = v }) on.after work.sizes
+pub run_on : (lines : List Line) (f : Fabric Packet) (r : Rings) (a : Actor) (v : ProcessView) (t : ScriptedView)
+    (s : ActorInvariant lines f r a) → IsAtWork a.process.rank.sizes lines t v →
+    GoesOn a.process.rank.sizes (commands_of a.port.rank lines) a.port.rank v.rank s.past →
+    ActorInvariant lines f r (record a { process = v; script = t })
+run_on lines f r a v t s work on =
+    stands_of a.process.rank.sizes lines f r (record a { process = v; script = t }) on.after work.work.sizes
     (record {
-      standing = record { work = work; rank = on.is };
+      work = work;
+      stands = on.is;
       in_range = s.is.in_range;
       cells = s.is.cells;
       rings = s.is.rings;
@@ -198,16 +202,16 @@ PollCarries = (seen : Parcel Packet → Packet) (f : Fabric Packet) (old new : P
 pub take_on : PollCarries → (lines : List Line) (f : Fabric Packet) (r : Rings) (a : Actor) (v : ProcessView)
     (port : Port Packet) (p : Parcel Packet) (s : ActorInvariant lines f r a) {idle : Type 0} →
     KeepsPort f idle a.port port → HoldsTheRest port → Polls f a.port port p →
-    IsAtWork a.process.rank.sizes lines v →
-    IsOf a.process.rank.sizes lines a.port.rank v.rank (with_moment s.past (took a.process.rank (packet_of p))) →
-    ActorInvariant lines f r (record { process = v; port = port; ring = a.ring; places = tt })
+    IsAtWork a.process.rank.sizes lines a.script v →
+    IsOf a.process.rank.sizes (commands_of a.port.rank lines) a.port.rank v.rank (with_moment s.past (took a.process.rank (packet_of p))) →
+    ActorInvariant lines f r (record { process = v; script = a.script; port = port; ring = a.ring; places = tt })
 take_on law lines f r a v port p s keeps rest polls work on =
     let now = with_moment s.past (took a.process.rank (packet_of p)) in
     stands_of a.process.rank.sizes lines f r
-    (record { process = v; port = port; ring = a.ring; places = tt }) now work.sizes
+    (record { process = v; script = a.script; port = port; ring = a.ring; places = tt }) now work.work.sizes
     (record {
-      standing = subst (λ (k : ℕ). ProcessInvariant a.process.rank.sizes lines k v now) (sym keeps.rank)
-          (record { work = work; rank = on });
+      work = work;
+      stands = subst (λ (k : ℕ). IsOf a.process.rank.sizes (commands_of k lines) k v.rank now) (sym keeps.rank) on;
       in_range = s.is.in_range;
       cells = keeps.owns;
       rings = s.is.rings;
@@ -232,16 +236,17 @@ take_on law lines f r a v port p s keeps rest polls work on =
 pub pull_on : (lines : List Line) (f : Fabric Packet) (r : Rings) (a : Actor) (v : ProcessView)
     (port : RingPort) (sender : ℕ) (q : Piece) (s : ActorInvariant lines f r a) → KeepsRingPort r a.ring port →
     sender < r.ranks → Pulls sender q a.ring port →
-    IsAtWork a.process.rank.sizes lines v →
-    IsOf a.process.rank.sizes lines a.port.rank v.rank (with_moment s.past (drew a.process.rank q)) →
-    ActorInvariant lines f r (record { process = v; port = a.port; ring = port; places = tt })
+    IsAtWork a.process.rank.sizes lines a.script v →
+    IsOf a.process.rank.sizes (commands_of a.port.rank lines) a.port.rank v.rank (with_moment s.past (drew a.process.rank q)) →
+    ActorInvariant lines f r (record { process = v; script = a.script; port = a.port; ring = port; places = tt })
 pull_on lines f r a v port sender q s keeps within pulls work on =
     let now = with_moment s.past (drew a.process.rank q) in
     let wide = s.is.rings.1.2 in
     stands_of a.process.rank.sizes lines f r
-    (record { process = v; port = a.port; ring = port; places = tt }) now work.sizes
+    (record { process = v; script = a.script; port = a.port; ring = port; places = tt }) now work.work.sizes
     (record {
-      standing = record { work = work; rank = on };
+      work = work;
+      stands = on;
       in_range = s.is.in_range;
       cells = s.is.cells;
       rings = keeps.owns;

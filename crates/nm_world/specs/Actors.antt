@@ -3,6 +3,7 @@ use Rattle.std.specs.Prelude.{◌≡◌, ℕ, ◌+◌, ◌<◌, ◌≤◌, Bool,
 use Rattle.std.specs.Prelude.{length, map, slice_index, Some}
 use Rattle.std.specs.List.{AllZip, slice_get}
 use Rattle.nm_types.specs.declared.scripts.Line.{Line}
+use Rattle.nm_types.specs.Commands.{commands_of}
 use Rattle.nm_types.specs.Sizes.{Sizes}
 use Rattle.nm_channels.specs.Moments.{pulled_from as pulled_in, taken_from as taken_in}
 use Rattle.nm_history.specs.declared.events.Event.{Event}
@@ -20,18 +21,20 @@ use Rattle.nm_copyring.specs.declared.table.Lane.{Lane}
 use Rattle.nm_copyring.specs.Rule.{lane}
 use Rattle.nm_copyring.specs.Ports as ring
 use Rattle.nm_port.specs.CarriedPackets.{HasPassed, HasSent}
-use Rattle.nm_global.specs.ProcessInvariant.{ProcessInvariant, GhostHistory}
+use Rattle.nm_global.specs.ProcessInvariant.{IsOf, GhostHistory}
 use Rattle.nm_process.specs.Lines.{AreLines}
+use Rattle.nm_process.specs.Places.{IsAtWork}
 use Rattle.nm_world.specs.Parcels.{packet_of}
 use Rattle.nm_world.specs.declared.actors.Actor.{Actor}
 use Rattle.nm_types.specs.declared.packets.Packet.{Packet}
 
--- An actor's process stands at its place, and its ports carried what was: the packets that left are
+-- An actor's process stands at its place in a run of these lines, and its ports carried what was: the packets that left are
 -- those that its port sent, by number, those that its port passed on are those that it took, and so
 -- it is with the pieces.
 pub record IsActor (shape : Sizes) (lines : List Line) (f : Fabric Packet) (r : Rings) (a : Actor)
     (past : GhostHistory) : Type 0 where
-  pub standing : ProcessInvariant shape lines a.port.rank a.process past
+  pub work : IsAtWork shape lines a.script a.process
+  pub stands : IsOf shape (commands_of a.port.rank lines) a.port.rank a.process.rank past
   pub in_range : AreLines shape.ranks lines
   pub cells : Owns f a.port
   pub rings : ring.Owns r a.ring

@@ -2,6 +2,7 @@
 use Rattle.std.specs.Prelude.{◌≡◌, ◌⊎◌, ℕ, ◌+◌, ◌<◌, ◌≤◌, Bool, false, List, ◌++◌, count_by}
 use Rattle.std.specs.Prelude.{if◌then◌else◌}
 use Rattle.std.specs.Option.{option_map_or}
+use Rattle.nm_types.specs.declared.scripts.Command.{Command}
 use Rattle.nm_types.specs.declared.scripts.Line.{Line}
 use Rattle.nm_types.specs.Commands.{Numbered, command_at, commands_of}
 use Rattle.nm_history.specs.declared.events.Event.{Event}
@@ -10,7 +11,8 @@ use Rattle.nm_cells.specs.declared.port.Port.{Port}
 use Rattle.nm_cells.specs.Ports.{knows, taken_by}
 use Rattle.nm_rank.specs.Ranks.{IsFresh}
 use Rattle.nm_process.specs.Processes.{ProcessView}
-use Rattle.nm_process.specs.Steps.{is_look, looks_on}
+use Rattle.nm_process.specs.Steps.{HasRun, is_look, looks_on}
+use Rattle.nm_process.specs.Work.{IsNext}
 use Rattle.nm_chain.specs.Total.{total}
 use Rattle.nm_world.specs.declared.actors.Actor.{Actor}
 use Rattle.nm_types.specs.declared.packets.Packet.{Packet}
@@ -49,6 +51,14 @@ PolledUnlessWorn n times a b =
 abbrev pub looks_next : List Line → ProcessView → ℕ
 looks_next lines v =
     if looks_on (commands_of v.rank.me lines) v then 1 else 0
+
+-- it ran the next of these commands
+pub record RanNext (commands : List Numbered) (a b : ProcessView) : Type 0 where
+  pub bound : ℕ
+  pub line : ℕ
+  pub command : Command
+  pub next : IsNext commands a.at bound line command
+  pub ran : HasRun command line a b
 
 -- the actor polled at least once for each command that ran and looks at what came
 abbrev pub PolledBefore : List Line → Actor → Actor → Type 0

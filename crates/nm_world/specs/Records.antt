@@ -7,7 +7,7 @@ use Rattle.nm_history.specs.Quiescence.{Ended, Packets}
 use Rattle.nm_cells.specs.declared.port.Port.{Port}
 use Rattle.nm_cells.specs.Ports.{knows, sent_by}
 use Rattle.nm_process.specs.Processes.{ProcessView}
-use Rattle.nm_process.specs.Work.{IsAtWork}
+use Rattle.nm_process.specs.Places.{IsAtWork}
 use Rattle.nm_world.specs.declared.actors.Actor.{Actor}
 use Rattle.nm_types.specs.declared.packets.Packet.{Packet}
 
@@ -35,5 +35,5 @@ counts_of n (a ∷ actors) = counts_to n a.port ++ counts_of n actors
 abbrev pub AreToTell : ℕ → List Line → List Actor → Type 0
 AreToTell n lines [] = Unit {0}
 AreToTell n lines (a ∷ actors) =
-    IsAtWork a.process.rank.sizes lines a.process × ((knows a.port).ranks ≡ n)
+    IsAtWork a.process.rank.sizes lines a.script a.process × ((knows a.port).ranks ≡ n)
     × AreToTell n lines actors

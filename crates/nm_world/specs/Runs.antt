@@ -17,7 +17,7 @@ use Rattle.nm_copyring.specs.declared.close.RingAccount.{RingAccount}
 use Rattle.nm_copyring.specs.declared.port.RingPort.{RingPort}
 use Rattle.nm_copyring.specs.declared.port.Rings.{Rings}
 use Rattle.nm_copyring.specs.Ports as ring_port
-use Rattle.nm_process.specs.Work.{IsAtWork}
+use Rattle.nm_process.specs.Places.{IsAtWork}
 use Rattle.nm_world.specs.declared.actors.Actor.{Actor}
 use Rattle.nm_world.specs.Actors.{ActorInvariant, seat_of}
 use Rattle.nm_world.specs.Rest.{IsCarried, IsStill}
@@ -32,7 +32,7 @@ InPlace shape lines f r k (a ∷ actors) =
 
 -- an actor that is at work is still
 abbrev pub IsStillAt : List Line → Actor → Type 0
-IsStillAt lines a = IsAtWork a.process.rank.sizes lines a.process → IsStill lines a.process
+IsStillAt lines a = IsAtWork a.process.rank.sizes lines a.script a.process → IsStill lines a.process
 
 -- what the one sent, the other took
 abbrev pub PairAgrees : ℕ → ℕ → Actor → Actor → Type 0

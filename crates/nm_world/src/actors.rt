@@ -11,12 +11,12 @@ ghost use Rattle.nm_copyring.specs.declared.port.Rings.{Rings};
 ghost use Rattle.nm_copyring.specs.Ports as ring_port;
 ghost use Rattle.nm_rank.specs.Ranks.{IsFresh};
 ghost use Rattle.nm_process.specs.Lines.{AreLines};
-ghost use Rattle.nm_process.specs.Places.{ArePlaces};
-ghost use Rattle.nm_process.specs.Steps.{HasRun, goes_on};
-ghost use Rattle.nm_process.specs.Work.{IsAtWork};
+ghost use Rattle.nm_process.specs.Places.{ArePlaces, IsAtWork};
+ghost use Rattle.nm_process.specs.Steps.{goes_on, looks_on};
 ghost use Rattle.nm_world.specs.Actors.{Grew, Continues, Environment, ActorInvariant, did, seat_of};
 ghost use Rattle.nm_world.specs.Idle.{GaveNone, Idle, IsDue, FirstNotSent, Moves, NoPiece, NextNotPushed};
-ghost use Rattle.nm_world.specs.Looks.{LookedAround, PolledBefore, PolledUnlessWorn, looks_next};
+ghost use Rattle.nm_world.specs.Looks.{LookedAround, PolledBefore, PolledUnlessWorn, RanNext};
+ghost use Rattle.nm_world.specs.Looks.{looks_next};
 ghost use Rattle.nm_world.specs.Rest.{CanMove, IsStill};
 
 use crate::bells::Bells;
@@ -32,7 +32,8 @@ use nm_history::History;
 use nm_outside::Gate;
 use nm_port::carried::laws::{a_poll_carries, a_send_carries};
 use nm_port::{Fabric, Port, Sent, poll, send};
-use nm_process::{Process, Step};
+use nm_process::scripted::Scripted;
+use nm_process::{Process, Step, looks};
 use nm_types::{Line, Memory, Packet, Piece, Shape};
 use std::alloc::Global;
 use std::sync::ledger::Ledger;
@@ -47,6 +48,7 @@ const PULLS: u32 = 4;
 #[derive(Drop)]
 pub struct Actor {
     pub process: Process,
+    pub script: Scripted,
     pub port: Port<Packet>,
     pub ring: RingPort,
     pub(crate) places: Places,
@@ -77,11 +79,13 @@ impl Actor {
         ensures begins { IfOk result (λ a. (a.process.rank.me ≡ port.rank)
             × (a.process.rank.events ≡ []) × (a.process.at ≡ 0)) }
     {
-        let process = Process::new(alloc, shape, port.rank(), own, lines)?;
+        let process = Process::new(alloc, shape, port.rank(), own.len())?;
+        let script = Scripted::new(own, lines);
         // no step: the law of a process at its start
         a_process_begins();
         Ok(Actor {
             process,
+            script,
             port,
             ring,
             places: Places::blank(alloc),
@@ -303,7 +307,8 @@ impl Actor {
             Continues lines.now here.fabric here.rings self.old self.new) }
         ensures moved { IfOk result (λ moved. moved ≡ did here.fabric.ranks self.old self.new) }
         ensures ran { IfOk result (λ ran. ran ≡ true → IsFresh self.old.process.rank
-            × HasRun lines.now self.old.process self.new.process) }
+            × RanNext (commands_of self.old.process.rank.me lines.now) self.old.process
+            self.new.process) }
         ensures still { IfOk result (λ ran. ran ≡ false → self.new ≡ self.old) }
         ensures stuck { IfOk result (λ ran. ran ≡ false → IsFresh self.old.process.rank →
             goes_on (commands_of self.old.process.rank.me lines.now) self.old.process ≡ false) }
@@ -311,8 +316,12 @@ impl Actor {
         // no step: that the history keeps its rules, and the law of a command that runs
         self.process.rank().history();
         a_command_runs();
-        match self.process.run_next(lines)? {
+        let Some((line, command)) = self.script.next(self.process.me(), lines) else {
+            return Ok(false);
+        };
+        match self.process.run(command, line)? {
             Step::Ran => {
+                self.script.pass(self.process.at(), lines);
                 self.places.count(0);
                 Ok(true)
             }
@@ -435,6 +444,14 @@ impl Actor {
         Ok(moved)
     }
 
+    // Whether there is a next command and it looks at what came.
+    fn next_looks(&self, lines: &[Line]) -> bool
+        ensures { (shape : Sizes) → IsAtWork shape lines.now self.now.script self.now.process →
+            result ≡ looks_on (commands_of self.now.process.rank.me lines.now) self.now.process }
+    {
+        looks(self.script.next_command(self.process.me(), lines))
+    }
+
     // Takes the next packet that came, where the next command looks at what came.
     fn look<L: Ledger>(
         &mut self,
@@ -452,7 +469,7 @@ impl Actor {
             (looks_next lines.now self.old.process) self.old self.new) }
         ensures bound { steps.new ≤ steps.old + (f.now.ranks + 10) }
     {
-        if !self.process.next_looks(lines) {
+        if !self.next_looks(lines) {
             return Ok(false);
         }
         self.take_next(f, steps)
@@ -491,13 +508,25 @@ impl Actor {
         Ok(true)
     }
 
+    // Whether there is a next command and it can go on.
+    fn can_run(&self, lines: &[Line]) -> bool
+        ensures { (shape : Sizes) → IsAtWork shape lines.now self.now.script self.now.process →
+            result ≡ goes_on (commands_of self.now.process.rank.me lines.now) self.now.process }
+    {
+        let Some(command) = self.script.next_command(self.process.me(), lines) else {
+            return false;
+        };
+        self.process.can_go_on(command)
+    }
+
     /// Whether the actor can move: its rank is worn, or something is left to send, or there is a
     /// command left that can go on.
     pub fn can_move(&self, lines: &[Line]) -> bool
-        ensures exactly { (shape : Sizes) → IsAtWork shape lines.now self.now.process →
+        ensures exactly { (shape : Sizes) →
+            IsAtWork shape lines.now self.now.script self.now.process →
             (result ≡ true) ↔ CanMove lines.now self.now.process }
         ensures still { result ≡ false →
-            IsAtWork self.now.process.rank.sizes lines.now self.now.process →
+            IsAtWork self.now.process.rank.sizes lines.now self.now.script self.now.process →
             IsStill lines.now self.now.process }
     {
         let rank = self.process.rank();
@@ -512,7 +541,7 @@ impl Actor {
         if rank.has_piece() {
             return true;
         }
-        self.process.can_run(lines)
+        self.can_run(lines)
     }
 
     /// One turn: what is to be sent and pushed, what came, and commands, up to 64 of each kind, and

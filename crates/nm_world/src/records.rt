@@ -4,13 +4,14 @@ ghost use Rattle.std.specs.Prelude.{◌≡◌, ◌<◌, ◌≤◌, [], ◌∷◌
 ghost use Rattle.nm_types.specs.declared.limits.TheConstants.{MAX_LINES};
 ghost use Rattle.nm_types.specs.Sizes.{Sizes};
 ghost use Rattle.nm_cells.specs.Ports.{knows};
-ghost use Rattle.nm_process.specs.Work.{IsAtWork};
+ghost use Rattle.nm_process.specs.Places.{IsAtWork};
 ghost use Rattle.nm_report.specs.Ends.{are_done, ends_of, packets_of};
 ghost use Rattle.nm_world.specs.Records.{AreToTell, counts_of, counts_to, ended_of};
 
 use crate::Actor;
 use nm_copyring::RingPort;
 use nm_port::Port;
+use nm_process::scripted::Scripted;
 use nm_process::{Leavings, Process};
 use nm_report::{Accounts, PairCount, Pairs, RankAccount};
 use nm_types::{Line, Memory, Packet};
@@ -29,13 +30,13 @@ pub(crate) struct Parts {
 }
 
 // What became of a rank, and what its process kept beside that.
-fn account(process: Process, lines: &[Line]) -> (RankAccount, Leavings)
+fn account(process: Process, script: Scripted, lines: &[Line]) -> (RankAccount, Leavings)
     requires { length lines.now < MAX_LINES }
-    ensures { (shape : Sizes) → IsAtWork shape lines.now process →
+    ensures { (shape : Sizes) → IsAtWork shape lines.now script process →
         ends_of (result.0 ∷ []) ≡ ended_of lines.now process ∷ [] }
 {
     let at = process.at();
-    let waits = process.next_line(lines);
+    let waits = script.next_line(process.me(), lines);
     let (history, left) = process.into_parts();
     let account = RankAccount { at, history, waits };
     (account, left)
@@ -75,7 +76,7 @@ fn tell(parts: &mut Parts, actor: Actor, lines: &[Line], ranks: u8) -> Result<()
         (parts.new.ports.items ≡ parts.old.ports.items ++ actor.port ∷ []) }
     ensures rings { OnOk result
         (parts.new.rings.items ≡ parts.old.rings.items ++ actor.ring ∷ []) }
-    ensures ends { OnOk result ((shape : Sizes) → IsAtWork shape lines.now actor.process →
+    ensures ends { OnOk result ((shape : Sizes) → IsAtWork shape lines.now actor.script actor.process →
         ends_of parts.new.ranks
         ≡ ends_of parts.old.ranks ++ ended_of lines.now actor.process ∷ []) }
     ensures packets { OnOk result (packets_of parts.new.pairs
@@ -86,11 +87,12 @@ fn tell(parts: &mut Parts, actor: Actor, lines: &[Line], ranks: u8) -> Result<()
     push_counts(&mut parts.pairs, ranks, &actor.port)?;
     let Actor {
         process,
+        script,
         port,
         ring,
         places: _,
     } = actor;
-    let (account, left) = account(process, lines);
+    let (account, left) = account(process, script, lines);
     parts.done = parts.done & account.waits.is_none();
     add(&mut parts.left, left)?;
     add(&mut parts.ports, port)?;

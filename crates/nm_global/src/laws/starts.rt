@@ -1,7 +1,7 @@
 //! The ranks at the start.
 
 ghost use Rattle.std.specs.Prelude.{ℕ, List};
-ghost use Rattle.nm_types.specs.declared.scripts.Line.{Line};
+ghost use Rattle.nm_types.specs.Commands.{Numbered};
 ghost use Rattle.nm_types.specs.Sizes.{Sizes};
 ghost use Rattle.nm_rank.specs.New.{IsNew};
 ghost use Rattle.nm_rank.specs.Ranks.{RankView};
@@ -13,8 +13,8 @@ use nm_history::laws::rank_run_begins;
 
 /// A new rank stands at its place (`Rank::new`), and nothing is between any two.
 pub fn new_ranks_stand()
-    ensures stands { (shape : Sizes) (lines : List Line) (i : ℕ) (v : RankView) →
-        IsNew shape i v → RankInvariant shape lines i (new_rank v) }
+    ensures stands { (shape : Sizes) (commands : List Numbered) (i : ℕ) (v : RankView) →
+        IsNew shape i v → RankInvariant shape commands i (new_rank v) }
     ensures passed { (i j : ℕ) (v w : RankView) → IsPassed i j (new_rank v) (new_rank w) }
 {
     rank_run_begins();

@@ -9,7 +9,7 @@ use Rattle.nm_history.proofs.Right.{right-numbers}
 
 pub returns : goal.returns
 unfolding AtEach
-returns c shape lines v work right journal = record {
+returns c shape commands bound v work right journal = record {
   answers = work.answers;
   starts = work.starts;
   numbers = right-numbers shape.ranks v.rank.events right;

@@ -18,7 +18,7 @@ stands_at commands h (Some c) stuck = (refl, stuck)
 
 pub returns : goal.returns
 returns c lines f r a s still =
-    let me = s.is.standing.rank.me in
+    let me = s.is.stands.me in
     let v = a.process in
     let stuck = subst (λ (k : ℕ). goes_on (commands_of k lines) v ≡ false) me still.stuck in
     record {

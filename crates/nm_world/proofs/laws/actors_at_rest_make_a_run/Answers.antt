@@ -1,12 +1,12 @@
 -- The ranks of the actors, with what was, are at rest.
-use Rattle.std.proofs.Common.{◌≡◌, ℕ, zero, suc, ◌<◌, Some, List, [], ◌∷◌, ◌++◌}
+use Rattle.std.proofs.Common.{◌≡◌, ℕ, zero, suc, ◌+◌, ◌<◌, Some, List, [], ◌∷◌, ◌++◌}
 use Rattle.std.proofs.Common.{length, map, refl, sym, ap, ◌∙◌, subst, arith, append-nil, length-append}
 use Rattle.std.specs.Prelude.{IfSome}
 use Rattle.std.specs.List.{slice_get}
 use Rattle.nm_types.specs.declared.packets.Piece.{Piece}
 use Rattle.nm_types.specs.Commands.{commands_of}
 use Rattle.nm_history.specs.Outgoing.{AreCalled, AreCalledPieces, outgoing, ring}
-use Rattle.nm_history.specs.Quiescence.{Ended, IsStopped as StandsAt, packets_of}
+use Rattle.nm_history.specs.Quiescence.{Ended, IsStopped as StandsAt, commands_by_rank, packets_of}
 use Rattle.nm_history.specs.Sends.{sent_body}
 use Rattle.nm_channels.specs.Moments.{taken_from}
 use Rattle.nm_cells.specs.ClosedLists.{sent_list, taken_list}
@@ -17,7 +17,9 @@ use Rattle.nm_copyring.specs.ClosedLists as closed_ring
 use Rattle.nm_copyring.specs.Ports as ring_port
 use Rattle.nm_copyring.specs.Rule.{lane}
 use Rattle.nm_global.specs.Ranks.{AreAtRest, Each, HasNothingToSend, IsPassed, RankInvariant, OneRank, recorded_of}
-use Rattle.nm_global.specs.ProcessInvariant.{ProcessInvariant}
+use Rattle.nm_global.specs.ProcessInvariant.{IsOf}
+use Rattle.nm_process.specs.Work.{IsWorking}
+use Rattle.nm_channels.proofs.Run.{in_range_from}
 use Rattle.nm_world.specs.declared.actors.Actor.{Actor}
 use Rattle.nm_world.specs.Rest.{EndsAt, HasRun, IsCarried}
 use Rattle.nm_world.proofs.Chosen.{chosen, chosen_each, chosen_length, chosen_map, each_map, for_each}
@@ -70,12 +72,15 @@ returns c shape lines f r actors closed q script many each cells rings all_taken
   below : (i : ℕ) (a : Actor) → slice_get actors i ≡ Some a → i < shape.ranks
   below i a is = let low = place_below actors i a is in omega (arith, low, many)
 
-  stands_at : (i : ℕ) (a : Actor) (p : P i a) → RankInvariant shape lines i (one i a p)
+  stands_at : (i : ℕ) (a : Actor) (p : P i a) → RankInvariant shape (commands_of i lines) i (one i a p)
   stands_at i a p =
       let e = p.1 in
-      let standing : ProcessInvariant shape lines i a.process e.past =
-      subst (λ (k : ℕ). ProcessInvariant shape lines k a.process e.past) e.me e.is.standing in
-      let s = c.a_process_is_a_rank.ensures shape lines i a.process e.past standing e.right e.stamped in
+      let bound = a.script.next + 2 in
+      let commands = commands_of i lines in
+      let stands = subst (λ (k : ℕ). IsOf shape (commands_of k lines) k a.process.rank e.past) e.me e.is.stands in
+      let work = subst (λ (k : ℕ). IsWorking shape (commands_of k lines) bound a.process) stands.me e.is.work.work in
+      let s = c.a_process_is_a_rank.ensures shape commands bound i a.process e.past
+      (record { work = work; rank = stands }) e.right e.stamped in
       record { me = s.me; sizes = s.sizes; run = s.run; logged = s.logged; left = s.left }
 
   -- the lists of the closed ports
@@ -136,11 +141,11 @@ returns c shape lines f r actors closed q script many each cells rings all_taken
             ∙ sym (p.1.is.pushed j (below j b o.0));
       }
 
-  at_rest : AreAtRest shape lines ones
+  at_rest : AreAtRest shape (commands_by_rank lines) ones
   at_rest =
       record {
         many = chosen_length P one actors h ∙ many;
-        standing = chosen_each P one actors h (RankInvariant shape lines) stands_at;
+        standing = chosen_each P one actors h (λ i x. RankInvariant shape (commands_of i lines) i x) stands_at;
         passed = chosen_each P one actors h (λ i x. Each (λ j y. IsPassed i j x y) ones)
             (λ i a p. chosen_each P one actors h (λ j y. IsPassed i j (one i a p) y)
             (λ j b o. passed i j a b p o));
@@ -200,7 +205,8 @@ returns c shape lines f r actors closed q script many each cells rings all_taken
         events = map_twice (λ (e : Ended). e.events) recorded_of ones
             ∙ chosen_map P one actors h (λ (x : OneRank). x.view.events)
             (λ (a : Actor). a.process.rank.events) (λ i a p. refl);
-        run = c.ranks_at_rest_make_a_run.ensures shape lines ones (packets_of lines ends) script at_rest
+        run = c.ranks_at_rest_make_a_run.ensures shape (commands_by_rank lines) ones (packets_of lines ends)
+            (λ i. in_range_from shape.ranks i 2 lines script.lines_in_range) at_rest
             (each_map recorded_of ones (λ i e. StandsAt (commands_of i lines) e)
             (chosen_each P one actors h (λ i x. StandsAt (commands_of i lines) (recorded_of x))
             (λ i a p. p.1.stands)))

@@ -1,5 +1,9 @@
 -- A rank's account is what its process ended at.
-use Rattle.std.proofs.Common.{◌∙◌, ℕ, Option, List, [], ◌∷◌, ap}
+use Rattle.std.proofs.Common.{◌∙◌, ℕ, Option, List, [], ◌∷◌, ap, subst, sym}
+use Rattle.std.specs.Prelude.{option_map}
+use Rattle.std.specs.List.{slice_get}
+use Rattle.nm_types.specs.Commands.{Numbered, commands_of}
+use Rattle.nm_process.specs.Places.{IsPlaced}
 use Rattle.nm_history.specs.declared.events.Event.{Event}
 use Rattle.nm_history.specs.Quiescence.{Ended}
 use Rattle.nm_world.proofs.records.account.Goals as goal
@@ -13,4 +17,7 @@ returns c shape work =
     ∙ ap (λ (events : List Event). ended c.args.process.at c.next_line-waits.result events)
     c.into_parts-history.ensures.events
     ∙ ap (λ (waits : Option ℕ). ended c.args.process.at waits c.args.process.rank.events)
-    (c.next_line-waits.ensures shape work)
+    (c.next_line-waits.ensures c.args.process.at
+    (subst (λ (k : ℕ). IsPlaced c.args.lines.now k c.args.process.at c.args.script) (sym c.me.ensures) work.place)
+    ∙ ap (λ (k : ℕ). option_map (λ (n : Numbered). n.line)
+    (slice_get (commands_of k c.args.lines.now) c.args.process.at)) c.me.ensures)

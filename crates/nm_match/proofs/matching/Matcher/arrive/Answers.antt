@@ -20,14 +20,14 @@ invariant_of-self c =
       receives = h.receives;
       messages = h.messages;
       queues = h.queues;
-      names = names_kept c.self.inside.done.deeds h.names c.self.inside.receives c.make_room.new.self
+      names = names_kept c.self.inside.done.items h.names c.self.inside.receives c.make_room.new.self
           (λ i. refl) c.make_room.ensures.same;
     }
 
 pub invariant_of-self-in-Some : goal.invariant_of-self-in-Some
 invariant_of-self-in-Some c =
     let h = c.self.invariant in
-    let deeds = c.self.inside.done.deeds in
+    let deeds = c.self.inside.done.items in
     let next = c.self.inside.next in
     let test : Post → Bool = λ p. matches p.from p.tag p.ctx c.args.a.env in
     let new = rw (← c.self.view_is) at c.requires.is_new in
@@ -50,7 +50,7 @@ invariant_of-self-in-Some c =
 pub invariant_of-self-in_err-put-in-None : goal.invariant_of-self-in_err-put-in-None
 invariant_of-self-in_err-put-in-None c =
     let h = c.self.invariant in
-    let deeds = c.self.inside.done.deeds in
+    let deeds = c.self.inside.done.items in
     let next = c.self.inside.next in record {
       posted = h.posted;
       unexpected = h.unexpected;
@@ -67,7 +67,7 @@ invariant_of-self-in_err-put-in-None c =
 pub invariant_of-self-in-None : goal.invariant_of-self-in-None
 invariant_of-self-in-None c =
     let h = c.self.invariant in
-    let deeds = c.self.inside.done.deeds in
+    let deeds = c.self.inside.done.items in
     let next = c.self.inside.next in
     let test : Post → Bool = λ p. matches p.from p.tag p.ctx c.args.a.env in
     let new = rw (← c.self.view_is) at c.requires.is_new in
@@ -106,5 +106,5 @@ returns-in_ok-put-in-None-clause-oldest c =
 pub overflow_add-self : goal.overflow_add-self
 overflow_add-self c =
     let h = c.self.invariant in
-    let small = next_small c.self.inside.done.deeds h.names h.queues.in_turn.two_receives h.queues.in_turn.two_messages in
+    let small = next_small c.self.inside.done.items h.names h.queues.in_turn.two_receives h.queues.in_turn.two_messages in
     omega (arith, small)

@@ -12,7 +12,7 @@ use Rattle.nm_match.proofs.matching.Matcher.cancel.Goals as goal
 pub invariant_of-self : goal.invariant_of-self
 invariant_of-self c =
     let h = c.self.invariant in
-    let deeds = c.self.inside.done.deeds in
+    let deeds = c.self.inside.done.items in
     let order = c.self.inside.order in
     let test : Post → Bool = λ p. p.number == c.args.post in
     let first = some_found (find test h.posted)

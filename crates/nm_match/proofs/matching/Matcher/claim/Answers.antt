@@ -11,7 +11,7 @@ use Rattle.nm_match.proofs.matching.Matcher.claim.Goals as goal
 pub invariant_of-self : goal.invariant_of-self
 invariant_of-self c =
     let h = c.self.invariant in
-    let deeds = c.self.inside.done.deeds in
+    let deeds = c.self.inside.done.items in
     let next = c.self.inside.next in
     let test : Arrival → Bool = λ a. matches c.args.from c.args.tag c.args.ctx a.env in
     let is_first = sym (c.in-Some.ensures.oldest h.unexpected h.claimed next h.messages) in
@@ -35,7 +35,7 @@ invariant_of-self-in-None c =
       cancelled = h.cancelled;
       receives = h.receives;
       messages = c.in-None.ensures.others h.unexpected h.claimed c.self.inside.next
-          (arrivals_apart c.self.inside.done.deeds h.queues) h.messages;
+          (arrivals_apart c.self.inside.done.items h.queues) h.messages;
       queues = h.queues;
       names = h.names;
     }

@@ -6,7 +6,7 @@ use Rattle.nm_match.proofs.matching.Matcher.is_claimed.Goals as goal
 pub returns-clause-value : goal.returns-clause-value
 returns-clause-value c =
     let h = c.self.invariant in
-    let deeds = c.self.inside.done.deeds in
+    let deeds = c.self.inside.done.items in
     rw (← c.self.view_is) (says_claimed deeds h.queues c.args.from c.args.n c.is_claimed.result
     (c.is_claimed.ensures.none h.unexpected h.claimed c.self.inside.next h.messages)
     (c.is_claimed.ensures.some h.unexpected h.claimed c.self.inside.next h.messages))
@@ -14,7 +14,7 @@ returns-clause-value c =
 pub returns-clause-came : goal.returns-clause-came
 returns-clause-came c claimed =
     let h = c.self.invariant in
-    let deeds = c.self.inside.done.deeds in
+    let deeds = c.self.inside.done.items in
     let same = says_claimed deeds h.queues c.args.from c.args.n c.is_claimed.result
     (c.is_claimed.ensures.none h.unexpected h.claimed c.self.inside.next h.messages)
     (c.is_claimed.ensures.some h.unexpected h.claimed c.self.inside.next h.messages) in

@@ -5,4 +5,4 @@ use Rattle.nm_match.proofs.matching.Matcher.knows_post.Goals as goal
 
 pub returns : goal.returns
 returns c = rw (← c.self.view_is) (rw c.receive_id.ensures.id at c.contains.ensures
-    ∙ c.self.invariant.names.receives c.args.post ∙ is_known_receive-deeds c.self.inside.done.deeds c.args.post)
+    ∙ c.self.invariant.names.receives c.args.post ∙ is_known_receive-deeds c.self.inside.done.items c.args.post)

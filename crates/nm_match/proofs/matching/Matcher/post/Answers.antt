@@ -19,14 +19,14 @@ invariant_of-self c =
       receives = h.receives;
       messages = h.messages;
       queues = h.queues;
-      names = names_kept c.self.inside.done.deeds h.names c.make_room.new.self c.self.inside.messages
+      names = names_kept c.self.inside.done.items h.names c.make_room.new.self c.self.inside.messages
           c.make_room.ensures.same (λ i. refl);
     }
 
 pub invariant_of-self-in-Some : goal.invariant_of-self-in-Some
 invariant_of-self-in-Some c =
     let h = c.self.invariant in
-    let deeds = c.self.inside.done.deeds in
+    let deeds = c.self.inside.done.items in
     let next = c.self.inside.next in
     let test : Arrival → Bool = λ a. matches c.args.p.from c.args.p.tag c.args.p.ctx a.env in
     let new = rw (← c.self.view_is) at c.requires.is_new in
@@ -49,7 +49,7 @@ invariant_of-self-in-Some c =
 pub invariant_of-self-in_err-put-in-None : goal.invariant_of-self-in_err-put-in-None
 invariant_of-self-in_err-put-in-None c =
     let h = c.self.invariant in
-    let deeds = c.self.inside.done.deeds in
+    let deeds = c.self.inside.done.items in
     let next = c.self.inside.next in record {
       posted = h.posted;
       unexpected = h.unexpected;
@@ -65,7 +65,7 @@ invariant_of-self-in_err-put-in-None c =
 pub invariant_of-self-in-None : goal.invariant_of-self-in-None
 invariant_of-self-in-None c =
     let h = c.self.invariant in
-    let deeds = c.self.inside.done.deeds in
+    let deeds = c.self.inside.done.items in
     let next = c.self.inside.next in
     let test : Arrival → Bool = λ a. matches c.args.p.from c.args.p.tag c.args.p.ctx a.env in
     let new = rw (← c.self.view_is) at c.requires.is_new in
@@ -102,7 +102,7 @@ pub overflow_add-self : goal.overflow_add-self
 overflow_add-self c =
     let h = c.self.invariant in
     let new = rw (← c.self.view_is) at c.requires.is_new in
-    let small = order_small c.self.inside.done.deeds h.names h.queues.in_turn.two_receives c.args.p
+    let small = order_small c.self.inside.done.items h.names h.queues.in_turn.two_receives c.args.p
     c.receive_id-id.ensures.small new in
     omega (arith, small)
 
@@ -110,6 +110,6 @@ pub overflow_cast-self-inside : goal.overflow_cast-self-inside
 overflow_cast-self-inside c =
     let h = c.self.invariant in
     let new = rw (← c.self.view_is) at c.requires.is_new in
-    let small = order_small c.self.inside.done.deeds h.names h.queues.in_turn.two_receives c.args.p
+    let small = order_small c.self.inside.done.items h.names h.queues.in_turn.two_receives c.args.p
     c.receive_id-id.ensures.small new in
     omega (arith, small)

@@ -17,14 +17,14 @@ invariant_of-self c =
       receives = h.receives;
       messages = h.messages;
       queues = h.queues;
-      names = names_kept c.self.inside.done.deeds h.names c.make_room.new.self c.self.inside.messages
+      names = names_kept c.self.inside.done.items h.names c.make_room.new.self c.self.inside.messages
           c.make_room.ensures.same (λ i. refl);
     }
 
 pub invariant_of-self-2 : goal.invariant_of-self-2
 invariant_of-self-2 c =
     let h = c.self.invariant in
-    let deeds = c.self.inside.done.deeds in
+    let deeds = c.self.inside.done.items in
     let new = rw (← c.self.view_is) at c.requires.is_new in
     let claimed = rw (← c.self.view_is) at c.requires.claimed in
     rw c.then-self-inside.ensures (record {

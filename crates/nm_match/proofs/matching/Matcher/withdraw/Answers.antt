@@ -11,7 +11,7 @@ use Rattle.nm_match.proofs.matching.Matcher.withdraw.Goals as goal
 pub invariant_of-self : goal.invariant_of-self
 invariant_of-self c =
     let h = c.self.invariant in
-    let deeds = c.self.inside.done.deeds in
+    let deeds = c.self.inside.done.items in
     let next = c.self.inside.next in
     let first = some_found (find (is_message c.args.from c.args.n) h.unexpected)
     (sym (c.withdraw-was_free.ensures.found h.unexpected h.claimed next h.messages) ∙ c.if-was_free.true) in

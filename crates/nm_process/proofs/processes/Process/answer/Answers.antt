@@ -16,6 +16,4 @@ invariant_of-self-2 c =
           (λ x held. subst (λ (h : List Event). IsHeld h x) (sym records.noted.events)
           (held_after x p.rank.events _ (tt, tt) held)) i.1,
       i.2 ∙ sym records.takes.me,
-      i.3,
-      i.4,
     )

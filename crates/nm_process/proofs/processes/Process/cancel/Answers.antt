@@ -29,8 +29,6 @@ invariant_of-self c =
           (λ x held. subst (λ (h : List Event). IsHeld h x) (sym (is.happened (λ s. [])).events)
           (held_after x v.events _ (cancel_leaves x v.events v.clock is.kind) held)) i.1,
       i.2 ∙ sym is.takes.me,
-      i.3,
-      i.4,
     )
 
 pub answer-requires-in-Ok : goal.answer-requires-in-Ok
@@ -59,9 +57,7 @@ returns-in-Ok-clause-tried c =
     let is = c.in-Ok.ensures.cancels in
     let a : ProcessView = record {
       rank = v;
-      own = p.own.items;
       at = p.at;
-      next = p.next;
       names =
           p.requests;
       handles = p.handles.entries;
@@ -89,9 +85,7 @@ returns-in-Err-NoSuch-clause-tried c =
     let b = c.answer-in-Err-NoSuch.new.self in
     let a : ProcessView = record {
       rank = p.rank;
-      own = p.own.items;
       at = p.at;
-      next = p.next;
       names = p.requests;
       handles = p.handles.entries;
     } in

@@ -27,8 +27,6 @@ invariant_of-self-in_err-insert c =
       subst (λ (r : Live). AreGiven r p.requests) (sym claims.requests) i.0,
       subst (λ (es : List (ℕ × Handle)). AreHeld w.events es) (sym c.in_err-insert.ensures.err) held,
       i.2 ∙ sym claims.takes.me,
-      i.3,
-      i.4,
     )
 
 pub invariant_of-self-2 : goal.invariant_of-self-2
@@ -54,6 +52,4 @@ invariant_of-self-2 c =
           (first_unheld v.events g.from g.tag g.ctx a p.handles.entries first i.1)
           c.in_ok-insert.ensures.updates.0,
       i.2 ∙ sym claims.takes.me,
-      i.3,
-      i.4,
     )

@@ -55,8 +55,6 @@ invariant_of-self c =
       stands.0,
       subst (λ (h : List Event). AreHeld h p.handles.entries) stands.1 i.1,
       i.2 ∙ stands.2,
-      i.3,
-      i.4,
     )
 
 pub returns-clause-ends : goal.returns-clause-ends
@@ -69,9 +67,7 @@ returns-clause-ends c =
     let is : lookup (nat_eq q) p.requests ≡ Some request = sym c.get.ensures ∙ c.in-Some.is in
     let a : ProcessView = record {
       rank = p.rank;
-      own = p.own.items;
       at = p.at;
-      next = p.next;
       names = p.requests;
       handles = p.handles.entries;
     } in
@@ -89,7 +85,7 @@ returns-clause-ends c =
         own = ended_own p.rank.requests w.requests request finished.freed p.requests q i.0 is;
         others = ended_others p.rank.requests w.requests request finished.freed p.requests q i.0 is;
       };
-      handles = record { place = (refl, refl); handles = refl };
+      handles = record { at = refl; handles = refl };
     })) c.finish.ensures.finishes
 
 pub returns-clause-null : goal.returns-clause-null
@@ -117,9 +113,7 @@ returns-clause-pending c late =
     let is : lookup (nat_eq q) p.requests ≡ Some request = sym c.get.ensures ∙ c.in-Some.is in
     let a : ProcessView = record {
       rank = p.rank;
-      own = p.own.items;
       at = p.at;
-      next = p.next;
       names = p.requests;
       handles = p.handles.entries;
     } in
@@ -136,9 +130,7 @@ returns-clause-still c =
     let p = c.self.inside in
     let a : ProcessView = record {
       rank = p.rank;
-      own = p.own.items;
       at = p.at;
-      next = p.next;
       names = p.requests;
       handles = p.handles.entries;
     } in

@@ -57,9 +57,7 @@ returns-in-Ok-Ready c =
     let request = c.in-Some.request in
     let a : ProcessView = record {
       rank = p.rank;
-      own = p.own.items;
       at = p.at;
-      next = p.next;
       names = p.requests;
       handles = p.handles.entries;
     } in
@@ -75,9 +73,7 @@ returns-in-Ok-Pending c =
     let request = c.in-Some.request in
     let a : ProcessView = record {
       rank = p.rank;
-      own = p.own.items;
       at = p.at;
-      next = p.next;
       names = p.requests;
       handles = p.handles.entries;
     } in
@@ -93,9 +89,7 @@ returns-in-Err c =
     let request = c.in-Some.request in
     let a : ProcessView = record {
       rank = p.rank;
-      own = p.own.items;
       at = p.at;
-      next = p.next;
       names = p.requests;
       handles = p.handles.entries;
     } in

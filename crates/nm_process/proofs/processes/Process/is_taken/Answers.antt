@@ -22,9 +22,7 @@ returns-in-Some c =
     let p = c.self.inside in
     let a : ProcessView = record {
       rank = p.rank;
-      own = p.own.items;
       at = p.at;
-      next = p.next;
       names = p.requests;
       handles = p.handles.entries;
     } in

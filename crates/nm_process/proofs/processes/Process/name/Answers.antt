@@ -19,6 +19,4 @@ invariant_of-self-2 c =
           c.in_ok-insert.ensures.ok,
       i.1,
       i.2,
-      i.3,
-      i.4,
     )

@@ -6,7 +6,7 @@ use Rattle.nm_sending.specs.Sent.{outs}
 use Rattle.nm_request.specs.Requests.{Live}
 use Rattle.nm_process.specs.Names.{AreGiven}
 use Rattle.nm_process.specs.Processes.{ProcessView}
-use Rattle.nm_process.specs.Work.{IsAtWork}
+use Rattle.nm_process.specs.Work.{IsWorking}
 use Rattle.nm_process.proofs.MidLemmas.{work_packets}
 use Rattle.nm_process.proofs.PacketLemmas.{outs_of_packets, packets_hold_at}
 use Rattle.nm_process.proofs.processes.Process.pop_piece.Goals as goal
@@ -24,28 +24,24 @@ invariant_of-self c =
           (outs_of_packets (option_and_then (out_by_piece v.sending.offers)
           (first_leaving v.sending.offers))) i.1,
       i.2 ∙ sym c.pop_piece.ensures.takes.me,
-      i.3,
-      i.4,
     )
 
 pub returns-clause-work : goal.returns-clause-work
-returns-clause-work c shape lines work =
+returns-clause-work c shape commands bound some work =
     let p = c.self.inside in
     let v = p.rank in
     let w = c.pop_piece.new.self in
     let a : ProcessView = record {
       rank = v;
-      own = p.own.items;
       at = p.at;
-      next = p.next;
       names =
           p.requests;
       handles = p.handles.entries;
     } in
-    work_packets shape lines a w (v.clock)
+    work_packets shape commands bound a w (v.clock)
     (outs (option_and_then (out_by_piece v.sending.offers) (first_leaving v.sending.offers)))
-    c.pop_piece.ensures.takes.me c.pop_piece.ensures.takes.sizes c.pop_piece.ensures.requests
+    some c.pop_piece.ensures.takes.sizes c.pop_piece.ensures.requests
     c.pop_piece.ensures.left.events
     (outs_of_packets (option_and_then (out_by_piece v.sending.offers)
-    (first_leaving v.sending.offers))) (subst (λ (v : ProcessView). IsAtWork shape lines v)
+    (first_leaving v.sending.offers))) (subst (λ (v : ProcessView). IsWorking shape commands bound v)
     (sym c.self.view_is) work)

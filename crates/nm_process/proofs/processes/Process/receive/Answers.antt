@@ -26,8 +26,6 @@ invariant_of-self-2 c =
           (first_message p.rank.events (matched_pairs p.rank.events) c.args.from c.args.tag c.args.ctx)
           tt) i.1,
       i.2 ∙ sym starts.takes.me,
-      i.3,
-      i.4,
     )
 
 pub name-requires-clause-older : goal.name-requires-clause-older
@@ -57,9 +55,7 @@ returns-clause-tried c =
     let g = c.args in
     let a : ProcessView = record {
       rank = p.rank;
-      own = p.own.items;
       at = p.at;
-      next = p.next;
       names =
           p.requests;
       handles = p.handles.entries;
@@ -76,6 +72,6 @@ returns-clause-tried c =
           c.irecv.new.self c.in_ok-request.request g.q g.line
           (c.in_ok-request.ensures.starts.started (λ s. [])).request c.self.invariant.0 free
           c.in_ok-request.ensures.starts
-          c.in_ok-name.ensures.same.0 c.in_ok-name.ensures.named (places.1, places.0) answered,
-      keeps_handles a c.name.new.self b g.line _ (places.1, places.0) c.in_ok-name.ensures.same.1 answered,
+          c.in_ok-name.ensures.same.0 c.in_ok-name.ensures.named places answered,
+      keeps_handles a c.name.new.self b g.line _ places c.in_ok-name.ensures.same.1 answered,
     ))) c.answer-2.ensures.answered

@@ -35,8 +35,6 @@ invariant_of-self-2 c =
           (message_of p.rank.events x.from x.n) (other_held x y other)) held))
           c.swap_remove.ensures.updates.0,
       i.2 ∙ sym starts.takes.me,
-      i.3,
-      i.4,
     )
 
 pub name-requires-clause-older : goal.name-requires-clause-older
@@ -67,9 +65,7 @@ returns-clause-tried c =
     let x = c.in-Some.handle in
     let a : ProcessView = record {
       rank = p.rank;
-      own = p.own.items;
       at = p.at;
-      next = p.next;
       names =
           p.requests;
       handles = p.handles.entries;
@@ -86,7 +82,7 @@ returns-clause-tried c =
     on_ok c.answer-2.result (λ answered.
     subst (λ (v : ProcessView). HasTriedMrecv v b g.q g.m g.cap g.line) c.self.view_is (inr (inr (
     let handles : b.handles ≡ c.swap_remove.new.self.entries =
-    (keeps_handles mid mid b g.line _ (refl, refl) refl answered).handles
+    (keeps_handles mid mid b g.line _ refl refl answered).handles
     ∙ c.in_ok-name.ensures.same.1 in
     record {
       message = message_with x;
@@ -97,7 +93,7 @@ returns-clause-tried c =
           c.imrecv.new.self c.in_ok-request.request g.q g.line
           (c.in_ok-request.ensures.starts.started (λ s. [])).request c.self.invariant.0 free
           c.in_ok-request.ensures.starts
-          c.in_ok-name.ensures.same.0 c.in_ok-name.ensures.named (places.1, places.0) answered;
+          c.in_ok-name.ensures.same.0 c.in_ok-name.ensures.named places answered;
       handles = record {
         own = ap (λ (es : List (ℕ × Handle)). option_map message_with (lookup (nat_eq g.m) es)) handles
             ∙ handled_own p.handles.entries c.swap_remove.new.self.entries g.m None

@@ -23,8 +23,6 @@ invariant_of-self-2 c =
       start_keeps bodies _ _ p.rank c.send_copy.new.rank c.in_ok-request.request p.handles.entries starts
           (λ x. (tt, tt)) i.1,
       i.2 ∙ sym starts.takes.me,
-      i.3,
-      i.4,
     )
 
 pub name-requires-clause-older : goal.name-requires-clause-older
@@ -52,9 +50,7 @@ returns-clause-tried c =
     let g = c.args in
     let a : ProcessView = record {
       rank = p.rank;
-      own = p.own.items;
       at = p.at;
-      next = p.next;
       names =
           p.requests;
       handles = p.handles.entries;
@@ -72,6 +68,6 @@ returns-clause-tried c =
           c.send_copy.new.rank c.in_ok-request.request g.q g.line
           (c.in_ok-request.ensures.starts.started (λ s. bytes_of g.body.now) refl).request c.self.invariant.0
           free c.in_ok-request.ensures.starts
-          c.in_ok-name.ensures.same.0 c.in_ok-name.ensures.named (places.1, places.0) answered,
-      keeps_handles a c.name.new.self b g.line _ (places.1, places.0) c.in_ok-name.ensures.same.1 answered,
+          c.in_ok-name.ensures.same.0 c.in_ok-name.ensures.named places answered,
+      keeps_handles a c.name.new.self b g.line _ places c.in_ok-name.ensures.same.1 answered,
     ))) c.answer-2.ensures.answered

@@ -6,7 +6,7 @@ use Rattle.nm_rank.specs.Ranks.{known_from}
 use Rattle.nm_request.specs.Requests.{Live}
 use Rattle.nm_process.specs.Names.{AreGiven}
 use Rattle.nm_process.specs.Processes.{ProcessView}
-use Rattle.nm_process.specs.Work.{IsAtWork}
+use Rattle.nm_process.specs.Work.{IsWorking}
 use Rattle.nm_process.proofs.MidLemmas.{work_packets}
 use Rattle.nm_process.proofs.PacketLemmas.{packet_of_packets, packets_hold_at}
 use Rattle.nm_process.proofs.processes.Process.take_packet.Goals as goal
@@ -23,26 +23,22 @@ invariant_of-self-2 c =
           (taken.happened (λ s. [])).events c.history.ensures.right
           (packet_of_packets (known_from v.known c.args.p.now.from) v.events (taken_of v c.args.p.now)) i.1,
       i.2 ∙ sym taken.me,
-      i.3,
-      i.4,
     )
 
 pub returns-clause-work : goal.returns-clause-work
-returns-clause-work c shape lines work =
+returns-clause-work c shape commands bound some work =
     let p = c.self.inside in
     let v = p.rank in
     let w = c.take_packet.new.self in
     let taken = c.in_ok-take_packet.ensures.taken in
     let a : ProcessView = record {
       rank = v;
-      own = p.own.items;
       at = p.at;
-      next = p.next;
       names =
           p.requests;
       handles = p.handles.entries;
     } in
-    work_packets shape lines a w (max v.clock c.args.p.now.stamp) (made_of v c.args.p.now) taken.me taken.sizes
+    work_packets shape commands bound a w (max v.clock c.args.p.now.stamp) (made_of v c.args.p.now) some taken.sizes
     taken.requests (taken.happened (λ s. [])).events
     (packet_of_packets (known_from v.known c.args.p.now.from) v.events (taken_of v c.args.p.now))
-    (subst (λ (v : ProcessView). IsAtWork shape lines v) (sym c.self.view_is) work)
+    (subst (λ (v : ProcessView). IsWorking shape commands bound v) (sym c.self.view_is) work)

@@ -5,7 +5,7 @@ use Rattle.nm_rank.specs.Calls.{next_due}
 use Rattle.nm_request.specs.Requests.{Live}
 use Rattle.nm_process.specs.Names.{AreGiven}
 use Rattle.nm_process.specs.Processes.{ProcessView}
-use Rattle.nm_process.specs.Work.{IsAtWork}
+use Rattle.nm_process.specs.Work.{IsWorking}
 use Rattle.nm_process.proofs.MidLemmas.{work_packets}
 use Rattle.nm_process.proofs.PacketLemmas.{piece_of_packets, packets_hold_at}
 use Rattle.nm_process.proofs.processes.Process.take_piece.Goals as goal
@@ -22,26 +22,22 @@ invariant_of-self-2 c =
           p.handles.entries taken.happened.events c.history.ensures.right
           (piece_of_packets c.args.p.now.from (next_due v c.args.p.now.from) c.args.p.now) i.1,
       i.2 ∙ sym taken.me,
-      i.3,
-      i.4,
     )
 
 pub returns-clause-work : goal.returns-clause-work
-returns-clause-work c shape lines work =
+returns-clause-work c shape commands bound some work =
     let p = c.self.inside in
     let v = p.rank in
     let w = c.take_piece.new.self in
     let taken = c.in_ok-take_piece.ensures.taken in
     let a : ProcessView = record {
       rank = v;
-      own = p.own.items;
       at = p.at;
-      next = p.next;
       names =
           p.requests;
       handles = p.handles.entries;
     } in
-    work_packets shape lines a w (v.clock) (piece_makes c.args.p.now.from (next_due v c.args.p.now.from) c.args.p.now)
-    taken.me taken.sizes taken.requests taken.happened.events
+    work_packets shape commands bound a w (v.clock) (piece_makes c.args.p.now.from (next_due v c.args.p.now.from) c.args.p.now)
+    some taken.sizes taken.requests taken.happened.events
     (piece_of_packets c.args.p.now.from (next_due v c.args.p.now.from) c.args.p.now)
-    (subst (λ (v : ProcessView). IsAtWork shape lines v) (sym c.self.view_is) work)
+    (subst (λ (v : ProcessView). IsWorking shape commands bound v) (sym c.self.view_is) work)

@@ -1,7 +1,7 @@
 -- Where the next command looks at what came, a packet is taken first.
 use Rattle.std.proofs.Common.{◌≡◌, ℕ, Bool, List, cond, inl, sym, ap, ◌∙◌, subst, arith}
 use Rattle.nm_types.specs.declared.scripts.Line.{Line}
-use Rattle.nm_process.specs.Work.{IsAtWork}
+use Rattle.nm_process.specs.Places.{IsAtWork}
 use Rattle.std.specs.Prelude.{IfOk}
 use Rattle.nm_world.specs.Looks.{Polled, PolledUnlessWorn, looks_next}
 use Rattle.nm_world.proofs.Grows.{port_same}
@@ -14,8 +14,8 @@ returns-then-not-next_looks g c =
     let a = c.args.self.now in
     let s = c.requires.1.1 in
     let lines = c.args.lines.now in
-    let work = subst (λ (x : List Line). IsAtWork a.process.rank.sizes x a.process) (sym c.requires.1.0)
-    s.is.standing.work in
+    let work = subst (λ (x : List Line). IsAtWork a.process.rank.sizes x a.script a.process) (sym c.requires.1.0)
+    s.is.work in
     let n = a.process.rank.sizes.ranks in
     let found = c.next_looks.ensures a.process.rank.sizes work in
     let next : 0 ≡ looks_next lines a.process = ap (λ (b : Bool). cond b 1 0) (sym c.if-not-next_looks.true ∙ found) in
@@ -33,8 +33,8 @@ returns g c =
     let a = c.args.self.now in
     let s = c.requires.1.1 in
     let lines = c.args.lines.now in
-    let work = subst (λ (x : List Line). IsAtWork a.process.rank.sizes x a.process) (sym c.requires.1.0)
-    s.is.standing.work in
+    let work = subst (λ (x : List Line). IsAtWork a.process.rank.sizes x a.script a.process) (sym c.requires.1.0)
+    s.is.work in
     let found = c.next_looks.ensures a.process.rank.sizes work in
     let next : 1 ≡ looks_next lines a.process = ap (λ (b : Bool). cond b 1 0) (sym c.if-not-next_looks.false ∙ found) in
     record {

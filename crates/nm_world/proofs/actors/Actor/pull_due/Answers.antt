@@ -3,6 +3,8 @@ use Rattle.std.proofs.Common.{ℕ, ◌<◌, true, length, sym, ap, subst, arith,
 use Rattle.nm_types.specs.declared.packets.Piece.{Piece}
 use Rattle.nm_rank.specs.Calls.{TakesPiece}
 use Rattle.nm_process.specs.Processes.{ProcessView}
+use Rattle.nm_process.proofs.WorkLemmas.{stays_at_work}
+use Rattle.nm_types.specs.Commands.{commands_of}
 use Rattle.nm_history.specs.Pieces.{due_pieces}
 use Rattle.nm_receiving.specs.Receipts.{drawn_from}
 use Rattle.nm_copyring.specs.Plays.{one_empty, one_pulled}
@@ -30,20 +32,22 @@ returns g c =
     let sender = c.requires.1.1.0 in
     let ranks = s.is.ranks.1 in
     let own = pulls.from in
-    let work = c.in_ok-take_piece.ensures.work shape g.here.lines s.is.standing.work in
     let due = c.requires.1.1.1.0 in
     let taken = subst (λ (p : Piece). TakesPiece p a.process.rank v.rank) c.deref.ensures
     c.in_ok-take_piece.ensures.taken in
-    let on = c.a_piece_is_taken.ensures shape g.here.lines a.port.rank a.process.rank v.rank s.past q
+    let work = stays_at_work shape g.here.lines a.script a.process v taken.me
+    (ap (λ (x : ProcessView). x.at) c.in_ok-take_piece.ensures.others) (c.in_ok-take_piece.ensures.work shape)
+    s.is.work in
+    let on = c.a_piece_is_taken.ensures shape (commands_of a.port.rank g.here.lines) a.port.rank a.process.rank v.rank s.past q
     (omega (arith, own, sender, ranks))
     (subst (λ (k : ℕ). drawn_from a.process.rank.receiving k < length (due_pieces a.process.rank.events k))
     (sym own) due)
-    taken s.is.standing.rank in
+    taken s.is.stands in
     let n = g.here.fabric.ranks in
     let wide = s.is.rings.1.2 in
     let cells = s.is.ranks.0 in
     let port = c.pull.new.port in
-    let b : Actor = record { process = v; port = a.port; ring = port; places = tt } in
+    let b : Actor = record { process = v; script = a.script; port = a.port; ring = port; places = tt } in
     let low : c.args.sender < length (ring.knows a.ring).lanes = omega (arith, sender, wide) in
     let grows : Grows a b = record {
       events = (_, taken.happened.events);

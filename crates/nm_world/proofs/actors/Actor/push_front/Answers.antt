@@ -3,6 +3,8 @@ use Rattle.std.proofs.Common.{◌<◌, true, Option, length, ap, subst, arith, r
 use Rattle.std.specs.Prelude.{IfSome}
 use Rattle.nm_rndv.specs.Offers.{Offered}
 use Rattle.nm_process.specs.Processes.{ProcessView}
+use Rattle.nm_process.proofs.WorkLemmas.{stays_at_work}
+use Rattle.nm_types.specs.Commands.{commands_of}
 use Rattle.nm_copyring.specs.Ports.{full_to}
 use Rattle.nm_copyring.specs.Plays.{one_full, one_pushed}
 use Rattle.nm_copyring.specs.Ports as ring
@@ -33,13 +35,14 @@ returns g c =
     let within = own.0 in
     let ranks = s.is.ranks.1 in
     let knew = c.in-Ok.ensures.pushes in
-    let work = p.work shape g.here.lines s.is.standing.work in
-    let on = c.a_piece_leaves.ensures shape g.here.lines a.port.rank a.process.rank v.rank s.past
-    (to, q) next own.1 own.2 pops s.is.standing.rank in
+    let work = stays_at_work shape g.here.lines a.script a.process v pops.takes.me
+    (ap (λ (x : ProcessView). x.at) p.others) (p.work shape) s.is.work in
+    let on = c.a_piece_leaves.ensures shape (commands_of a.port.rank g.here.lines) a.port.rank a.process.rank v.rank s.past
+    (to, q) next own.1 own.2 pops s.is.stands in
     let n = g.here.fabric.ranks in
     let low : to < c.args.r.now.ranks = omega (arith, within, ranks) in
     let wide = s.is.rings.1.2 in
-    let b : Actor = record { process = v; port = a.port; ring = c.push.new.port; places = tt } in
+    let b : Actor = record { process = v; script = a.script; port = a.port; ring = c.push.new.port; places = tt } in
     let grows : Grows a b = record {
       events = (_, pops.left.events);
       port = port_same a.port;

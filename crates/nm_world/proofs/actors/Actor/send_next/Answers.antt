@@ -11,6 +11,8 @@ use Rattle.nm_sending.specs.Sent.{outs}
 use Rattle.std.specs.Prelude.{false, IfSome, length, slice_get}
 use Rattle.nm_sending.specs.Letters.{Letter}
 use Rattle.nm_process.specs.Processes.{ProcessView}
+use Rattle.nm_process.proofs.WorkLemmas.{stays_at_work}
+use Rattle.nm_types.specs.Commands.{commands_of}
 use Rattle.nm_world.specs.Idle.{NotSent}
 use Rattle.nm_global.specs.ProcessInvariant.{IsOf, with_moment, with_packet_left}
 use Rattle.nm_chain.specs.declared.table.parcels.Parcel.{Parcel}
@@ -59,8 +61,8 @@ send-requires-clause-parcel g c =
     c.fill_front.new.into _ _ (λ none. cc) (rw c.rank-rank.ensures at c.in-Some.ensures.first)
     (rw c.rank-rank.ensures at c.fill_front.ensures.first) (rw c.rank-rank.ensures at c.fill_front.ensures.own) in
     let own = first.4 in
-    let number = own.2 ∙ sym (s.is.standing.rank.left to own.0).packets.popped ∙ (s.is.sent to own.0).many in (
-      ap (λ (x : Parcel Packet). x.from) made ∙ own.1 ∙ s.is.standing.rank.me,
+    let number = own.2 ∙ sym (s.is.stands.left to own.0).packets.popped ∙ (s.is.sent to own.0).many in (
+      ap (λ (x : Parcel Packet). x.from) made ∙ own.1 ∙ s.is.stands.me,
       ap (λ (x : Parcel Packet). x.seq) made ∙ number,
     )
 
@@ -138,22 +140,24 @@ returns g c =
     (c.address.ensures ∙ ap (λ (z : Parcel Packet). parcel_of z.item) c.deref_mut-2.ensures.value)
     c.in-Ok.ensures.sends in
     let within = own.0 in
-    let left = s.is.standing.rank.left to within in
+    let left = s.is.stands.left to within in
     let number = own.2 ∙ sym left.packets.popped
     ∙ (s.is.sent to within).many in
-    let work = p.work shape g.here.lines s.is.standing.work in
+    let work = stays_at_work shape g.here.lines a.script a.process v pops.takes.me
+    (ap (λ (x : ProcessView). x.at) p.others) (p.work shape) s.is.work in
+    let commands = commands_of a.port.rank g.here.lines in
     let moment = acted a.process.rank (outs (ended_by (slice_get letters 0))) in
-    let on = c.a_packet_leaves.ensures shape g.here.lines a.port.rank a.process.rank v.rank s.past
-    first.0 first.1 pops s.is.standing.rank in
-    let here : IsOf shape g.here.lines a.port.rank v.rank
+    let on = c.a_packet_leaves.ensures shape commands a.port.rank a.process.rank v.rank s.past
+    first.0 first.1 pops s.is.stands in
+    let here : IsOf shape commands a.port.rank v.rank
     (with_moment (with_packet_left s.past (to, packet)) moment) =
-    subst (λ (k : ℕ). IsOf shape g.here.lines a.port.rank v.rank
+    subst (λ (k : ℕ). IsOf shape commands a.port.rank v.rank
     (with_moment (with_packet_left s.past (k, packet)) moment)) (sym first.2)
-    (subst (λ (x : Packet). IsOf shape g.here.lines a.port.rank v.rank
+    (subst (λ (x : Packet). IsOf shape commands a.port.rank v.rank
     (with_moment (with_packet_left s.past (first.0.to, x)) moment)) (sym copied) on) in
     let n = c.args.f.now.ranks in
     let ranks = s.is.ranks.0 in
-    let b : Actor = record { process = v; port = port; ring = a.ring; places = tt } in
+    let b : Actor = record { process = v; script = a.script; port = port; ring = a.ring; places = tt } in
     let grows : Grows a b = record {
       events = (_, pops.left.events);
       port = port_by a.port port (sends_up fits to (parcel_of packet) a.port port way sends) e.taken.0;

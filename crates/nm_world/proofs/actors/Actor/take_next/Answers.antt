@@ -5,6 +5,8 @@ use Rattle.std.proofs.lemmas.List.{length-map}
 use Rattle.nm_channels.specs.Moments.{taken_from}
 use Rattle.nm_rank.specs.Ranks.{IsFresh, count_of}
 use Rattle.nm_process.specs.Processes.{ProcessView}
+use Rattle.nm_process.proofs.WorkLemmas.{stays_at_work}
+use Rattle.nm_types.specs.Commands.{commands_of}
 use Rattle.nm_chain.specs.Rule.{Load, sent_to}
 use Rattle.nm_cells.specs.Ports.{knows, taken_by}
 use Rattle.nm_port.specs.Polls.{with_all_missed}
@@ -91,7 +93,7 @@ take_packet-requires-clause-number g c =
     ∙ ap packet_of c.deref_mut.ensures.value in
     let low : x.from < v.sizes.ranks = omega (arith, next.sender, s.is.ranks.0) in
     let number : x.seq ≡ count_of v.took x.from = next.number ∙ sym (s.is.taken x.from low).many
-    ∙ length-map (taken_from x.from s.past.log) (λ t. t.packet) ∙ sym (s.is.standing.rank.logged.taken.took x.from) in
+    ∙ length-map (taken_from x.from s.past.log) (λ t. t.packet) ∙ sym (s.is.stands.logged.taken.took x.from) in
     subst (λ (z : Packet). z.seq ≡ count_of v.took z.from) (sym letter_is) number
 
 pub returns : goal.returns
@@ -108,15 +110,17 @@ returns g c =
     ∙ ap packet_of c.deref_mut.ensures.value in
     let took = subst (λ (z : Packet). TakesPacket z c.args.self.now.process.rank v.rank) letter_is
     c.in_ok-take_packet.ensures.taken in
-    let work = c.in_ok-take_packet.ensures.work c.args.self.now.process.rank.sizes g.here.lines s.is.standing.work in
-    let on = c.a_packet_is_taken.ensures c.args.self.now.process.rank.sizes g.here.lines
-    c.args.self.now.port.rank c.args.self.now.process.rank v.rank s.past p
+    let work = stays_at_work c.args.self.now.process.rank.sizes g.here.lines c.args.self.now.script
+    c.args.self.now.process v took.me (ap (λ (x : ProcessView). x.at) c.in_ok-take_packet.ensures.others)
+    (c.in_ok-take_packet.ensures.work c.args.self.now.process.rank.sizes) s.is.work in
+    let on = c.a_packet_is_taken.ensures c.args.self.now.process.rank.sizes
+    (commands_of c.args.self.now.port.rank g.here.lines) c.args.self.now.port.rank c.args.self.now.process.rank v.rank s.past p
     (rw c.rank-rank.ensures at c.history.ensures.right)
-    (omega (arith, sender, ranks)) took s.is.standing.rank in
+    (omega (arith, sender, ranks)) took s.is.stands in
     let n = c.args.f.now.ranks in
     let a = c.args.self.now in
     let port = c.poll.new.port in
-    let b : Actor = record { process = v; port = port; ring = a.ring; places = tt } in
+    let b : Actor = record { process = v; script = a.script; port = port; ring = a.ring; places = tt } in
     let grows : Grows a b = record {
       events = (_, (took.happened (λ s. [])).events);
       port = port_took a.port port p.from

@@ -5,8 +5,8 @@ use Rattle.nm_global.specs.Steps.{setting_of}
 use Rattle.nm_global.proofs.standing.laws.passing.a_piece_leaves.Goals as goal
 
 pub returns : goal.returns
-returns c shape lines i v v' past piece next from number pops is =
-    let placed = c.a_step_keeps_its_place.ensures (setting_of shape lines i) v v' past
+returns c shape commands i v v' past piece next from number pops is =
+    let placed = c.a_step_keeps_its_place.ensures (setting_of shape commands) v v' past
     (pop_piece piece next from number pops) tt
     (record { logged = is.logged; left = is.left }) in
     record { me = pops.takes.me ∙ is.me; logged = placed.logged; left = placed.left }
