@@ -1,5 +1,5 @@
 -- Lists of actors by rank.
-use Rattle.std.proofs.Common.{◌≡◌, ℕ, zero, suc, ◌+◌, ◌<◌, ◌&&◌, Bool, true, false, Some, None, List, []}
+use Rattle.std.proofs.Common.{◌≡◌, ℕ, zero, suc, ◌+◌, ◌<◌, ◌&&◌, not, Bool, true, false, Some, None, List, []}
 use Rattle.std.proofs.Common.{◌∷◌, ◌++◌, length, refl, sym, ap, ◌∙◌, subst, arith}
 use Rattle.std.specs.List.{All, slice_get}
 use Rattle.std.proofs.lemmas.List.Elements.{All-cons}
@@ -15,19 +15,27 @@ use Rattle.nm_copyring.specs.declared.port.RingPort.{RingPort}
 use Rattle.nm_copyring.specs.declared.port.Rings.{Rings}
 use Rattle.nm_copyring.specs.Ports as ring
 use Rattle.nm_process.specs.Lines.{AreLines}
+use Rattle.nm_process.specs.Work.{IsAtWork}
 use Rattle.nm_world.specs.declared.actors.Actor.{Actor}
 use Rattle.nm_world.specs.Actors.{AllContinue, Seat, ActorInvariant, seat_of}
-use Rattle.nm_world.specs.Runs.{AreRanked, InPlace, NewInOrder, PairAgrees}
+use Rattle.nm_world.specs.Rest.{CanMove}
+use Rattle.nm_world.specs.Runs.{AreRanked, InPlace, NewInOrder, PairAgrees, SomeMoves}
 use Rattle.nm_world.proofs.Chosen.{same_there}
 use Rattle.nm_world.proofs.Grows.{kept_on, kept_same}
+use Rattle.nm_world.proofs.Results.{clash}
 use Rattle.nm_types.proofs.ListLemmas.{place_below}
+use Rattle.nm_types.proofs.TruthLemmas.{and_left, and_right}
 use Rattle.nm_types.specs.declared.packets.Packet.{Packet}
 
-and_both : (p q : Bool) → (p && q) ≡ true → (p ≡ true) × (q ≡ true)
-and_both true q e = (refl, e)
-and_both false q e = absurd (clash e) where
-  clash : false ≡ true → ⊥
-  clash e = cc
+-- one more was asked whether it can move
+pub moves_more : (lines : List Line) (actors : List Actor) (n : ℕ) (x : Actor) (all moves : Bool) →
+    slice_get actors n ≡ Some x →
+    (moves ≡ true → IsAtWork x.process.rank.sizes lines x.process → CanMove lines x.process) →
+    (all ≡ false → SomeMoves lines actors) → (all && not moves) ≡ false → SomeMoves lines actors
+moves_more lines actors n x true true at can before e =
+    record { place = n; actor = x; is = at; moves = can refl }
+moves_more lines actors n x true false at can before e = absurd (clash e)
+moves_more lines actors n x false moves at can before e = before refl
 
 -- one more of a row agrees
 pub row_more : (actors : List Actor) (i n : ℕ) (x y : Actor) (all one : Bool) → slice_get actors i ≡ Some x →
@@ -41,8 +49,8 @@ row_more actors i n x y all one at to last before both j a b low at_a to_b = dit
     let there : slice_get actors n ≡ Some b = subst (λ k. slice_get actors k ≡ Some b) e to_b in
     subst (λ k. PairAgrees i k a b) (sym e)
     (subst (λ (z : Actor). PairAgrees i n z b) (same_there x a at at_a)
-    (subst (λ (z : Actor). PairAgrees i n x z) (same_there y b to there) (last (and_both all one both).1))))
-    (λ ne. before (and_both all one both).0 j a b (omega (arith, low, ne)) at_a to_b)
+    (subst (λ (z : Actor). PairAgrees i n x z) (same_there y b to there) (last (and_right all one both)))))
+    (λ ne. before (and_left all one both) j a b (omega (arith, low, ne)) at_a to_b)
 
 pub rows_more : (actors : List Actor) (n : ℕ) (all one : Bool) →
     (one ≡ true → (j : ℕ) (a b : Actor) → slice_get actors n ≡ Some a → slice_get actors j ≡ Some b →
@@ -53,8 +61,8 @@ pub rows_more : (actors : List Actor) (n : ℕ) (all one : Bool) →
     PairAgrees i j a b
 rows_more actors n all one last before both i j a b low at to = dite (ℕ_discrete i n)
     (λ e. subst (λ k. PairAgrees k j a b) (sym e)
-    (last (and_both all one both).1 j a b (subst (λ k. slice_get actors k ≡ Some a) e at) to))
-    (λ ne. before (and_both all one both).0 i j a b (omega (arith, low, ne)) at to)
+    (last (and_right all one both) j a b (subst (λ k. slice_get actors k ≡ Some a) e at) to))
+    (λ ne. before (and_left all one both) i j a b (omega (arith, low, ne)) at to)
 
 module _ (lines : List Line) (f : Fabric Packet) (r : Rings) where
   pub all_kept_same : (xs : List Actor) → All (ActorInvariant lines f r) xs → AllContinue lines f r xs xs

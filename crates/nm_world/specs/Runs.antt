@@ -20,7 +20,7 @@ use Rattle.nm_copyring.specs.Ports as ring_port
 use Rattle.nm_process.specs.Places.{IsAtWork}
 use Rattle.nm_world.specs.declared.actors.Actor.{Actor}
 use Rattle.nm_world.specs.Actors.{ActorInvariant, seat_of}
-use Rattle.nm_world.specs.Rest.{IsCarried, IsStill}
+use Rattle.nm_world.specs.Rest.{CanMove, IsCarried, IsStill}
 use Rattle.nm_types.specs.declared.packets.Packet.{Packet}
 
 -- the actors stand, and are those of the ranks from k on, in order
@@ -34,17 +34,27 @@ InPlace shape lines f r k (a ∷ actors) =
 abbrev pub IsStillAt : List Line → Actor → Type 0
 IsStillAt lines a = IsAtWork a.process.rank.sizes lines a.script a.process → IsStill lines a.process
 
+-- one of these can move, if it is at work
+pub record SomeMoves (lines : List Line) (actors : List Actor) : Type 0 where
+  pub place : ℕ
+  pub actor : Actor
+  pub is : slice_get actors place ≡ Some actor
+  pub moves : IsAtWork actor.process.rank.sizes lines actor.process → CanMove lines actor.process
+
 -- what the one sent, the other took
 abbrev pub PairAgrees : ℕ → ℕ → Actor → Actor → Type 0
 PairAgrees i j a b =
     (sent_by a.port j ≡ taken_by b.port i)
     × (length (ring_port.pushed_to a.ring j) ≡ length (ring_port.pulled_from b.ring i))
 
--- so it is with each two of these
+-- so it is with that of the rank i and each
+abbrev pub RowAgrees : ℕ → List Actor → Type 0
+RowAgrees i actors =
+    (j : ℕ) (a b : Actor) → slice_get actors i ≡ Some a → slice_get actors j ≡ Some b → PairAgrees i j a b
+
+-- and with each two of these
 pub record AllAgree (actors : List Actor) : Type 0 where
-  pub pairs :
-      (i j : ℕ) (a b : Actor) → slice_get actors i ≡ Some a → slice_get actors j ≡ Some b →
-      PairAgrees i j a b
+  pub pairs : (i : ℕ) → RowAgrees i actors
 
 -- what the closed ports carried from each rank to each is what the histories call for
 abbrev pub AreCarried : Sizes → List Line → Closed Packet → RingAccount → List Ended → Type 0

@@ -1,8 +1,7 @@
 //! A run of all ranks, to rest.
 
 ghost use Rattle.nm_types.specs.declared.packets.Packet.{Packet};
-ghost use Rattle.std.specs.Prelude.{◌≡◌, ◌<◌, ℕ, true, List, length};
-ghost use Rattle.std.specs.Prelude.{slice_get, Some, IfOk};
+ghost use Rattle.std.specs.Prelude.{◌≡◌, ◌↔◌, ◌<◌, ℕ, true, false, List, length, IfOk};
 ghost use Rattle.std.specs.List.{All, AllZip};
 ghost use Rattle.nm_types.specs.Limits.{IsScript};
 ghost use Rattle.nm_types.specs.declared.scripts.Line.{Line};
@@ -20,7 +19,7 @@ ghost use Rattle.nm_world.specs.Actors.{AllContinue, ActorInvariant, seat_of};
 ghost use Rattle.nm_world.specs.Rest.{EachActor};
 ghost use Rattle.nm_world.specs.declared.actors.Actor.{Actor};
 ghost use Rattle.nm_world.specs.Runs.{AllAgree, AreRanked, InPlace};
-ghost use Rattle.nm_world.specs.Runs.{IsStillAt, IsWhole, NewInOrder, PairAgrees};
+ghost use Rattle.nm_world.specs.Runs.{IsStillAt, IsWhole, NewInOrder, PairAgrees, RowAgrees, SomeMoves};
 
 use crate::Actor;
 use crate::bells::Crews;
@@ -62,7 +61,8 @@ const TURNS: u32 = 1000000;
 
 // Whether no actor can move.
 fn are_still(actors: &[Actor], lines: &[Line]) -> bool
-    ensures { result ≡ true → EachActor (λ i a. IsStillAt lines.now a) actors.now }
+    ensures still { result ≡ true → EachActor (λ i a. IsStillAt lines.now a) actors.now }
+    ensures moves { result ≡ false → SomeMoves lines.now actors.now }
 {
     let mut all = true;
     for i in 0..actors.len() {
@@ -76,7 +76,7 @@ fn are_still(actors: &[Actor], lines: &[Line]) -> bool
 fn pair_agrees(a: &Actor, b: &Actor, i: u8, j: u8) -> bool
     requires { (j < (knows a.now.port).ranks) × (i < (knows b.now.port).ranks)
         × (j < (ring_port.knows a.now.ring).ranks) × (i < (ring_port.knows b.now.ring).ranks) }
-    ensures { result ≡ true → PairAgrees i j a.now b.now }
+    ensures { (result ≡ true) ↔ PairAgrees i j a.now b.now }
 {
     a.port.sent(j) == b.port.taken(i) && a.ring.pushed(j) == b.ring.pulled(i)
 }
@@ -85,8 +85,7 @@ fn pair_agrees(a: &Actor, b: &Actor, i: u8, j: u8) -> bool
 fn row_agrees(actors: &[Actor], f: &Fabric<Packet>, i: u8) -> bool
     requires many { (length actors.now ≡ f.now.ranks) × (i < f.now.ranks) }
     requires ranked { AreRanked f.now.ranks actors.now }
-    ensures { result ≡ true → (j : ℕ) (a b : Actor) → slice_get actors.now i ≡ Some a →
-        slice_get actors.now j ≡ Some b → PairAgrees i j a b }
+    ensures { (result ≡ true) ↔ RowAgrees i actors.now }
 {
     let mut all = true;
     for j in 0..f.ranks() {
@@ -100,7 +99,7 @@ fn row_agrees(actors: &[Actor], f: &Fabric<Packet>, i: u8) -> bool
 fn all_agree(actors: &[Actor], f: &Fabric<Packet>) -> bool
     requires many { length actors.now ≡ f.now.ranks }
     requires ranked { AreRanked f.now.ranks actors.now }
-    ensures { result ≡ true → AllAgree actors.now }
+    ensures { (result ≡ true) ↔ AllAgree actors.now }
 {
     let mut all = true;
     for i in 0..f.ranks() {

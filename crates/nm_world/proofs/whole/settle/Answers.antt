@@ -2,6 +2,7 @@
 use Rattle.std.proofs.Common.{◌∙◌}
 use Rattle.nm_world.proofs.Runs.{all_kept_on, all_kept_same, all_ranked, all_stand, kept_many}
 use Rattle.nm_world.proofs.whole.settle.Goals as goal
+use Rattle.nm_types.proofs.TruthLemmas.{and_left, and_right}
 
 pub loop-init : goal.loop-init
 loop-init g c = record {
@@ -35,3 +36,11 @@ loop-preserved g c = record {
   many = kept_many c.args.lines.now c.args.f.now c.args.r.now c.loop.actors c.round_in.new.actors
       c.in_ok-round_in.ensures.kept ∙ c.loop.invariant.many;
 }
+
+pub returns-then-still-agree-clause-still : goal.returns-then-still-agree-clause-still
+returns-then-still-agree-clause-still g c =
+    c.are_still-still.ensures.still (and_left c.are_still-still.result c.all_agree-agree.result c.if-still-agree.true)
+
+pub returns-then-still-agree-clause-agree : goal.returns-then-still-agree-clause-agree
+returns-then-still-agree-clause-agree g c =
+    c.all_agree-agree.ensures.0 (and_right c.are_still-still.result c.all_agree-agree.result c.if-still-agree.true)
