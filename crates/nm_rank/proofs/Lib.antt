@@ -6,6 +6,7 @@ mod DrawLemmas
 mod FinishLemmas
 mod Goes
 mod JournalLemmas
+mod LastLemmas
 mod LeaveLemmas
 mod NewLemmas
 mod PieceLemmas

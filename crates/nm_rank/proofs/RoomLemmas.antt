@@ -1,9 +1,10 @@
 -- The fields with more room.
-use Rattle.std.proofs.Common.{◌≡◌, ℕ, ◌≤◌, List, sym, subst, arith}
+use Rattle.std.proofs.Common.{◌≡◌, ℕ, ◌≤◌, List, sym, ◌∙◌, ap, subst, arith}
 use Rattle.nm_types.specs.Sizes.{Sizes}
 use Rattle.nm_history.specs.Known.{Known}
 use Rattle.nm_rank.specs.Journals.{JournalView}
 use Rattle.nm_request.specs.Requests.{Live, SameRequests}
+use Rattle.nm_sending.specs.Calls.{SameButRoom}
 use Rattle.nm_sending.specs.Departures.{SendingView}
 use Rattle.nm_receiving.specs.Receipts.{ReceivingView}
 use Rattle.nm_rank.specs.Fields.{AreFields}
@@ -70,3 +71,7 @@ fields-room me sizes j j' s s' r known q q' took pulled ej more es eq a =
     (subst (λ (x : Live). AreFields me sizes (longer j j'.spare) (roomy s s'.outbox.spare) r known x took
     pulled) (sym eq.requests)
     (fields-roomy me sizes j s r known q took pulled j'.spare s'.outbox.spare q'.spare more a)))
+
+-- other room, twice
+pub room-again : (s t u : SendingView) → SameButRoom s t → SameButRoom t u → SameButRoom s u
+room-again s t u first again = again ∙ ap (λ (x : SendingView). roomy x u.outbox.spare) first

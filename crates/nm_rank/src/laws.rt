@@ -9,6 +9,7 @@ ghost use Rattle.nm_receiving.specs.Received.{IsOwed};
 ghost use Rattle.nm_rank.specs.Ranks.{IsFresh, RankView};
 
 use crate::Rank;
+use crate::journal::Recorder;
 
 /// A rank can go on exactly while its clock is below 2^62 - 16, it has made fewer than 2^62 requests,
 /// and for each rank it has sent fewer than 2^50 messages and put fewer than 2^60 - 32 packets.
@@ -21,7 +22,7 @@ pub fn limits()
 /// A piece of a rank is due, which `Rank::is_piece_due` tells, exactly where there is a message of
 /// that rank that was sent by asking, that a receive took, and that by the history is not whole.
 /// So where none is due, the bytes of each such message are here, and no receive waits for them.
-pub fn pieces_are_due(rank: &Rank, from: u8)
+pub fn pieces_are_due<H: Recorder>(rank: &Rank<H>, from: u8)
     requires { from < rank.now.sizes.ranks }
     ensures owed { (nat_lt (drawn_from rank.now.receiving from)
         (length (due_pieces rank.now.events from)) ≡ true)

@@ -15,11 +15,12 @@ ghost use Rattle.nm_rank.specs.Pops.{PopsPacket, PopsPiece};
 ghost use Rattle.nm_rank.specs.Ranks.{IsFresh, known_from};
 
 use crate::Rank;
+use crate::journal::Recorder;
 use crate::stays::sides_stay;
 use nm_history::Happened;
 use nm_types::{Packet, Piece};
 
-impl Rank {
+impl<H: Recorder> Rank<H> {
     /// How many packets to a rank there are to send.
     pub fn waiting_for(&self, to: u8) -> u64
         requires to { to < self.now.sizes.ranks }

@@ -4,12 +4,14 @@
 //! answers what became of its requests. It takes the packets and pieces of the other ranks, and
 //! gives those that it has for them, one by one.
 //!
-//! `journal` is a rank's history with the clock that stamps its events.
+//! `journal` is a rank's history with the clock that stamps its events. What records it is a parameter
+//! of the rank (`journal::Recorder`): a `History` in memory, or `journal::Erased`, a history that exists
+//! in proofs alone.
 //!
 //! # What a contract sees
 //! Its history and clock, its sending and its receiving side (`nm_sending`, `nm_receiving`), what
 //! the packets of each rank tell (`nm_history::protocol`), its live requests, and the counts of packets,
-//! pieces and strays. Room is not seen.
+//! pieces and strays. Room is not seen, nor what records the history.
 //! # What is proved
 //! - Each call says exactly which events it adds, and which packets it puts for each rank: those
 //!   that the events call for. What it did is one relation, named after the call (`starts`, `claims`,

@@ -11,7 +11,7 @@ ghost use Rattle.nm_rank.specs.Journals.{IsJournal};
 ghost use Rattle.nm_rank.specs.New.{IsNew};
 ghost use Rattle.nm_rank.specs.Ranks.{IsFresh, count_of};
 
-use crate::journal::Journal;
+use crate::journal::{Journal, Recorder};
 use nm_history::History;
 use nm_receiving::Receiving;
 use nm_receiving::streams::Stream;
@@ -25,10 +25,10 @@ use std::marker::Model;
 const WORN: u64 = MAX_STAMP - 15;
 
 /// The core of one rank: everything that it does, without a thread and without a shared word.
-pub struct Rank {
+pub struct Rank<H: Recorder = History> {
     pub(crate) me: u8,
     pub(crate) shape: Shape,
-    pub(crate) journal: Journal,
+    pub(crate) journal: Journal<H>,
     pub(crate) requests: Requests,
     pub(crate) sending: Sending,
     pub(crate) receiving: Receiving,
@@ -64,7 +64,7 @@ impl Model for Leavings {
     ghost view = { λ left. tt };
 }
 
-impl Drop for Rank {
+impl<H: Recorder> Drop for Rank<H> {
     fn drop(self) {
         let Rank {
             me: _,
@@ -81,7 +81,7 @@ impl Drop for Rank {
     }
 }
 
-impl Model for Rank {
+impl<H: Recorder> Model for Rank<H> {
     ghost use Rattle.std.specs.Prelude.{map};
     ghost use Rattle.nm_rank.specs.Ranks.{RankView, seen};
     ghost use Rattle.nm_rank.specs.Fields.{AreFields};
@@ -115,13 +115,13 @@ fn new_streams(alloc: Global, ranks: u8) -> Result<Vec<Stream>, Memory>
     Ok(streams)
 }
 
-impl Rank {
+impl<H: Recorder> Rank<H> {
     /// A rank at which nothing happened, in a run of these sizes.
-    pub fn new(alloc: Global, shape: Shape, me: u8) -> Result<Rank, Memory>
+    pub fn new(alloc: Global, shape: Shape, me: u8) -> Result<Self, Memory>
         requires { me < shape.ranks }
         ensures { IfOk result (IsNew shape me) }
     {
-        Rank::with_capacity(alloc, shape, me, 0, 0)
+        Self::with_capacity(alloc, shape, me, 0, 0)
     }
 
     /// The same, with room for so many events, and for so many requests, of sends one half and of
@@ -132,7 +132,7 @@ impl Rank {
         me: u8,
         events: usize,
         requests: usize,
-    ) -> Result<Rank, Memory>
+    ) -> Result<Self, Memory>
         requires { me < shape.ranks }
         ensures { IfOk result (IsNew shape me) }
     {
@@ -168,8 +168,8 @@ impl Rank {
 
     /// What happened, oldest first. A message that has no bytes, was sent by asking and was taken by a
     /// receive is here.
-    pub fn history(&self) -> &History
-        ensures events { result.now.events ≡ self.now.events }
+    pub fn history(&self) -> &H
+        ensures events { H.events result.now ≡ self.now.events }
         ensures right { AreRight self.now.sizes.ranks [] self.now.events }
         ensures stamped { IsJournal self.now.events self.now.clock }
         ensures empty { EmptyAreHere self.now.events }
@@ -178,8 +178,8 @@ impl Rank {
     }
 
     /// What happened, oldest first, and what the rank kept beside it, when it is used no more.
-    pub fn into_parts(self) -> (History, Leavings)
-        ensures events { result.0.events ≡ self.events }
+    pub fn into_parts(self) -> (H, Leavings)
+        ensures events { H.events result.0 ≡ self.events }
     {
         let Rank {
             me: _,
@@ -203,8 +203,8 @@ impl Rank {
     }
 
     /// What happened, oldest first, when the rank is used no more.
-    pub fn into_history(self) -> History
-        ensures events { result.events ≡ self.events }
+    pub fn into_history(self) -> H
+        ensures events { H.events result ≡ self.events }
     {
         let (history, _) = self.into_parts();
         history

@@ -26,7 +26,7 @@ ghost use Rattle.nm_rank.specs.Requests.{cancel_events, cancel_answer, offers_ca
 ghost use Rattle.nm_rank.specs.Requests.{Finishes, WasSent, withdrawal_of};
 ghost use Rattle.nm_rank.specs.Steps.{Cancels, Records};
 
-use crate::journal::Journal;
+use crate::journal::{Journal, Recorder};
 use crate::room::make_room;
 use crate::stays::sides_stay;
 use crate::{CancelFault, Cancelled, FinishFault, Rank, State};
@@ -37,7 +37,11 @@ use nm_sending::Sending;
 use nm_types::{Answer, Memory, Peer, Seen, TagPick};
 
 /// Cancels a receive, where it is unpaired.
-fn cancel_receive(journal: &mut Journal, receiving: &mut Receiving, number: u64) -> Cancelled
+fn cancel_receive<H: Recorder>(
+    journal: &mut Journal<H>,
+    receiving: &mut Receiving,
+    number: u64,
+) -> Cancelled
     requires known { number < length receiving.old.receives }
     requires room { 0 < journal.old.spare }
     requires in_time { journal.old.clock < MAX_STAMP }
@@ -66,7 +70,12 @@ fn cancel_receive(journal: &mut Journal, receiving: &mut Receiving, number: u64)
 }
 
 /// Asks the receiver of a send to withdraw it, the first time.
-fn recall(journal: &mut Journal, sending: &mut Sending, to: u8, n: u64) -> Result<(), Memory>
+fn recall<H: Recorder>(
+    journal: &mut Journal<H>,
+    sending: &mut Sending,
+    to: u8,
+    n: u64,
+) -> Result<(), Memory>
     requires to { to < length sending.old.outbox.popped }
     requires few { put_to sending.old.outbox to < MAX_PACKETS }
     requires room { 0 < journal.old.spare }
@@ -99,7 +108,7 @@ fn recall(journal: &mut Journal, sending: &mut Sending, to: u8, n: u64) -> Resul
     Ok(())
 }
 
-impl Rank {
+impl<H: Recorder> Rank<H> {
     /// Whether a request is complete (MPI 3.1, section 3.7.3).
     pub fn test(&self, r: Req) -> Result<State, NoSuch>
         ensures no_such { (kind_of self.now.requests r ≡ None) ↔ (result ≡ Err (record {})) }

@@ -5,7 +5,7 @@ ghost use Rattle.nm_types.specs.declared.limits.TheConstants.{MAX_STAMP};
 ghost use Rattle.nm_request.specs.Requests.{SameRequests};
 ghost use Rattle.nm_sending.specs.Calls.{SameButRoom};
 
-use crate::journal::Journal;
+use crate::journal::{Journal, Recorder};
 use nm_request::Requests;
 use nm_sending::Sending;
 use nm_types::Memory;
@@ -13,8 +13,8 @@ use nm_types::Memory;
 /// Makes room for two events beside that of each message that has not left, for one packet, and for
 /// one request.
 #[inline(always)]
-pub(crate) fn make_room(
-    journal: &mut Journal,
+pub(crate) fn make_room<H: Recorder>(
+    journal: &mut Journal<H>,
     sending: &mut Sending,
     requests: &mut Requests,
 ) -> Result<(), Memory>

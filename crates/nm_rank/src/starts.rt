@@ -17,7 +17,7 @@ ghost use Rattle.nm_rank.specs.Sends.{next_send};
 ghost use Rattle.nm_rank.specs.Steps.{Claims, StartsMatched, StartsReceive, StartsSend};
 
 use crate::Rank;
-use crate::journal::Journal;
+use crate::journal::{Journal, Recorder};
 use crate::room::make_room;
 use crate::stays::sides_stay;
 use nm_history::Happened;
@@ -41,7 +41,7 @@ fn mode(eager: u16, sync: bool, len: u32) -> How
 /// What follows where a receive took this message: one that was sent by asking is cleared, and is
 /// here where it has no bytes.
 #[inline(always)]
-fn follow(journal: &mut Journal, sending: &mut Sending, taken: Option<Arrival>)
+fn follow<H: Recorder>(journal: &mut Journal<H>, sending: &mut Sending, taken: Option<Arrival>)
     requires sender { IfSome taken (λ a. a.env.from < length sending.old.outbox.popped) }
     requires few { (to : ℕ) → to < length sending.old.outbox.popped →
         put_to sending.old.outbox to < MAX_PACKETS }
@@ -67,7 +67,7 @@ fn follow(journal: &mut Journal, sending: &mut Sending, taken: Option<Arrival>)
     sending.answer(a.env.from, journal.clock(), What::Clear { n: a.n });
 }
 
-impl Rank {
+impl<H: Recorder> Rank<H> {
     /// Starts a send of the command of a line (MPI 3.1, section 3.4; with `sync`, in synchronous
     /// mode), and answers its request. A message that is longer than the eager limit, or
     /// synchronous, is sent by asking.

@@ -22,7 +22,7 @@ ghost use Rattle.nm_rank.specs.Ranks.{IsFresh, count_of};
 ghost use Rattle.nm_rank.specs.Takes.{MayBeAccepted, Accepts, reply_of};
 
 use crate::Rank;
-use crate::journal::Journal;
+use crate::journal::{Journal, Recorder};
 use crate::room::make_room;
 use crate::stays::sides_stay;
 use nm_history::Happened;
@@ -32,7 +32,7 @@ use nm_sending::Sending;
 use nm_types::{Arrival, Memory, Packet, Piece, What};
 
 /// Records that a message arrived, if one did.
-fn note_arrival(journal: &mut Journal, arrival: Option<Arrival>)
+fn note_arrival<H: Recorder>(journal: &mut Journal<H>, arrival: Option<Arrival>)
     requires room { 0 < journal.old.spare }
     requires in_time { journal.old.clock < MAX_STAMP }
     ensures events { journal.new.events ≡ journal.old.events
@@ -48,7 +48,7 @@ fn note_arrival(journal: &mut Journal, arrival: Option<Arrival>)
 }
 
 /// Records that message `n` of a rank is here whole, if it is.
-fn note_whole(journal: &mut Journal, whole: bool, from: u8, n: u64)
+fn note_whole<H: Recorder>(journal: &mut Journal<H>, whole: bool, from: u8, n: u64)
     requires room { 0 < journal.old.spare }
     requires in_time { journal.old.clock < MAX_STAMP }
     ensures events { journal.new.events
@@ -62,7 +62,7 @@ fn note_whole(journal: &mut Journal, whole: bool, from: u8, n: u64)
 }
 
 /// Records what a packet of a message made happen.
-fn note_message(journal: &mut Journal, from: u8, made: Made)
+fn note_message<H: Recorder>(journal: &mut Journal<H>, from: u8, made: Made)
     requires room { 2 ≤ journal.old.spare }
     requires in_time { journal.old.clock + 2 ≤ MAX_STAMP }
     ensures events { journal.new.events
@@ -76,7 +76,12 @@ fn note_message(journal: &mut Journal, from: u8, made: Made)
 
 /// Records what a packet makes happen that continues its stream, before it is learned, at a rank where
 /// what it asks for is done at once or is not.
-fn note_events(journal: &mut Journal, stream: &Stream, p: &Packet, done_at_once: bool)
+fn note_events<H: Recorder>(
+    journal: &mut Journal<H>,
+    stream: &Stream,
+    p: &Packet,
+    done_at_once: bool,
+)
     requires room { 2 ≤ journal.old.spare }
     requires in_time { journal.old.clock + 2 ≤ MAX_STAMP }
     ensures events { (h : List Event) → done_at_once ≡ is_done_at_once h p.now.from p.now.what
@@ -104,7 +109,12 @@ fn note_events(journal: &mut Journal, stream: &Stream, p: &Packet, done_at_once:
 }
 
 /// Sets the clock forward to a packet's stamp, and records what the packet makes happen.
-fn note_packet(journal: &mut Journal, stream: &Stream, p: &Packet, done_at_once: bool)
+fn note_packet<H: Recorder>(
+    journal: &mut Journal<H>,
+    stream: &Stream,
+    p: &Packet,
+    done_at_once: bool,
+)
     requires room { 2 ≤ journal.old.spare }
     requires in_time { journal.old.clock + 2 ≤ MAX_STAMP }
     requires early { p.now.stamp + 2 ≤ MAX_STAMP }
@@ -182,7 +192,7 @@ fn reply(sending: &mut Sending, p: &Packet, n: u64, done_at_once: bool, stamp: u
     }
 }
 
-impl Rank {
+impl<H: Recorder> Rank<H> {
     /// Takes the next packet of a rank, or leaves everything as it was. The clock is set forward to
     /// its stamp first. One that does not continue its stream is counted as a stray: beside the clock
     /// and the counts nothing changes.

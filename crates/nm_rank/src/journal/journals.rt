@@ -5,18 +5,19 @@ ghost use Rattle.nm_types.specs.declared.limits.TheConstants.{MAX_STAMP};
 ghost use Rattle.nm_history.specs.Clock.{stamped};
 ghost use Rattle.nm_rank.specs.Journals.{IsJournal};
 
+use crate::journal::Recorder;
 use nm_history::{Event, Happened, History};
 use nm_types::{MAX_STAMP, Memory};
 use std::alloc::Global;
 use std::marker::Model;
 
 /// What happened at a rank, and its clock, which is 0 at the start.
-pub struct Journal {
-    history: History,
+pub struct Journal<H: Recorder = History> {
+    history: H,
     clock: u64,
 }
 
-impl Drop for Journal {
+impl<H: Recorder> Drop for Journal<H> {
     fn drop(self) {
         let Journal {
             history: _,
@@ -25,25 +26,25 @@ impl Drop for Journal {
     }
 }
 
-impl Model for Journal {
+impl<H: Recorder> Model for Journal<H> {
     ghost use Rattle.nm_rank.specs.Journals.{IsJournal, JournalView};
 
     ghost Value = { JournalView };
 
     ghost view = { λ j.
-        record { events = j.history.events; clock = j.clock; spare = j.history.spare } };
+        record { events = H.events j.history; clock = j.clock; spare = H.spare j.history } };
 
-    ghost invariant = { λ j. IsJournal j.history.events j.clock };
+    ghost invariant = { λ j. IsJournal (H.events j.history) j.clock };
 }
 
-impl Journal {
+impl<H: Recorder> Journal<H> {
     /// Nothing happened.
     pub fn new(alloc: Global) -> Self
         ensures events { result.events ≡ [] }
         ensures clock { result.clock ≡ 0 }
     {
         Journal {
-            history: History::new(alloc),
+            history: H::empty(alloc),
             clock: 0,
         }
     }
@@ -57,16 +58,16 @@ impl Journal {
     }
 
     /// What happened, oldest first.
-    pub fn history(&self) -> &History
-        ensures events { result.now.events ≡ self.now.events }
+    pub fn history(&self) -> &H
+        ensures events { H.events result.now ≡ self.now.events }
         ensures lawful { IsJournal self.now.events self.now.clock }
     {
         &self.history
     }
 
     /// What happened, oldest first, when the journal is used no more.
-    pub fn into_history(self) -> History
-        ensures events { result.events ≡ self.events }
+    pub fn into_history(self) -> H
+        ensures events { H.events result ≡ self.events }
         ensures lawful { IsJournal self.events self.clock }
     {
         let Journal { history, clock: _ } = self;
@@ -79,7 +80,7 @@ impl Journal {
         ensures kept { self.old.spare ≤ self.new.spare }
         ensures ok { OnOk result (extra ≤ self.new.spare) }
     {
-        self.history.reserve(extra)
+        self.history.make_room(extra)
     }
 
     /// Sets the clock forward to a packet's stamp, if it isn't there yet.
@@ -102,6 +103,6 @@ impl Journal {
     {
         self.clock += 1;
         let stamp = self.clock;
-        self.history.push_reserved(Event { stamp, what });
+        self.history.put(Event { stamp, what });
     }
 }

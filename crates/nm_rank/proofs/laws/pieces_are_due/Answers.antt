@@ -7,7 +7,7 @@ use Rattle.nm_rank.specs.Ranks.{RankView}
 use Rattle.nm_rank.proofs.laws.pieces_are_due.Goals as goal
 
 pub returns : goal.returns
-returns c =
+returns g c =
     let a = c.rank.inside in
     let from = c.args.from in
     let received = c.rank.invariant.history.received in

@@ -7,14 +7,14 @@ use Rattle.nm_rank.proofs.TakeLemmas.{at-most-one, two-events}
 use Rattle.nm_rank.proofs.takes.note_message.Goals as goal
 
 pub returns-clause-events : goal.returns-clause-events
-returns-clause-events c = let made = c.args.made in
+returns-clause-events g c = let made = c.args.made in
     two-events c.args.journal.now.events c.note_arrival.new.journal.events c.note_whole.new.journal.events
     c.args.journal.now.clock c.note_arrival.new.journal.clock (option_to_list (option_map Arrive made.arrival))
     (whole_if made.whole c.args.from made.n)
     c.note_arrival.ensures.events c.note_arrival.ensures.clock c.note_whole.ensures.events
 
 pub returns-clause-clock : goal.returns-clause-clock
-returns-clause-clock c = let made = c.args.made in
+returns-clause-clock g c = let made = c.args.made in
     let first = c.note_arrival.ensures.clock in
     let second = c.note_whole.ensures.clock in
     omega (
@@ -26,7 +26,7 @@ returns-clause-clock c = let made = c.args.made in
     )
 
 pub returns-clause-room : goal.returns-clause-room
-returns-clause-room c = let made = c.args.made in
+returns-clause-room g c = let made = c.args.made in
     let first = c.note_arrival.ensures.room in
     let second = c.note_whole.ensures.room in
     let one = at-most-one (option_map Arrive made.arrival) in

@@ -6,6 +6,8 @@ use Rattle.nm_sending.specs.Departures.{SendingView}
 use Rattle.nm_sending.specs.Sent.{AreSent}
 use Rattle.nm_rank.specs.declared.answers.Cancelled.TheVariants.{Asked}
 use Rattle.nm_rank.specs.Calls.{Happens}
+use Rattle.nm_rank.specs.Fields.{AreFields}
+use Rattle.nm_rank.specs.Journals.{JournalView}
 use Rattle.nm_rank.specs.Ranks.{RankView, seen}
 use Rattle.nm_rndv.specs.Offers.{Offering}
 use Rattle.nm_rank.specs.Requests.{cancel_events, offers_cancelled}
@@ -16,11 +18,17 @@ use Rattle.nm_rank.proofs.PutLemmas.{cancel-leaves, puts-none}
 use Rattle.nm_rank.proofs.ViewLemmas.{happens-room, same-events, same-offers}
 use Rattle.nm_rank.proofs.FinishLemmas.{found, was-started}
 use Rattle.nm_rank.proofs.Goes.{sent-outbox}
-use Rattle.nm_rank.proofs.RoomLemmas.{fields-room}
+use Rattle.nm_rank.proofs.RoomLemmas.{fields-room, room-again}
 use Rattle.nm_rank.proofs.ranks.Rank.cancel.Goals as goal
 
+pub invariant_of-self : goal.invariant_of-self
+invariant_of-self g c = let a = c.self.inside in
+    fields-room a.me a.shape a.journal _ a.sending _ a.receiving _ a.requests _ a.took.items a.pulled.items
+    c.make_room.ensures.events c.make_room.ensures.kept c.make_room.ensures.letters
+    c.make_room.ensures.requests c.self.invariant
+
 pub cancel_receive-requires-clause-known : goal.cancel_receive-requires-clause-known
-cancel_receive-requires-clause-known c = let a = c.self.inside in
+cancel_receive-requires-clause-known g c = let a = c.self.inside in
     let live : kind_of a.requests c.args.r ≡ Some (kind.Receive c.in-Receive.number) =
     found (kind_of a.requests c.args.r) c.in-Ok.kind _ (sym c.in-Ok.is ∙ c.get.ensures.kind)
     ∙ ap Some c.in-Receive.is in
@@ -28,7 +36,7 @@ cancel_receive-requires-clause-known c = let a = c.self.inside in
     (c.self.invariant.requests.receives c.args.r c.in-Receive.number live)
 
 pub invariant_of-self-in-Receive : goal.invariant_of-self-in-Receive
-invariant_of-self-in-Receive c =
+invariant_of-self-in-Receive g c =
     let a = c.self.inside in
     let roomy = fields-room a.me a.shape a.journal c.make_room.new.journal a.sending c.make_room.new.sending
     a.receiving _ a.requests c.make_room.new.requests a.took.items a.pulled.items
@@ -42,8 +50,19 @@ invariant_of-self-in-Receive c =
     c.sides_stay.ensures.sent c.cancel_receive.ensures.kept c.cancel_receive.ensures.same.0
     c.cancel_receive.ensures.same.1
 
+pub invariant_of-self-in_err-recall-in-Send : goal.invariant_of-self-in_err-recall-in-Send
+invariant_of-self-in_err-recall-in-Send g c = let a = c.self.inside in
+    subst (λ (j : JournalView). AreFields a.me a.shape j c.recall.new.sending a.receiving
+    (map (λ s. s.known) a.streams.items) c.make_room.new.requests a.took.items a.pulled.items)
+    (sym c.in_err-recall-in-Send.ensures.same)
+    (fields-room a.me a.shape a.journal _ a.sending _ a.receiving _ a.requests _ a.took.items a.pulled.items
+    c.make_room.ensures.events c.make_room.ensures.kept
+    (room-again a.sending c.make_room.new.sending c.recall.new.sending c.make_room.ensures.letters
+    c.in_err-recall-in-Send.ensures.err)
+    c.make_room.ensures.requests c.self.invariant)
+
 pub recall-requires-clause-sent : goal.recall-requires-clause-sent
-recall-requires-clause-sent c = let a = c.self.inside in
+recall-requires-clause-sent g c = let a = c.self.inside in
     let live : kind_of a.requests c.args.r ≡ Some (kind.Send c.in-Send.to c.in-Send.n) =
     found (kind_of a.requests c.args.r) c.in-Ok.kind _ (sym c.in-Ok.is ∙ c.get.ensures.kind)
     ∙ ap Some c.in-Send.is in
@@ -55,7 +74,7 @@ recall-requires-clause-sent c = let a = c.self.inside in
     }
 
 pub invariant_of-self-in-Send : goal.invariant_of-self-in-Send
-invariant_of-self-in-Send c =
+invariant_of-self-in-Send g c =
     let a = c.self.inside in
     let roomy = fields-room a.me a.shape a.journal c.make_room.new.journal a.sending c.make_room.new.sending
     a.receiving _ a.requests c.make_room.new.requests a.took.items a.pulled.items
@@ -75,7 +94,7 @@ invariant_of-self-in-Send c =
     puts.me puts.popped
 
 pub returns-in_ok-recall-in-Send-clause-cancels : goal.returns-in_ok-recall-in-Send-clause-cancels
-returns-in_ok-recall-in-Send-clause-cancels c =
+returns-in_ok-recall-in-Send-clause-cancels g c =
     let a = c.self.inside in
     let known = map (λ s. s.known) a.streams.items in
     let roomy = fields-room a.me a.shape a.journal c.make_room.new.journal a.sending c.make_room.new.sending
@@ -127,7 +146,7 @@ returns-in_ok-recall-in-Send-clause-cancels c =
     })
 
 pub returns-in-Receive-clause-cancels : goal.returns-in-Receive-clause-cancels
-returns-in-Receive-clause-cancels c =
+returns-in-Receive-clause-cancels g c =
     let a = c.self.inside in
     let known = map (λ s. s.known) a.streams.items in
     let roomy = fields-room a.me a.shape a.journal c.make_room.new.journal a.sending c.make_room.new.sending

@@ -6,7 +6,7 @@ use Rattle.nm_rank.proofs.PieceLemmas.{all_left, none_next}
 use Rattle.nm_rank.proofs.ranks.Rank.front_piece.Goals as goal
 
 pub returns-clause-left : goal.returns-clause-left
-returns-clause-left c =
+returns-clause-left g c =
     let a = c.self.inside in
     let known = map (λ s. s.known) a.streams.items in
     let sent = c.self.invariant.history.sent in

@@ -8,17 +8,17 @@ use Rattle.nm_rank.proofs.PieceLemmas.{all_left, is_none, isnt_some, none_goes, 
 use Rattle.nm_rank.proofs.ranks.Rank.has_piece.Goals as goal
 
 pub returns-clause-some : goal.returns-clause-some
-returns-clause-some c =
+returns-clause-some g c =
     subst (λ (v : RankView). c.is_some.result ≡ true → IsSome (next_offered v.sending.offers)) c.self.view_is
     (λ is. some_there c.piece_to.result _ c.piece_to.ensures.to (sym c.is_some.ensures ∙ is))
 
 pub returns-clause-none : goal.returns-clause-none
-returns-clause-none c =
+returns-clause-none g c =
     subst (λ (v : RankView). c.is_some.result ≡ false → next_offered v.sending.offers ≡ None) c.self.view_is
     (λ is. none_there c.piece_to.result _ c.piece_to.ensures.to (sym c.is_some.ensures ∙ is))
 
 pub returns-clause-out : goal.returns-clause-out
-returns-clause-out c =
+returns-clause-out g c =
     let e = c.piece_to.ensures in
     subst (λ (v : RankView). (c.is_some.result ≡ false) ↔ AllOut v.sending.offers) c.self.view_is (
       λ is. e.none.0 (is_none c.piece_to.result (sym c.is_some.ensures ∙ is)),
@@ -26,7 +26,7 @@ returns-clause-out c =
     )
 
 pub returns-clause-left : goal.returns-clause-left
-returns-clause-left c =
+returns-clause-left g c =
     let a = c.self.inside in
     let known = map (λ s. s.known) a.streams.items in
     let sent = c.self.invariant.history.sent in

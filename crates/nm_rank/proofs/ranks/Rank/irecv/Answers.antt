@@ -5,9 +5,10 @@ use Rattle.nm_history.specs.declared.events.Happened.TheVariants as event
 use Rattle.nm_history.specs.Matching.{first_message, matched_pairs}
 use Rattle.nm_history.specs.Sends.{receives}
 use Rattle.nm_sending.specs.Departures.{SendingView}
-use Rattle.nm_receiving.specs.Receipts.{taken_events}
+use Rattle.nm_receiving.specs.Receipts.{ReceivingView, taken_events}
 use Rattle.nm_history.specs.Clock.{stamped}
 use Rattle.nm_rank.specs.Calls.{called_by, clearance_of}
+use Rattle.nm_rank.specs.Fields.{AreFields}
 use Rattle.nm_rank.specs.Ranks.{RankView, seen}
 use Rattle.nm_rank.specs.Steps.{StartsReceive}
 use Rattle.nm_rank.proofs.ClearLemmas.{post-calls, starts-receive, starts-as}
@@ -17,13 +18,22 @@ use Rattle.nm_rank.proofs.ViewLemmas.{same-offers}
 use Rattle.nm_rank.proofs.ranks.Rank.irecv.Goals as goal
 
 pub invariant_of-self : goal.invariant_of-self
-invariant_of-self c = let a = c.self.inside in
+invariant_of-self g c = let a = c.self.inside in
     fields-room a.me a.shape a.journal _ a.sending _ a.receiving _ a.requests _ a.took.items a.pulled.items
     c.make_room.ensures.events c.make_room.ensures.kept c.make_room.ensures.letters
     c.make_room.ensures.requests c.self.invariant
 
+pub invariant_of-self-in_err-started : goal.invariant_of-self-in_err-started
+invariant_of-self-in_err-started g c = let a = c.self.inside in
+    subst (λ (r : ReceivingView). AreFields a.me a.shape c.make_room.new.journal c.make_room.new.sending r
+    (map (λ s. s.known) a.streams.items) c.make_room.new.requests a.took.items a.pulled.items)
+    (sym c.in_err-started.ensures.err)
+    (fields-room a.me a.shape a.journal _ a.sending _ a.receiving _ a.requests _ a.took.items a.pulled.items
+    c.make_room.ensures.events c.make_room.ensures.kept c.make_room.ensures.letters
+    c.make_room.ensures.requests c.self.invariant)
+
 pub invariant_of-self-2 : goal.invariant_of-self-2
-invariant_of-self-2 c =
+invariant_of-self-2 g c =
     let a = c.self.inside in
     let roomy = fields-room a.me a.shape a.journal c.make_room.new.journal a.sending c.make_room.new.sending
     a.receiving _ a.requests c.make_room.new.requests a.took.items a.pulled.items
@@ -51,7 +61,7 @@ invariant_of-self-2 c =
     (rw (c.unwrap.ensures) at c.add-2.ensures.ok)
 
 pub returns-clause-starts : goal.returns-clause-starts
-returns-clause-starts c =
+returns-clause-starts g c =
     let a = c.self.inside in
     let h = a.journal.events in
     let number : c.in_ok-started.started.number ≡ length (receives h) =

@@ -6,7 +6,7 @@ use Rattle.nm_rank.specs.Ranks.{RankView}
 use Rattle.nm_rank.proofs.ranks.Rank.is_any_piece_due.Goals as goal
 
 pub returns-clause-none : goal.returns-clause-none
-returns-clause-none c none from within =
+returns-clause-none g c none from within =
     let a = c.self.inside in
     let is = c.is_any_due.ensures a.journal.events c.self.invariant.history.received in
     let inside : from < a.receiving.sizes.ranks = omega (
@@ -19,7 +19,7 @@ returns-clause-none c none from within =
     (is.0 none from inside)
 
 pub returns-clause-some : goal.returns-clause-some
-returns-clause-some c all =
+returns-clause-some g c all =
     let a = c.self.inside in
     let is = c.is_any_due.ensures a.journal.events c.self.invariant.history.received in
     is.1 (λ from within.

@@ -10,7 +10,7 @@ use Rattle.nm_rank.proofs.ranks.Rank.is_worn.Goals.{then-clock-ge-WORN, else-clo
 use Rattle.nm_rank.proofs.ranks.Rank.is_worn.Goals as goal
 
 pub returns-else-is_worn : goal.returns-else-is_worn
-returns-else-is_worn c = elim c.if-clock-ge-WORN.branch [
+returns-else-is_worn g c = elim c.if-clock-ge-WORN.branch [
   | then-clock-ge-WORN w ↦ search (rules, w.value-is, c.if-is_worn.false, w.if-clock-ge-WORN.true)
   | else-clock-ge-WORN w ↦
       let a = c.self.inside in

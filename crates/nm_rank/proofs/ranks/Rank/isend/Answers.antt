@@ -14,18 +14,26 @@ use Rattle.nm_rank.specs.Sends.{next_send}
 use Rattle.nm_rank.specs.Steps.{StartsSend}
 use Rattle.nm_rank.proofs.Goes.{length-sent}
 use Rattle.nm_rank.proofs.ViewLemmas.{same-offers, starts-send}
-use Rattle.nm_rank.proofs.RoomLemmas.{fields-room}
+use Rattle.nm_rank.proofs.RoomLemmas.{fields-room, room-again}
 use Rattle.nm_rank.proofs.SendLemmas.{order-asked, fields-send}
 use Rattle.nm_rank.proofs.ranks.Rank.isend.Goals as goal
 
 pub invariant_of-self : goal.invariant_of-self
-invariant_of-self c = let a = c.self.inside in
+invariant_of-self g c = let a = c.self.inside in
     fields-room a.me a.shape a.journal _ a.sending _ a.receiving _ a.requests _ a.took.items a.pulled.items
     c.make_room.ensures.events c.make_room.ensures.kept c.make_room.ensures.letters
     c.make_room.ensures.requests c.self.invariant
 
+pub invariant_of-self-in_err-n : goal.invariant_of-self-in_err-n
+invariant_of-self-in_err-n g c = let a = c.self.inside in
+    fields-room a.me a.shape a.journal _ a.sending _ a.receiving _ a.requests _ a.took.items a.pulled.items
+    c.make_room.ensures.events c.make_room.ensures.kept
+    (room-again a.sending c.make_room.new.sending c.send.new.self c.make_room.ensures.letters
+    c.in_err-n.ensures.err)
+    c.make_room.ensures.requests c.self.invariant
+
 pub invariant_of-self-2 : goal.invariant_of-self-2
-invariant_of-self-2 c =
+invariant_of-self-2 g c =
     let a = c.self.inside in
     let roomy = fields-room a.me a.shape a.journal c.make_room.new.journal a.sending c.make_room.new.sending
     a.receiving _ a.requests c.make_room.new.requests a.took.items a.pulled.items
@@ -48,7 +56,7 @@ invariant_of-self-2 c =
     (rw (c.unwrap.ensures) at c.add-2.ensures.ok)
 
 pub returns-clause-starts : goal.returns-clause-starts
-returns-clause-starts c =
+returns-clause-starts g c =
     let a = c.self.inside in
     let to = c.args.to in
     let body = c.args.body in
@@ -91,7 +99,7 @@ returns-clause-starts c =
     })
 
 pub send-requires-clause-room : goal.send-requires-clause-room
-send-requires-clause-room c =
+send-requires-clause-room g c =
     let a = c.self.inside in
     let fresh = subst (λ (v : RankView). IsFresh v) (sym c.self.view_is) c.requires.fresh in
     let within : c.args.to < a.shape.ranks =

@@ -6,7 +6,7 @@ use Rattle.nm_rank.proofs.LeaveLemmas.{fields-leave, popped-same}
 use Rattle.nm_rank.proofs.ranks.Rank.pop_front.Goals as goal
 
 pub invariant_of-self : goal.invariant_of-self
-invariant_of-self c =
+invariant_of-self g c =
     let a = c.self.inside in
     let first = subst (λ (v : RankView). 0 < length v.sending.outbox.letters) (sym c.self.view_is)
     c.requires.first in
@@ -18,7 +18,7 @@ invariant_of-self c =
     same.0 same.1 (ap (λ (o : Offering). o.order) c.pop_front.ensures.offers) c.sides_stay.ensures.received
 
 pub invariant_of-self-in_default : goal.invariant_of-self-in_default
-invariant_of-self-in_default c =
+invariant_of-self-in_default g c =
     let a = c.self.inside in
     let first = subst (λ (v : RankView). 0 < length v.sending.outbox.letters) (sym c.self.view_is)
     c.requires.first in

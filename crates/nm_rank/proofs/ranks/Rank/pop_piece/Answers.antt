@@ -7,7 +7,7 @@ use Rattle.nm_rank.proofs.LeaveLemmas.{fields-leave, order-popped}
 use Rattle.nm_rank.proofs.ranks.Rank.pop_piece.Goals as goal
 
 pub invariant_of-self : goal.invariant_of-self
-invariant_of-self c =
+invariant_of-self g c =
     let a = c.self.inside in
     let first = subst (λ (v : RankView). IsSome (next_offered v.sending.offers)) (sym c.self.view_is)
     c.requires.next in
@@ -21,7 +21,7 @@ invariant_of-self c =
     c.sides_stay.ensures.received
 
 pub invariant_of-self-in_default : goal.invariant_of-self-in_default
-invariant_of-self-in_default c =
+invariant_of-self-in_default g c =
     let a = c.self.inside in
     let first = subst (λ (v : RankView). IsSome (next_offered v.sending.offers)) (sym c.self.view_is)
     c.requires.next in

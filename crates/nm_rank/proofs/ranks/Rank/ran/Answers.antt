@@ -4,13 +4,13 @@ use Rattle.nm_rank.proofs.RoomLemmas.{fields-room}
 use Rattle.nm_rank.proofs.ranks.Rank.ran.Goals as goal
 
 pub invariant_of-self : goal.invariant_of-self
-invariant_of-self c = let a = c.self.inside in
+invariant_of-self g c = let a = c.self.inside in
     fields-room a.me a.shape a.journal _ a.sending a.sending a.receiving _ a.requests a.requests a.took.items
     a.pulled.items c.reserve.ensures.same c.reserve.ensures.kept refl
     (record { requests = refl; room = omega arith }) c.self.invariant
 
 pub invariant_of-self-2 : goal.invariant_of-self-2
-invariant_of-self-2 c =
+invariant_of-self-2 g c =
     let a = c.self.inside in
     let roomy = fields-room a.me a.shape a.journal c.reserve.new.self a.sending a.sending a.receiving _
     a.requests a.requests a.took.items a.pulled.items c.reserve.ensures.same c.reserve.ensures.kept refl

@@ -19,13 +19,13 @@ use Rattle.nm_rank.proofs.ViewLemmas.{same-events, same-clock}
 use Rattle.nm_rank.proofs.ranks.Rank.take_next.Goals as goal
 
 pub invariant_of-self : goal.invariant_of-self
-invariant_of-self c = let a = c.self.inside in
+invariant_of-self g c = let a = c.self.inside in
     fields-room a.me a.shape a.journal _ a.sending _ a.receiving _ a.requests _ a.took.items a.pulled.items
     c.make_room.ensures.events c.make_room.ensures.kept c.make_room.ensures.letters
     c.make_room.ensures.requests c.self.invariant
 
 pub invariant_of-self-in_err-reserve : goal.invariant_of-self-in_err-reserve
-invariant_of-self-in_err-reserve c = let a = c.self.inside in
+invariant_of-self-in_err-reserve g c = let a = c.self.inside in
     subst (λ (k : List Known). AreFields a.me a.shape c.make_room.new.journal c.make_room.new.sending
     a.receiving k c.make_room.new.requests a.took.items a.pulled.items)
     (sym (known-same a.streams.items c.args.p.now.from c.index_mut-stream.result.now c.reserve.new.self
@@ -35,7 +35,7 @@ invariant_of-self-in_err-reserve c = let a = c.self.inside in
     c.make_room.ensures.requests c.self.invariant)
 
 pub returns-in_err-reserve-clause-err : goal.returns-in_err-reserve-clause-err
-returns-in_err-reserve-clause-err c = let a = c.self.inside in
+returns-in_err-reserve-clause-err g c = let a = c.self.inside in
     let same = seen-room a.me a.shape a.journal c.make_room.new.journal a.sending c.make_room.new.sending
     a.receiving (map known_of a.streams.items)
     (map known_of (slice_set a.streams.items c.args.p.now.from c.reserve.new.self))
@@ -46,7 +46,7 @@ returns-in_err-reserve-clause-err c = let a = c.self.inside in
     search (rules, same)
 
 pub accept-requires : goal.accept-requires
-accept-requires c = let a = c.self.inside in
+accept-requires g c = let a = c.self.inside in
     let roomy = fields-room a.me a.shape a.journal c.make_room.new.journal a.sending c.make_room.new.sending
     a.receiving _ a.requests c.make_room.new.requests a.took.items a.pulled.items
     c.make_room.ensures.events c.make_room.ensures.kept c.make_room.ensures.letters
@@ -66,7 +66,7 @@ accept-requires c = let a = c.self.inside in
     }
 
 pub invariant_of-self-in_err-done_at_once : goal.invariant_of-self-in_err-done_at_once
-invariant_of-self-in_err-done_at_once c = let a = c.self.inside in
+invariant_of-self-in_err-done_at_once g c = let a = c.self.inside in
     subst (λ (s : SendingView). AreFields a.me a.shape c.make_room.new.journal s c.accept.new.receiving
     (map known_of (slice_set a.streams.items c.args.p.now.from c.reserve.new.self)) c.make_room.new.requests
     a.took.items a.pulled.items) (sym c.in_err-done_at_once.ensures.same)
@@ -82,7 +82,7 @@ invariant_of-self-in_err-done_at_once c = let a = c.self.inside in
     c.make_room.ensures.requests c.self.invariant)))
 
 pub returns-in_err-done_at_once-clause-err : goal.returns-in_err-done_at_once-clause-err
-returns-in_err-done_at_once-clause-err c = let a = c.self.inside in
+returns-in_err-done_at_once-clause-err g c = let a = c.self.inside in
     let same = ap (λ (s : SendingView). seen a.me a.shape c.make_room.new.journal s c.accept.new.receiving
     (map known_of (slice_set a.streams.items c.args.p.now.from c.reserve.new.self)) c.make_room.new.requests
     a.took.items a.pulled.items a.strays) c.in_err-done_at_once.ensures.same
@@ -99,7 +99,7 @@ returns-in_err-done_at_once-clause-err c = let a = c.self.inside in
     search (rules, same)
 
 pub learn-requires-clause-continues : goal.learn-requires-clause-continues
-learn-requires-clause-continues c = let a = c.self.inside in
+learn-requires-clause-continues g c = let a = c.self.inside in
     let within : c.args.p.now.from < a.shape.ranks =
     subst (λ (v : RankView). c.args.p.now.from < v.sizes.ranks) (sym c.self.view_is) c.requires.sender in
     let low : c.args.p.now.from < length a.streams.items = streams-low a.me a.shape a.journal a.sending
@@ -116,7 +116,7 @@ learn-requires-clause-continues c = let a = c.self.inside in
     }
 
 pub reply-requires-clause-few : goal.reply-requires-clause-few
-reply-requires-clause-few c = let a = c.self.inside in
+reply-requires-clause-few g c = let a = c.self.inside in
     let within : c.args.p.now.from < a.shape.ranks =
     subst (λ (v : RankView). c.args.p.now.from < v.sizes.ranks) (sym c.self.view_is) c.requires.sender in
     let fresh = subst (λ (v : RankView). IsFresh v) (sym c.self.view_is) c.requires.fresh in
@@ -125,7 +125,7 @@ reply-requires-clause-few c = let a = c.self.inside in
     c.make_room.ensures.letters c.in_ok-done_at_once.ensures.accepts.outbox fresh within
 
 pub invariant_of-self-2 : goal.invariant_of-self-2
-invariant_of-self-2 c = let a = c.self.inside in
+invariant_of-self-2 g c = let a = c.self.inside in
     let p = c.args.p.now in
     let known : List Known = map known_of a.streams.items in
     let roomy = fields-room a.me a.shape a.journal c.make_room.new.journal a.sending c.make_room.new.sending
@@ -169,7 +169,7 @@ invariant_of-self-2 c = let a = c.self.inside in
     c.reply.ensures.same puts.me puts.popped)
 
 pub returns-clause-taken : goal.returns-clause-taken
-returns-clause-taken c = let a = c.self.inside in
+returns-clause-taken g c = let a = c.self.inside in
     let p = c.args.p.now in
     let known : List Known = map known_of a.streams.items in
     let within : p.from < a.shape.ranks =
@@ -221,13 +221,13 @@ returns-clause-taken c = let a = c.self.inside in
     number c.in_ok-done_at_once.ensures.accepts.drawn)
 
 pub note_packet-requires-clause-in_time : goal.note_packet-requires-clause-in_time
-note_packet-requires-clause-in_time c = let a = c.self.inside in
+note_packet-requires-clause-in_time g c = let a = c.self.inside in
     let fresh = subst (λ (v : RankView). v.clock < WORN_STAMP) (sym c.self.view_is) c.requires.fresh.clock in
     let clock = same-clock a.journal c.make_room.new.journal c.make_room.ensures.events in
     omega (arith, fresh, clock)
 
 pub note_packet-requires-clause-early : goal.note_packet-requires-clause-early
-note_packet-requires-clause-early c = let a = c.self.inside in
+note_packet-requires-clause-early g c = let a = c.self.inside in
     let p = c.args.p.now in
     let cont = subst (λ (v : RankView). (taken_of v c.args.p.now).continued ≡ true) (sym c.self.view_is)
     c.requires.continues in

@@ -10,7 +10,7 @@ use Rattle.nm_rank.proofs.TakenLemmas.{takes-stray}
 use Rattle.nm_rank.proofs.ranks.Rank.take_packet.Goals as goal
 
 pub returns-else-continues-clause-taken : goal.returns-else-continues-clause-taken
-returns-else-continues-clause-taken c = let a = c.self.inside in
+returns-else-continues-clause-taken g c = let a = c.self.inside in
     let p = c.args.p.now in
     let within : p.from < a.shape.ranks =
     subst (λ (v : RankView). c.args.p.now.from < v.sizes.ranks) (sym c.self.view_is) c.requires.sender in

@@ -8,8 +8,14 @@ use Rattle.nm_rank.proofs.DrawLemmas.{fields-draw}
 use Rattle.nm_rank.proofs.RoomLemmas.{fields-room}
 use Rattle.nm_rank.proofs.ranks.Rank.take_piece.Goals as goal
 
+pub invariant_of-self : goal.invariant_of-self
+invariant_of-self g c = let a = c.self.inside in
+    fields-room a.me a.shape a.journal _ a.sending _ a.receiving _ a.requests _ a.took.items a.pulled.items
+    c.make_room.ensures.events c.make_room.ensures.kept c.make_room.ensures.letters
+    c.make_room.ensures.requests c.self.invariant
+
 pub invariant_of-self-in_err-drawn : goal.invariant_of-self-in_err-drawn
-invariant_of-self-in_err-drawn c = let a = c.self.inside in
+invariant_of-self-in_err-drawn g c = let a = c.self.inside in
     subst (λ (r : ReceivingView). AreFields a.me a.shape c.make_room.new.journal c.make_room.new.sending r
     (map (λ s. s.known) a.streams.items) c.make_room.new.requests a.took.items a.pulled.items)
     (sym c.in_err-drawn.ensures.err)
@@ -18,7 +24,7 @@ invariant_of-self-in_err-drawn c = let a = c.self.inside in
     c.make_room.ensures.requests c.self.invariant)
 
 pub invariant_of-self-2 : goal.invariant_of-self-2
-invariant_of-self-2 c =
+invariant_of-self-2 g c =
     let a = c.self.inside in
     let roomy = fields-room a.me a.shape a.journal c.make_room.new.journal a.sending c.make_room.new.sending
     a.receiving _ a.requests c.make_room.new.requests a.took.items a.pulled.items

@@ -4,7 +4,7 @@ use Rattle.nm_rank.proofs.NewLemmas.{fields-new}
 use Rattle.nm_rank.proofs.ranks.Rank.with_capacity.Goals as goal
 
 pub invariant_of-result : goal.invariant_of-result
-invariant_of-result c =
+invariant_of-result g c =
     let n = c.ranks-ranks.ensures.value in
     let s = c.in_ok-sending.ensures.nothing in
     let r = c.in_ok-receiving.ensures in
@@ -17,7 +17,7 @@ invariant_of-result c =
     (rw n at c.in_ok-took.ensures) (rw n at c.in_ok-pulled.ensures)
 
 pub returns : goal.returns
-returns c =
+returns g c =
     let n = c.ranks-ranks.ensures.value in
     let s = c.in_ok-sending.ensures.nothing in
     let r = c.in_ok-receiving.ensures in

@@ -3,4 +3,4 @@ use Rattle.nm_rank.proofs.JournalLemmas.{begins}
 use Rattle.nm_rank.proofs.journal.journals.Journal.new.Goals as goal
 
 pub invariant_of-result : goal.invariant_of-result
-invariant_of-result c = begins c.new.result.events 0 c.new.ensures refl
+invariant_of-result g c = begins (g.H.Recorder.events c.empty.result) 0 c.empty.ensures refl
