@@ -1,7 +1,7 @@
 //! The sending side of a rank.
 
 ghost use Rattle.std.specs.Prelude.{◌≡◌, ◌+◌, ◌-◌, ◌<◌, ◌≤◌, ◌↔◌, ℕ, false, None, List, []};
-ghost use Rattle.std.specs.Prelude.{if◌then◌else◌, length, slice_get, IfOk, IfSome};
+ghost use Rattle.std.specs.Prelude.{if◌then◌else◌, length, min, slice_get, IfOk, IfSome};
 ghost use Rattle.std.specs.Prelude.{IsSome, IsSomeAnd, IsNone, MatchOption, OnOk, OnErr, option_map};
 ghost use Rattle.std.specs.List.{AllByRecursion};
 ghost use Rattle.nm_types.specs.declared.limits.TheConstants.{MAX_BODY, MAX_EAGER, MAX_PACKETS};
@@ -96,7 +96,7 @@ impl Sending {
         Sending::with_capacity(alloc, ranks, me, 0)
     }
 
-    /// The same, with room for so many messages or packets without bytes.
+    /// The same, with room for so many messages or packets without bytes, but at first for 64 at most.
     pub fn with_capacity(
         alloc: Global,
         ranks: u8,
@@ -104,12 +104,14 @@ impl Sending {
         messages: usize,
     ) -> Result<Sending, Memory>
         ensures nothing { IfOk result (SentNothing ranks me) }
-        ensures room { IfOk result (λ s. messages ≤ s.outbox.spare) }
+        ensures room { IfOk result (λ s. min messages 64 ≤ s.outbox.spare) }
     {
+        // the notes of a few messages stay near, where those of all go round
+        let notes = messages.min(64);
         Ok(Sending {
             me,
             ranks,
-            outbox: Outbox::with_capacity(alloc, ranks, me, messages)?,
+            outbox: Outbox::with_capacity(alloc, ranks, me, notes)?,
             offers: Offers::new(alloc, ranks)?,
             departures: Table::new(alloc, ranks)?,
             pushed: vec![in alloc; 0; ranks as usize]?,
