@@ -1,15 +1,16 @@
 -- Messages that stand at the places of their numbers.
 use Rattle.std.proofs.Common.{◌≡◌, ℕ, ◌+◌, ◌-◌, ◌<◌, ◌≤◌, List, [], ◌∷◌, ◌++◌, length, Option, Some, None}
 use Rattle.std.proofs.Common.{ap, ◌∙◌, refl, sym, append_assoc, arith, slice_get, set, zero, suc, replicate}
-use Rattle.std.proofs.Common.{length-append, ◌⊎◌, inl, inr, ap₂}
+use Rattle.std.proofs.Common.{Bool, true, false, drop, length-append, ◌⊎◌, inl, inr, ap₂}
 use Rattle.std.specs.List.{AllByRecursion, remove}
 use Rattle.std.specs.Option.{is_some, option_map, option_to_list}
 use Rattle.std.proofs.lemmas.Bool.{cases_lt}
 use Rattle.std.proofs.lemmas.Grind.{flat_map-append}
 use Rattle.std.proofs.lemmas.List.{append-nil, length-replicate, replicate-append-replicate}
 use Rattle.nm_types.specs.declared.limits.TheConstants.{MAX_PACKETS}
-use Rattle.nm_eager.specs.Streams.{Incoming, AreNumbered}
+use Rattle.nm_eager.specs.Streams.{Incoming, AreNumbered, since}
 use Rattle.nm_eager.specs.Senders.{AreAtNumbers, AreAtPlaces, AreReceived, IsPut, placed, standing, whole_message}
+use Rattle.nm_eager.specs.Senders.{begins_empty, first_place}
 use Rattle.nm_types.proofs.OptionLemmas.{some_mapped}
 use Rattle.nm_eager.proofs.MessageLemmas.{Lacks, Lacks-above, AreNumbered-wider, AreNumbered-push}
 use Rattle.nm_eager.proofs.MessageLemmas.{AllByRecursion-push}
@@ -107,12 +108,14 @@ placed-put first (place ∷ places) gap m is full =
     (placed-put (first + 1) places gap m (omega (arith, is)) full)
 
 -- to put a whole message's bytes behind the others, at the place of its number, is to put the message
-pub bytes-put : (old new : List (Option (List ℕ))) (m : Incoming) → length old ≤ m.n → length m.bytes ≡ m.len
-    → new ≡ old ++ replicate (m.n - length old) None ++ Some m.bytes ∷ [] → IsPut (placed 0 old) (placed 0 new) m None
-bytes-put old new m behind full is = record {
+pub bytes-put : (first : ℕ) (old new : List (Option (List ℕ))) (m : Incoming) → first + length old ≤ m.n
+    → length m.bytes ≡ m.len → new ≡ old ++ replicate (m.n - first - length old) None ++ Some m.bytes ∷ []
+    → IsPut first (placed first old) (placed first new) m None
+bytes-put first old new m behind full is = record {
   finished = λ _. (
     refl,
-    rw (is, placed-length 0 old) (placed-put 0 old (m.n - length old) m (omega (arith, behind)) full),
+    rw (is, placed-length first old)
+        (placed-put first old (m.n - first - length old) m (omega (arith, behind)) full),
   );
   unfinished = λ lacks. absurd (omega (arith, lacks, full));
 }
@@ -150,31 +153,100 @@ placed-from first (None ∷ places) (suc i) m here = placed-from (first + 1) pla
 placed-from first (Some bytes ∷ places) (suc i) m here = placed-from (first + 1) places i m here
 
 -- empty places behind others
-module _ (xs : List (Option (List ℕ))) (n : ℕ) where
-  pub gap-none : n ≡ length xs → xs ≡ xs ++ replicate (n - length xs) None
-  gap-none e = let none : n - length xs ≡ 0 = omega arith in rw none (sym (append-nil xs))
+module _ (xs : List (Option (List ℕ))) (n : ℕ) (ys : List (Option (List ℕ))) (is : ys ≡ xs ++ replicate n None) where
+  pub gap-more : ys ++ None ∷ [] ≡ xs ++ replicate (n + 1) None
+  gap-more =
+      rw (is, append_assoc xs (replicate n None) (None ∷ []))
+      (ap (λ (l : List (Option (List ℕ))). xs ++ l) (replicate-append-replicate n 1 None))
 
-  module _ (ys : List (Option (List ℕ))) (low : length xs ≤ n) (is : ys ≡ xs ++ replicate (n - length xs) None) where
-    pub gap-more : ys ++ None ∷ [] ≡ xs ++ replicate (n + 1 - length xs) None
-    gap-more =
-        let more : n + 1 - length xs ≡ (n - length xs) + 1 = omega arith in
-        rw (more, is, append_assoc xs (replicate (n - length xs) None) (None ∷ []))
-        (ap (λ (l : List (Option (List ℕ))). xs ++ l) (replicate-append-replicate (n - length xs) 1 None))
+  pub gap-length : length ys ≡ length xs + n
+  gap-length = rw is (omega (
+    arith,
+    length-append xs (replicate n None),
+    length-replicate {A = Option (List ℕ)} n None,
+  ))
 
-    pub gap-length : length ys ≡ n
-    gap-length = rw is (omega (
+-- a place more that is full leaves the first one full, where no gap is before it
+pub begins-full : (xs : List (Option (List ℕ))) (n : ℕ) (bytes : List ℕ) → begins_empty xs ≡ false → (xs ≡ [] → n ≡ 0)
+    → begins_empty (xs ++ replicate n None ++ Some bytes ∷ []) ≡ false
+begins-full [] n bytes b none = rw (none refl) refl
+begins-full (None ∷ xs) n bytes b none = absurd cc
+begins-full (Some x ∷ xs) n bytes b none = refl
+
+-- one empty place more at the front
+pub gone-more : (all xs : List (Option (List ℕ))) (n : ℕ) → all ≡ replicate n None ++ xs → begins_empty xs ≡ true
+    → all ≡ replicate (n + 1) None ++ drop 1 xs
+gone-more all [] n is b = absurd cc
+gone-more all (None ∷ xs) n is b = is ∙ sym (append_assoc (replicate n None) (None ∷ []) xs)
+    ∙ ap (λ (l : List (Option (List ℕ))). l ++ xs) (replicate-append-replicate n 1 None)
+gone-more all (Some x ∷ xs) n is b = absurd cc
+
+-- where all were empty, there are none
+pub gone-all : (all xs : List (Option (List ℕ))) (n : ℕ) → all ≡ replicate n None ++ xs → length all ≤ n
+    → begins_empty xs ≡ false
+gone-all all [] n is le = refl
+gone-all all (x ∷ xs) n is le =
+    let size : length all ≡ n + length (x ∷ xs) = rw is (omega (
       arith,
-      length-append xs (replicate (n - length xs) None),
-      length-replicate {A = Option (List ℕ)} (n - length xs) None,
-    ))
+      length-append (replicate n None) (x ∷ xs),
+      length-replicate {A = Option (List ℕ)} n None,
+    )) in
+    absurd (omega (arith, size, le))
+
+-- what stands at places has the numbers of these
+pub numbers-placed : (first : ℕ) (places : List (Option (List ℕ))) → AreAtNumbers first (placed first places)
+numbers-placed first [] = tt
+numbers-placed first (None ∷ places) = (tt, numbers-placed (first + 1) places)
+numbers-placed first (Some bytes ∷ places) = (refl, numbers-placed (first + 1) places)
+
+-- where there are places, the first one stays
+module _ (first next : ℕ) where
+  pub first_place-standing : (places : List (Option (List ℕ)))
+      → standing (placed (first_place first places next) places) ≡ standing (placed first places)
+  first_place-standing [] = refl
+  first_place-standing (place ∷ places) = refl
+
+  pub first_place-behind : (places : List (Option (List ℕ))) → first + length places ≤ next
+      → first_place first places next + length places ≤ next
+  first_place-behind [] le = omega arith
+  first_place-behind (place ∷ places) le = le
+
+  pub first_place-above : (places : List (Option (List ℕ))) → first + length places ≤ next
+      → first ≤ first_place first places next
+  first_place-above [] le = omega arith
+  first_place-above (place ∷ places) le = omega arith
+
+  pub first_place-again : (places : List (Option (List ℕ)))
+      → first_place first places next ≡ first_place (first_place first places next) places next
+  first_place-again [] = refl
+  first_place-again (place ∷ places) = refl
+
+  pub first_place-none : (places : List (Option (List ℕ))) → places ≡ [] → first_place first places next ≡ next
+  first_place-none [] is = refl
+  first_place-none (place ∷ places) is = absurd cc
+
+-- empty places at the front are let go
+pub standing-gone : (first many now : ℕ) (places : List (Option (List ℕ))) → now ≡ first + many
+    → standing (placed first (replicate many None ++ places)) ≡ standing (placed now places)
+standing-gone first zero now places is = let same : now ≡ first = omega (arith, is) in rw same refl
+standing-gone first (suc many) now places is = standing-gone (first + 1) many now places (omega (arith, is))
+
+-- the first place is the first message's, so there are no more places than messages counted since that one
+pub held-since : (first count : ℕ) (places : List (Option (List ℕ))) (u : Option Incoming)
+    → begins_empty places ≡ false → first + length places ≤ count
+    → length places ≤ since count (standing (placed first places) ++ option_to_list u)
+held-since first count [] u b le = omega arith
+held-since first count (None ∷ places) u b le = absurd cc
+held-since first count (Some bytes ∷ places) u b le =
+    let is : length (Some bytes ∷ places) ≤ count - first = omega (arith, le) in is
 
 -- a message that was counted last is put
-module _ (count : ℕ) (whole new : List (Option Incoming)) (m : Incoming) (left : Option Incoming)
-    (put : IsPut whole new m left) (within : length m.bytes ≤ m.len) (numbers : AreAtNumbers 0 whole)
-    (behind : length whole ≤ m.n) (last : m.n + 1 ≡ count) where
+module _ (first count : ℕ) (whole new : List (Option Incoming)) (m : Incoming) (left : Option Incoming)
+    (put : IsPut first whole new m left) (within : length m.bytes ≤ m.len) (numbers : AreAtNumbers first whole)
+    (behind : first + length whole ≤ m.n) (last : m.n + 1 ≡ count) where
   below : AreNumbered 0 m.n (standing whole)
-  below = AreNumbered-wider 0 0 (0 + length whole) m.n (standing whole) (omega arith) (omega arith)
-      (numbered 0 whole numbers)
+  below = AreNumbered-wider first 0 (first + length whole) m.n (standing whole) (omega arith) (omega arith)
+      (numbered first whole numbers)
 
   pub put-received : (places : ℕ) → AllByRecursion (λ x. length x.bytes ≡ x.len) (standing whole) → count ≤ places
       → AreReceived count (standing new) left places
@@ -189,16 +261,16 @@ module _ (count : ℕ) (whole new : List (Option Incoming)) (m : Incoming) (left
       by (inr full) =
           let finished : length m.bytes ≡ m.len = omega arith in
           let is = put.finished finished in
-          rw (is.0, is.1, standing-put whole (m.n - length whole) m) (record {
+          rw (is.0, is.1, standing-put whole (m.n - first - length whole) m) (record {
             numbered = AreNumbered-push 0 m.n count (standing whole) m below (omega arith) (omega arith);
             are_whole = AllByRecursion-push (λ x. length x.bytes ≡ x.len) (standing whole) m all finished;
             last = tt;
           })
 
-  pub put-places : count ≤ MAX_PACKETS → AreAtPlaces count new left
+  pub put-places : count ≤ MAX_PACKETS → AreAtPlaces first count new left
   put-places few = by (cases_lt (length m.bytes) m.len)
     where
-      by : (length m.bytes < m.len) ⊎ (m.len ≤ length m.bytes) → AreAtPlaces count new left
+      by : (length m.bytes < m.len) ⊎ (m.len ≤ length m.bytes) → AreAtPlaces first count new left
       by (inl lacks) = let is = put.unfinished lacks in rw (is.0, is.1) (record {
         numbers = numbers;
         counted = omega arith;
@@ -209,12 +281,12 @@ module _ (count : ℕ) (whole new : List (Option Incoming)) (m : Incoming) (left
           let finished : length m.bytes ≡ m.len = omega arith in
           let is = put.finished finished in
           rw (is.0, is.1) (record {
-            numbers = numbers-put 0 whole (m.n - length whole) m numbers (omega arith);
+            numbers = numbers-put first whole (m.n - first - length whole) m numbers (omega arith);
             counted = omega (
               arith,
-              length-append (whole ++ replicate (m.n - length whole) None) (Some m ∷ []),
-              length-append whole (replicate (m.n - length whole) None),
-              length-replicate {A = Option Incoming} (m.n - length whole) None,
+              length-append (whole ++ replicate (m.n - first - length whole) None) (Some m ∷ []),
+              length-append whole (replicate (m.n - first - length whole) None),
+              length-replicate {A = Option Incoming} (m.n - first - length whole) None,
             );
             behind = tt;
             few = few;
@@ -229,4 +301,4 @@ module _ (count : ℕ) (whole new : List (Option Incoming)) (m : Incoming) (left
       by (inr full) =
           let finished : length m.bytes ≡ m.len = omega arith in
           let is = put.finished finished in
-          rw (is.0, is.1, standing-put whole (m.n - length whole) m) (append-nil (standing whole ++ m ∷ []))
+          rw (is.0, is.1, standing-put whole (m.n - first - length whole) m) (append-nil (standing whole ++ m ∷ []))

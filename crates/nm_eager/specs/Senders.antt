@@ -1,8 +1,8 @@
 -- What contracts see of what came from one sender.
 use Rattle.std.specs.Prelude.{◌≡◌, ℕ, ◌+◌, ◌-◌, ◌<◌, ◌≤◌, Option, Some, None, IfSome, List, [], ◌∷◌, ◌++◌, length}
-use Rattle.std.specs.Prelude.{option_to_list, replicate}
+use Rattle.std.specs.Prelude.{Bool, true, false, option_to_list, replicate}
 use Rattle.std.specs.List.{AllByRecursion, flat_map}
-use Rattle.std.specs.Option.{option_map}
+use Rattle.std.specs.Option.{option_map, option_map_or}
 use Rattle.nm_types.specs.declared.limits.TheConstants.{MAX_PACKETS}
 use Rattle.nm_types.specs.declared.packets.What.{What}
 use Rattle.nm_types.specs.declared.packets.What.TheVariants.{Head}
@@ -67,17 +67,34 @@ pub record AreReceived (count : ℕ) (whole : List Incoming) (unfinished : Optio
   pub are_whole : AllByRecursion (λ m. length m.bytes ≡ m.len) whole
   pub last : IfSome unfinished (IsLast count whole places)
 
--- each whole message stands at the place of its number, and those that were counted are not too many
-pub record AreAtPlaces (count : ℕ) (whole : List (Option Incoming)) (unfinished : Option Incoming) :
-    Type 0 where
-  pub numbers : AreAtNumbers 0 whole
-  pub counted : length whole ≤ count
-  pub behind : IfSome unfinished (λ m. length whole ≤ m.n)
+-- each whole message stands at the place of its number, where the first place has this one, and those
+-- that were counted are not too many
+pub record AreAtPlaces (first count : ℕ) (whole : List (Option Incoming))
+    (unfinished : Option Incoming) : Type 0 where
+  pub numbers : AreAtNumbers first whole
+  pub counted : first + length whole ≤ count
+  pub behind : IfSome unfinished (λ m. first + length whole ≤ m.n)
   pub few : count ≤ MAX_PACKETS
 
--- a message that lacks nothing is put at its place, and an unfinished one is left
-pub record IsPut (old new : List (Option Incoming)) (m : Incoming) (left : Option Incoming) :
-    Type 0 where
+-- a message that lacks nothing is put at its place, where the first place has this number, and an
+-- unfinished one is left
+pub record IsPut (first : ℕ) (old new : List (Option Incoming)) (m : Incoming)
+    (left : Option Incoming) : Type 0 where
   pub finished : length m.bytes ≡ m.len → (left ≡ None)
-      × (new ≡ old ++ replicate (m.n - length old) None ++ Some m ∷ [])
+      × (new ≡ old ++ replicate (m.n - first - length old) None ++ Some m ∷ [])
   pub unfinished : length m.bytes < m.len → (left ≡ Some m) × (new ≡ old)
+
+-- the first of the places is empty
+abbrev pub begins_empty : List (Option (List ℕ)) → Bool
+begins_empty [] = false
+begins_empty (None ∷ places) = true
+begins_empty (Some bytes ∷ places) = false
+
+-- the number of the first place, where a message with this number is put next
+abbrev pub first_place : ℕ → List (Option (List ℕ)) → ℕ → ℕ
+first_place first [] next = next
+first_place first (place ∷ places) next = first
+
+-- the number of the message that is put next
+abbrev pub next_put : ℕ → Option Incoming → ℕ
+next_put count unfinished = option_map_or (λ m. m.n) unfinished count

@@ -176,6 +176,15 @@ IsWholeIn stream n = IsSomeAnd (message_of stream n) (λ m. length m.bytes ≡ m
 abbrev pub without : Stream → ℕ → Stream
 without stream n = record stream { messages = filter (λ m. not (m.n == n)) stream.messages }
 
+-- how many messages were counted since the first of these, where this many were counted
+abbrev pub since : ℕ → List Incoming → ℕ
+since count [] = 0
+since count (m ∷ messages) = count - m.n
+
+-- how many messages were counted since the first one that wasn't taken; 0 where all were taken
+abbrev pub since_first : Stream → ℕ
+since_first stream = since stream.count stream.messages
+
 -- what a packet did to its message, if so many bytes are missing now
 abbrev pub joined_by : What → ℕ → Joined
 joined_by (Head tag ctx len) missing = if missing == 0 then joined.Whole else joined.Begun

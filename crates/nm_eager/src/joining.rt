@@ -1,11 +1,11 @@
 //! The receiver's end.
 
-ghost use Rattle.std.specs.Prelude.{◌≡◌, ◌≢◌, ◌<◌, ◌↔◌, ℕ, length, IsTrue, IsOk, IfOk, OnOk, OnErr};
+ghost use Rattle.std.specs.Prelude.{◌≡◌, ◌≢◌, ◌<◌, ◌≤◌, ◌↔◌, ℕ, length, IsTrue, IsOk, IfOk, OnOk, OnErr};
 ghost use Rattle.std.specs.Prelude.{IsSomeAnd};
 ghost use Rattle.nm_types.specs.declared.limits.TheConstants.{MAX_PACKETS};
 ghost use Rattle.nm_eager.specs.Streams.{nothing_came, missing, skipped, after, joined_by};
 ghost use Rattle.nm_eager.specs.Streams.{continues as continues_lem};
-ghost use Rattle.nm_eager.specs.Streams.{IsStream, message_of, IsWholeIn, without};
+ghost use Rattle.nm_eager.specs.Streams.{IsStream, message_of, IsWholeIn, since_first, without};
 ghost use Rattle.nm_eager.specs.Joining.{stream_from, Fits, IsReadyFor, MakesRoom};
 ghost use Rattle.nm_eager.specs.Joining.{ChangesStream};
 
@@ -95,6 +95,15 @@ impl Joiner {
         ensures stream { IsStream (stream_from self.now from) }
     {
         self.senders[from as usize].missing()
+    }
+
+    /// How many places for messages of a sender are in memory: at most as many as messages were counted
+    /// since the first one that wasn't taken, and none where all were.
+    pub fn held(&self, from: u8) -> u64
+        requires sender { from < self.now.sizes.ranks }
+        ensures { result ≤ since_first (stream_from self.now from) }
+    {
+        self.senders[from as usize].held()
     }
 
     /// Counts a message that was sent by asking, so that eager ones have their numbers.

@@ -18,6 +18,8 @@
 //!   exactly of an eager one that continues its stream (clause `value`); `add` and
 //!   `skip` change a stream by one step (clause `step`), and `take` removes one message (clause
 //!   `others`).
+//! - What was taken leaves memory: `held` tells how many places a joiner keeps for a sender, at most as
+//!   many as messages were counted since the first one that wasn't taken.
 //! - After `reserve` the packet can be added without memory (clauses `ok` and `succeeds`), and want
 //!   of memory changes no message.
 //! - `laws`: the steps of a stream give its messages, and the packets of a cut give the body.

@@ -1,24 +1,29 @@
 //! What came from one sender.
 
-ghost use Rattle.std.specs.Prelude.{◌≡◌, ◌+◌, ◌-◌, ◌<◌, ◌≤◌, ℕ, ◌++◌, length, ◌↔◌, IsTrue, None};
-ghost use Rattle.std.specs.Prelude.{IsOk, OnOk, IsSomeAnd, replicate, vec_capacity};
+ghost use Rattle.std.specs.Prelude.{◌≡◌, ◌+◌, ◌-◌, ◌<◌, ◌≤◌, ℕ, [], ◌++◌, length, ◌↔◌, IsTrue, None};
+ghost use Rattle.std.specs.Prelude.{IsOk, OnOk, IsSomeAnd, false, replicate};
+ghost use Rattle.std.specs.VecDeque.{deque_capacity};
 ghost use Rattle.nm_types.specs.declared.limits.TheConstants.{MAX_PACKETS};
 ghost use Rattle.nm_eager.specs.Streams.{nothing_came, missing, begun, carried_on, skipped};
 ghost use Rattle.nm_eager.specs.Streams.{IsStream, message_of, IsWholeIn, without};
-ghost use Rattle.nm_eager.specs.Streams.{is_eager, continues, after, joined_by};
+ghost use Rattle.nm_eager.specs.Streams.{is_eager, continues, after, joined_by, since_first};
 ghost use Rattle.nm_eager.specs.Senders.{CanBegin, IsPut, IsReadyAt, SameReceived, placed};
+ghost use Rattle.nm_eager.specs.Senders.{begins_empty, first_place, next_put};
 
 use crate::messages::Message;
 use nm_types::{Bytes, Joined, Memory, What};
 use std::alloc::Global;
+use std::collections::VecDeque;
 use std::marker::Model;
 use std::mem;
 
 /// What came from one sender: the whole messages that weren't taken, and one that is unfinished.
 pub struct Sender {
     count: u64,
-    /// By number: the bytes of what is whole and wasn't taken.
-    whole: Vec<Option<Bytes>>,
+    /// The number of the first place: those before it were let go.
+    first: u64,
+    /// By number, from there on: the bytes of what is whole and wasn't taken. The first place has some.
+    whole: VecDeque<Option<Bytes>>,
     unfinished: Option<Message>,
     /// Empty: the next message that begins gets it.
     buffer: Vec<u8>,
@@ -28,6 +33,7 @@ impl Drop for Sender {
     fn drop(self) {
         let Sender {
             count: _,
+            first: _,
             whole: _,
             unfinished: _,
             buffer: _,
@@ -36,53 +42,114 @@ impl Drop for Sender {
 }
 
 impl Model for Sender {
-    ghost use Rattle.std.specs.Prelude.{◌≡◌, ◌++◌, [], option_to_list, vec_capacity};
+    ghost use Rattle.std.specs.Prelude.{◌≡◌, ◌+◌, ◌++◌, [], false, option_to_list, vec_capacity};
+    ghost use Rattle.std.specs.VecDeque.{deque_capacity};
     ghost use Rattle.nm_eager.specs.Senders.{Received, AreReceived, AreAtPlaces, placed, standing};
+    ghost use Rattle.nm_eager.specs.Senders.{begins_empty};
 
     ghost Value = { Received };
 
     ghost view = { λ a. record {
       stream = record {
         count = a.count;
-        messages = standing (placed 0 a.whole.items) ++ option_to_list a.unfinished;
+        messages = standing (placed a.first a.whole.items) ++ option_to_list a.unfinished;
       };
-      places = vec_capacity a.whole;
+      places = a.first + deque_capacity a.whole;
       room = vec_capacity a.buffer;
     } };
 
     ghost invariant = { λ a. (a.buffer.items ≡ [])
-        × AreReceived a.count (standing (placed 0 a.whole.items)) a.unfinished (vec_capacity a.whole)
-        × AreAtPlaces a.count (placed 0 a.whole.items) a.unfinished };
+        × AreReceived a.count (standing (placed a.first a.whole.items)) a.unfinished
+        (a.first + deque_capacity a.whole)
+        × AreAtPlaces a.first a.count (placed a.first a.whole.items) a.unfinished
+        × (begins_empty a.whole.items ≡ false) };
 }
 
-/// Leaves the places up to this one empty.
-fn leave_empty(whole: &mut Vec<Option<Bytes>>, place: usize)
-    requires behind { length whole.old.items ≤ place }
-    requires room { place ≤ vec_capacity whole.old }
-    ensures items { whole.new.items
-        ≡ whole.old.items ++ replicate (place - length whole.old.items) None }
-    ensures room { vec_capacity whole.new ≡ vec_capacity whole.old }
+/// The number of the message that is put next, where so many were counted.
+fn next_number(count: u64, unfinished: &Option<Message>) -> u64
+    ensures { result ≡ next_put count unfinished.now }
 {
-    for _place in whole.len()..place {
-        whole.push_reserved(None);
+    match unfinished {
+        Some(message) => message.n(),
+        None => count,
     }
 }
 
-/// Puts a message's bytes behind those that are whole, at the place of its number, if it is whole, too.
-/// One that is unfinished comes back.
+/// The number of the first place, where the message with this number is put next: where there are
+/// places, it stays.
+fn first_of(first: u64, whole: &VecDeque<Option<Bytes>>, next: u64) -> u64
+    ensures { result ≡ first_place first whole.now.items next }
+{
+    if whole.is_empty() { next } else { first }
+}
+
+/// The place of message n, where the first place has this number.
+fn place_of(first: u64, n: u64) -> usize
+    requires { first ≤ n }
+    ensures { result ≡ n - first }
+{
+    (n - first) as usize
+}
+
+/// Leaves so many places empty.
+fn leave_empty(whole: &mut VecDeque<Option<Bytes>>, many: usize)
+    requires { length whole.old.items + many ≤ deque_capacity whole.old }
+    ensures items { whole.new.items ≡ whole.old.items ++ replicate many None }
+    ensures len { length whole.new.items ≡ length whole.old.items + many }
+    ensures room { deque_capacity whole.new ≡ deque_capacity whole.old }
+{
+    for _place in 0..many {
+        whole.push_back_reserved(None);
+    }
+}
+
+/// Puts a message's bytes behind those that are whole, at the place of its number, if it is whole, too,
+/// where the first place has this number. One that is unfinished comes back.
 #[inline(always)]
-fn put(whole: &mut Vec<Option<Bytes>>, message: Message) -> Option<Message>
-    requires behind { length (placed 0 whole.old.items) ≤ message.n }
-    requires room { message.n < vec_capacity whole.old }
-    ensures put { IsPut (placed 0 whole.old.items) (placed 0 whole.new.items) message result }
-    ensures room { vec_capacity whole.new ≡ vec_capacity whole.old }
+fn put(first: u64, whole: &mut VecDeque<Option<Bytes>>, message: Message) -> Option<Message>
+    requires behind { first + length whole.old.items ≤ message.n }
+    requires room { message.n < first + deque_capacity whole.old }
+    requires begins { begins_empty whole.old.items ≡ false }
+    requires next { first ≡ first_place first whole.old.items message.n }
+    ensures put { IsPut first (placed first whole.old.items) (placed first whole.new.items)
+        message result }
+    ensures begins { begins_empty whole.new.items ≡ false }
+    ensures room { deque_capacity whole.new ≡ deque_capacity whole.old }
 {
     if message.lacking() > 0 {
         return Some(message);
     }
-    leave_empty(whole, message.n() as usize);
-    whole.push_reserved(Some(message.into_bytes()));
+    let gap = place_of(first, message.n()) - whole.len();
+    leave_empty(whole, gap);
+    whole.push_back_reserved(Some(message.into_bytes()));
     None
+}
+
+/// Whether the first of the places is empty.
+fn is_first_empty(whole: &VecDeque<Option<Bytes>>) -> bool
+    ensures { result ≡ begins_empty whole.now.items }
+{
+    match whole.front() {
+        Some(bytes) => bytes.is_none(),
+        None => false,
+    }
+}
+
+/// Lets go the empty places at the front, and answers how many they were.
+fn let_go(whole: &mut VecDeque<Option<Bytes>>) -> u64
+    ensures gone { whole.old.items ≡ replicate result None ++ whole.new.items }
+    ensures few { result ≤ length whole.old.items }
+    ensures begins { begins_empty whole.new.items ≡ false }
+    ensures room { deque_capacity whole.new ≡ deque_capacity whole.old }
+{
+    let all = whole.len();
+    for gone in 0..all {
+        if !is_first_empty(whole) {
+            return gone as u64;
+        }
+        let _empty = whole.pop_front();
+    }
+    all as u64
 }
 
 impl Sender {
@@ -92,7 +159,8 @@ impl Sender {
     {
         Sender {
             count: 0,
-            whole: Vec::new(alloc),
+            first: 0,
+            whole: VecDeque::new(alloc),
             unfinished: None,
             buffer: Vec::new(alloc),
         }
@@ -125,15 +193,32 @@ impl Sender {
         self.count += 1;
     }
 
+    /// How many places are in memory. None is before the first message that wasn't taken.
+    pub fn held(&self) -> u64
+        ensures { result ≤ since_first self.now.stream }
+    {
+        self.whole.len() as u64
+    }
+
+    /// Where there are no places, the first one is that of the message that is put next.
+    fn settle(&mut self)
+        ensures { SameReceived self.old self.new }
+    {
+        let next = next_number(self.count, &self.unfinished);
+        self.first = first_of(self.first, &self.whole, next);
+    }
+
     /// Makes room for a message of this length.
     #[inline(always)]
+    #[tactic(auto, using(crate::proofs::SenderLemmas::more_places))]
     pub fn reserve(&mut self, len: u32) -> Result<(), Memory>
         ensures ok { OnOk result (CanBegin self.new len) }
         ensures succeeds { CanBegin self.old len → IsOk result }
         ensures same { SameReceived self.old self.new }
     {
-        self.whole
-            .reserve(self.count as usize + 1 - self.whole.len())?;
+        self.settle();
+        let wanted = (self.count + 1 - self.first) as usize - self.whole.len();
+        self.whole.reserve(wanted)?;
         self.buffer.reserve_exact(len as usize)?;
         Ok(())
     }
@@ -179,7 +264,8 @@ impl Sender {
         let buffer = mem::replace(&mut self.buffer, Vec::new(alloc));
         let mut message = Message::new(self.count, len, buffer);
         message.extend(bytes);
-        self.unfinished = put(&mut self.whole, message);
+        self.first = first_of(self.first, &self.whole, self.count);
+        self.unfinished = put(self.first, &mut self.whole, message);
         self.count += 1;
     }
 
@@ -195,25 +281,33 @@ impl Sender {
             unreachable!()
         };
         message.extend(bytes);
-        self.unfinished = put(&mut self.whole, message);
+        self.first = first_of(self.first, &self.whole, message.n());
+        self.unfinished = put(self.first, &mut self.whole, message);
     }
 
     /// Whether message n is whole and wasn't taken.
     pub fn is_whole(&self, n: u64) -> bool
         ensures { IsTrue result ↔ IsWholeIn self.now.stream n }
     {
-        match self.whole.get(n as usize) {
+        if n < self.first {
+            return false;
+        }
+        match self.whole.get(place_of(self.first, n)) {
             Some(bytes) => bytes.is_some(),
             None => false,
         }
     }
 
-    /// Takes a whole message away.
+    /// Takes a whole message away. Its place is let go with those before it, once all of them are
+    /// empty.
     pub fn take(&mut self, n: u64) -> Bytes
         requires whole { IsWholeIn self.old.stream n }
         ensures bytes { IsSomeAnd (message_of self.old.stream n) (λ m. result ≡ m.bytes) }
         ensures others { self.new.stream ≡ without self.old.stream n }
     {
-        self.whole[n as usize].take().unwrap()
+        let place = place_of(self.first, n);
+        let bytes = self.whole[place].take().unwrap();
+        self.first += let_go(&mut self.whole);
+        bytes
     }
 }

@@ -1,33 +1,31 @@
-use Rattle.std.proofs.Common.{◌≡◌, ◌∙◌, arith, length, refl}
-use Rattle.nm_eager.proofs.PlaceLemmas.{gap-length, gap-more, gap-none}
+use Rattle.std.proofs.Common.{◌≡◌, ◌∙◌, arith, refl, sym}
+use Rattle.std.proofs.lemmas.List.{append-nil}
+use Rattle.nm_eager.proofs.PlaceLemmas.{gap-length, gap-more}
 use Rattle.nm_eager.proofs.senders.leave_empty.Goals as goal
 
 pub loop-place-init : goal.loop-place-init
-loop-place-init c =
-    let xs = c.args.whole.now.items in
-    let long : c.len-place.result ≡ length xs = omega (arith, c.len-place.ensures, c.args.whole.now.ok.0) in
-    (gap-none xs c.len-place.result long, refl, omega arith)
+loop-place-init c = (sym (append-nil c.args.whole.now.items), refl)
 
-pub push_reserved-requires : goal.push_reserved-requires
-push_reserved-requires c =
+pub push_back_reserved-requires : goal.push_back_reserved-requires
+push_back_reserved-requires c =
     let l = c.loop-place in
-    let long = gap-length c.args.whole.now.items l._place l.whole.items l.invariant.2 l.invariant.0 in
-    let same = l.invariant.1 in
-    omega (arith, l.whole.ok.0, c.requires.room)
+    omega (
+      arith,
+      l.whole.ok.0,
+      gap-length c.args.whole.now.items l._place l.whole.items l.invariant.0,
+      l.invariant.1,
+      c.requires,
+    )
 
 pub loop-place-preserved : goal.loop-place-preserved
 loop-place-preserved c =
-    let l = c.loop-place in
-    let low = l.invariant.2 in (
-      c.push_reserved.ensures.items ∙ gap-more c.args.whole.now.items l._place l.whole.items low l.invariant.0,
-      c.push_reserved.ensures.capacity ∙ l.invariant.1,
-      omega arith,
+    let l = c.loop-place in (
+      c.push_back_reserved.ensures.items ∙ gap-more c.args.whole.now.items l._place l.whole.items l.invariant.0,
+      c.push_back_reserved.ensures.capacity ∙ l.invariant.1,
     )
 
-pub returns-clause-items : goal.returns-clause-items
-returns-clause-items c =
+pub returns-clause-len : goal.returns-clause-len
+returns-clause-len c =
     let l = c.loop-place in
-    let long : c.len-place.result ≡ length c.args.whole.now.items =
-    omega (arith, c.len-place.ensures, c.args.whole.now.ok.0) in
-    let last : l._place ≡ c.args.place = omega (arith, c.requires.behind) in
-    rw last at l.invariant.0
+    let last : l._place ≡ c.args.many = omega arith in
+    gap-length c.args.whole.now.items c.args.many l.whole.items (rw last at l.invariant.0)
