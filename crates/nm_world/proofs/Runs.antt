@@ -15,7 +15,7 @@ use Rattle.nm_copyring.specs.declared.port.RingPort.{RingPort}
 use Rattle.nm_copyring.specs.declared.port.Rings.{Rings}
 use Rattle.nm_copyring.specs.Ports as ring
 use Rattle.nm_process.specs.Lines.{AreLines}
-use Rattle.nm_process.specs.Work.{IsAtWork}
+use Rattle.nm_process.specs.Places.{IsAtWork}
 use Rattle.nm_world.specs.declared.actors.Actor.{Actor}
 use Rattle.nm_world.specs.Actors.{AllContinue, Seat, ActorInvariant, seat_of}
 use Rattle.nm_world.specs.Rest.{CanMove}
@@ -30,7 +30,7 @@ use Rattle.nm_types.specs.declared.packets.Packet.{Packet}
 -- one more was asked whether it can move
 pub moves_more : (lines : List Line) (actors : List Actor) (n : ℕ) (x : Actor) (all moves : Bool) →
     slice_get actors n ≡ Some x →
-    (moves ≡ true → IsAtWork x.process.rank.sizes lines x.process → CanMove lines x.process) →
+    (moves ≡ true → IsAtWork x.process.rank.sizes lines x.script x.process → CanMove lines x.process) →
     (all ≡ false → SomeMoves lines actors) → (all && not moves) ≡ false → SomeMoves lines actors
 moves_more lines actors n x true true at can before e =
     record { place = n; actor = x; is = at; moves = can refl }

@@ -9,6 +9,7 @@ use Rattle.nm_cells.specs.declared.port.Fabric.{Fabric}
 use Rattle.nm_copyring.specs.declared.port.Rings.{Rings}
 use Rattle.nm_rank.specs.Ranks.{IsFresh}
 use Rattle.nm_process.specs.Processes.{ProcessView}
+use Rattle.nm_crews.specs.Crews.{HaveTold}
 use Rattle.nm_world.specs.declared.actors.Actor.{Actor}
 use Rattle.nm_world.specs.Actors.{Continues, ActorInvariant, did}
 use Rattle.nm_world.specs.Idle.{Idle}
@@ -116,3 +117,11 @@ swept_halves n lines f r xs ys xs' ys' p q one two = record {
   idle = λ none. let both = neither p q none in
       all_zip_append (IdleUnlessWorn lines) xs ys xs' ys' (one.idle both.0) (two.idle both.1);
 }
+
+-- and so what all crews have told
+pub swept_all : (n : ℕ) (lines : List Line) (f : Fabric Packet) (r : Rings) (xs xs' : List Actor) (p : Bool) →
+    HaveTold (HasSwept n lines f r) p xs xs' → HasSwept n lines f r p xs xs'
+swept_all n lines f r xs xs' p (HaveTold.one told) = told
+swept_all n lines f r xs xs' p (HaveTold.both {q} {q'} {ys} {zs} {ys'} {zs'} front back) =
+    swept_halves n lines f r ys zs ys' zs' q q' (swept_all n lines f r ys ys' q front)
+    (swept_all n lines f r zs zs' q' back)

@@ -39,7 +39,7 @@ pub record SomeMoves (lines : List Line) (actors : List Actor) : Type 0 where
   pub place : ℕ
   pub actor : Actor
   pub is : slice_get actors place ≡ Some actor
-  pub moves : IsAtWork actor.process.rank.sizes lines actor.process → CanMove lines actor.process
+  pub moves : IsAtWork actor.process.rank.sizes lines actor.script actor.process → CanMove lines actor.process
 
 -- what the one sent, the other took
 abbrev pub PairAgrees : ℕ → ℕ → Actor → Actor → Type 0

@@ -19,10 +19,10 @@ ghost use Rattle.nm_world.specs.Looks.{LookedAround, PolledBefore, PolledUnlessW
 ghost use Rattle.nm_world.specs.Looks.{looks_next};
 ghost use Rattle.nm_world.specs.Rest.{CanMove, IsStill};
 
-use crate::bells::Bells;
 use crate::places::{Places, address, restore_header};
 use nm_chain::seats::Steps;
 use nm_copyring::{RingPort, Rings, can_pull, can_push, pull, push};
+use nm_crews::bells::Bells;
 use nm_global::standing::laws::passing::{
     a_packet_is_taken, a_packet_leaves, a_piece_is_taken, a_piece_leaves,
 };

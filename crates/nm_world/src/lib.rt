@@ -23,8 +23,6 @@
 #![tactic(auto)]
 
 mod actors;
-mod bells;
-mod blocks;
 mod by_rank;
 pub mod laws;
 mod places;

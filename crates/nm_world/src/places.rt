@@ -3,9 +3,9 @@
 ghost use Rattle.std.specs.Prelude.{◌≡◌};
 ghost use Rattle.nm_world.specs.Parcels.{packet_of, parcel_of};
 
-use crate::bells::{Bells, bit_of};
-use crate::blocks;
 use nm_chain::table::Parcel;
+use nm_crews::bells::{Bells, bit_of};
+use nm_crews::blocks;
 use nm_types::{Memory, Packet, Piece};
 use std::alloc::Global;
 use std::marker::Model;

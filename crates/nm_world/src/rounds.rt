@@ -2,24 +2,24 @@
 
 ghost use Rattle.std.specs.Prelude.{◌≡◌, ◌<◌, ◌↔◌, length, true, false, IfOk};
 ghost use Rattle.std.specs.List.{All};
-ghost use Rattle.std.specs.Thread.{IsSync};
 ghost use Rattle.nm_rank.specs.Ranks.{IsFresh};
 ghost use Rattle.nm_world.specs.Actors.{AllContinue, Continues, SomeGrew, ActorInvariant, did, did_any};
 ghost use Rattle.nm_world.specs.Idle.{AllIdle, Idle};
 ghost use Rattle.nm_world.specs.Sweeps.{HasSwept, Swept};
 
 use crate::Actor;
-use crate::bells::{Bells, Crews, place_of};
-use crate::blocks::ask_for_crew;
 use nm_chain::seats::Steps;
 use nm_copyring::Rings;
+use nm_crews::bells::{Bells, Crews, Ranked, place_of};
+use nm_crews::blocks::ask_for_crew;
+use nm_crews::{Work, turns_by};
 use nm_outside::Gate;
 use nm_port::Fabric;
 use nm_types::{Line, Memory, Packet};
 use std::marker::Brand;
 use std::sync::Wait;
 use std::sync::ledger::{Blank, Ledger};
-use std::thread::{Threads, available_parallelism, join_mut};
+use std::thread::{Threads, available_parallelism};
 
 // A turn of an actor, if its place is due or all make one. It answers whether that moved anything, and
 // which places of its crew are due then.
@@ -141,48 +141,51 @@ fn turns_of<R: Wait, G: Gate>(
     Ok(moved)
 }
 
-// Turns of these actors by so many crews from this one on, each in a thread of its own where one can be
-// made.
-fn halves<R: Threads + Wait + Sync, G: Gate + Sync>(
-    rt: &R,
-    actors: &mut [Actor],
-    lines: &[Line],
-    f: &Fabric<Packet>,
-    r: &Rings,
-    gate: &G,
-    turns: u32,
-    bells: &Bells,
-    first: usize,
-    crews: usize,
-) -> Result<bool, Memory>
-    requires stands { All (ActorInvariant lines.now f.now r.now) actors.old }
-    ensures swept { IfOk result (λ moved.
-        HasSwept f.now.ranks lines.now f.now r.now moved actors.old actors.new) }
-{
-    if crews <= 1 {
-        return turns_of(rt, actors, lines, f, r, gate, turns, bells, first);
+impl Ranked for Actor {
+    fn rank(&self) -> u8 {
+        self.port.rank()
     }
-    let low = crews / 2;
-    let high = crews - low;
-    let second = first.saturating_add(low);
-    let count = bells.actors_of(first, low).min(actors.len());
-    let (front, back) = actors.split_at_mut(count);
-    let (one, other) = join_mut(
-        rt,
-        &mut || -> Result<bool, Memory>
-            requires { IsSync R.row × All (ActorInvariant lines.now f.now r.now) front.now }
-            ensures swept { IfOk result (λ moved. HasSwept f.entry.now.ranks lines.entry.now f.entry.now
-                r.entry.now moved front.entry.now front.exit.now) }
-        { halves(rt, front, lines, f, r, gate, turns, bells, first, low) },
-        &mut || -> Result<bool, Memory>
-            requires { IsSync R.row × All (ActorInvariant lines.now f.now r.now) back.now }
-            ensures swept { IfOk result (λ moved. HasSwept f.entry.now.ranks lines.entry.now f.entry.now
-                r.entry.now moved back.entry.now back.exit.now) }
-        { halves(rt, back, lines, f, r, gate, turns, bells, second, high) },
-    );
-    let one = one?;
-    let other = other?;
-    Ok(one | other)
+}
+
+// What the crews of a round share.
+#[derive(Drop)]
+struct Round<'a, R, G> {
+    rt: &'a R,
+    lines: &'a [Line],
+    fabric: &'a Fabric<Packet>,
+    rings: &'a Rings,
+    gate: &'a G,
+    // how many turns an actor makes at most
+    turns: u32,
+    bells: &'a Bells,
+}
+
+impl<'a, R: Wait, G: Gate> Work<Actor> for Round<'a, R, G> {
+    ghost use Rattle.nm_world.specs.Actors.{ActorInvariant};
+    ghost use Rattle.nm_world.specs.Sweeps.{HasSwept};
+
+    ghost stands = { λ w a. ActorInvariant w.lines.now w.fabric.now w.rings.now a };
+
+    ghost told = { λ w some old new.
+        HasSwept w.fabric.now.ranks w.lines.now w.fabric.now w.rings.now some old new };
+
+    fn count(&self, first: usize, crews: usize) -> usize {
+        self.bells.items_of(first, crews)
+    }
+
+    fn turns(&self, crew: usize, actors: &mut [Actor]) -> Result<bool, Memory> {
+        turns_of(
+            self.rt,
+            actors,
+            self.lines,
+            self.fabric,
+            self.rings,
+            self.gate,
+            self.turns,
+            self.bells,
+            crew,
+        )
+    }
 }
 
 // In how many threads the turns of so many actors are made: as many as there are processors, at least
@@ -245,7 +248,16 @@ pub(crate) fn round_in<R: Threads + Wait + Sync, G: Gate + Sync>(
     let count = crews.count();
     let turns = crews.turns(turns);
     let bells = Bells::new(one.places.allocator(), actors, count)?;
-    let moved = halves(rt, actors, lines, f, r, gate, turns, &bells, 0, count)?;
+    let round = Round {
+        rt,
+        lines,
+        fabric: f,
+        rings: r,
+        gate,
+        turns,
+        bells: &bells,
+    };
+    let moved = turns_by(rt, &round, 0, count, actors)?;
     crews.learn(&bells);
     Ok(moved)
 }

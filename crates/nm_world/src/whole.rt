@@ -22,13 +22,13 @@ ghost use Rattle.nm_world.specs.Runs.{AllAgree, AreRanked, InPlace};
 ghost use Rattle.nm_world.specs.Runs.{IsStillAt, IsWhole, NewInOrder, PairAgrees, RowAgrees, SomeMoves};
 
 use crate::Actor;
-use crate::bells::Crews;
-use crate::blocks::ask_for_run;
 use crate::by_rank::places_by_rank;
 use crate::laws::{a_still_actor_ends, actors_at_rest_make_a_run};
 use crate::records::{Parts, add, parts_of};
 use crate::rounds::{crews_for, round_in};
 use nm_copyring::{RingAccount, RingPort, Rings};
+use nm_crews::bells::Crews;
+use nm_crews::blocks::ask_for_run;
 use nm_outside::Gate;
 use nm_port::{Closed, Fabric, Port};
 use nm_process::Leavings;

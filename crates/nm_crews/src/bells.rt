@@ -42,7 +42,6 @@
 //! that, the round ends, and the next one is made in one crew, which waits for nobody. After `ALONE` turns
 //! all crews are tried again. Where one crew alone was at work for other reasons, little is lost by it.
 
-use crate::Actor;
 use crate::blocks::{PAGES, pages_ahead, write_up_to};
 use nm_types::Memory;
 use std::alloc::Global;
@@ -143,7 +142,7 @@ impl Crew {
 
 /// What the crews of a round share.
 #[derive(Drop)]
-pub(crate) struct Bells {
+pub struct Bells {
     crews: Vec<Crew>,
     // how many crews are awake, rung or have not begun, and no less
     awake: AtomicU64,
@@ -157,7 +156,7 @@ pub(crate) struct Bells {
 
 /// In how many crews the turns of a run are made.
 #[derive(Drop)]
-pub(crate) struct Crews {
+pub struct Crews {
     // as many as can be had
     most: usize,
     // other work has the processors: the next round is made in one
@@ -190,29 +189,35 @@ impl Crews {
 }
 
 /// The bit of a rank.
-pub(crate) fn bit_of(rank: u8) -> u64 {
+pub fn bit_of(rank: u8) -> u64 {
     1u64 << (rank % 64)
 }
 
 /// The place of a rank in the bell of its crew.
-pub(crate) fn place_of(rank: u8) -> u64 {
+pub fn place_of(rank: u8) -> u64 {
     1u64 << (rank % 32)
 }
 
-// The ranks of these actors.
-fn ranks_of(actors: &[Actor]) -> u64 {
+/// What is of a rank.
+pub trait Ranked {
+    /// Its rank.
+    fn rank(&self) -> u8;
+}
+
+// The ranks of these items.
+fn ranks_of<T: Ranked>(items: &[T]) -> u64 {
     let mut ranks = 0;
-    for actor in actors {
-        ranks = ranks | bit_of(actor.port.rank());
+    for item in items {
+        ranks = ranks | bit_of(item.rank());
     }
     ranks
 }
 
 impl Bells {
-    /// Bells of so many crews, among which these actors are split evenly.
-    pub fn new(alloc: Global, actors: &[Actor], crews: usize) -> Result<Bells, Memory> {
+    /// Bells of so many crews, among which these items are split evenly.
+    pub fn new<T: Ranked>(alloc: Global, items: &[T], crews: usize) -> Result<Bells, Memory> {
         let mut all = Vec::new(alloc);
-        let mut rest = actors;
+        let mut rest = items;
         for crew in 0..crews {
             let (own, more) = rest.split_at(rest.len() / (crews - crew));
             all.push(Crew {
@@ -231,8 +236,8 @@ impl Bells {
         })
     }
 
-    /// How many actors so many crews have, from this one on.
-    pub fn actors_of(&self, first: usize, crews: usize) -> usize {
+    /// How many items so many crews have, from this one on.
+    pub fn items_of(&self, first: usize, crews: usize) -> usize {
         let mut count: usize = 0;
         for crew in self.crews.iter().skip(first).take(crews) {
             count = count.saturating_add(crew.ranks.count_ones() as usize);

@@ -21,10 +21,10 @@ const RUN: usize = 4_194_304;
 const CREW: usize = 2_097_152;
 
 /// The block for what comes to a rank, in bytes.
-pub(crate) const RANK: usize = 1_048_576;
+pub const RANK: usize = 1_048_576;
 
 /// How many pages a crew that has nothing to do writes to.
-pub(crate) const PAGES: usize = 32;
+pub const PAGES: usize = 32;
 
 /// The bytes of a page.
 const PAGE: usize = 4096;
@@ -35,26 +35,26 @@ fn block(alloc: Global, bytes: usize) -> Result<Vec<u8>, Memory> {
 }
 
 /// Asks for the block of a run, once, before anything else of it is made.
-pub(crate) fn ask_for_run(alloc: Global) {
+pub fn ask_for_run(alloc: Global) {
     let _ = block(alloc, RUN);
 }
 
 /// Asks for the block of a crew, in the crew's own thread.
-pub(crate) fn ask_for_crew(alloc: Global) {
+pub fn ask_for_crew(alloc: Global) {
     let _ = block(alloc, CREW);
 }
 
 /// Asks for the block of a rank, in the thread in which its turns are made.
-pub(crate) fn ask_for_rank(alloc: Global) {
+pub fn ask_for_rank(alloc: Global) {
     let _ = block(alloc, RANK);
 }
 
 /// A block of so many pages, nothing of which is written.
-pub(crate) fn pages_ahead(alloc: Global) -> Result<Vec<u8>, Memory> {
+pub fn pages_ahead(alloc: Global) -> Result<Vec<u8>, Memory> {
     block(alloc, PAGES * PAGE)
 }
 
 /// Writes to the pages of such a block up to this one, from 0.
-pub(crate) fn write_up_to(block: &mut Vec<u8>, page: usize) {
+pub fn write_up_to(block: &mut Vec<u8>, page: usize) {
     let _ = block.resize(page.saturating_add(1).saturating_mul(PAGE), 0);
 }
