@@ -149,7 +149,7 @@ impl Ranked for Actor {
 
 // What the crews of a round share.
 #[derive(Drop)]
-struct Round<'a, R, G> {
+struct Turns<'a, R, G> {
     rt: &'a R,
     lines: &'a [Line],
     fabric: &'a Fabric<Packet>,
@@ -160,7 +160,7 @@ struct Round<'a, R, G> {
     bells: &'a Bells,
 }
 
-impl<'a, R: Wait, G: Gate> Work<Actor> for Round<'a, R, G> {
+impl<'a, R: Wait, G: Gate> Work<Actor> for Turns<'a, R, G> {
     ghost use Rattle.nm_world.specs.Actors.{ActorInvariant};
     ghost use Rattle.nm_world.specs.Sweeps.{HasSwept};
 
@@ -248,7 +248,7 @@ pub(crate) fn round_in<R: Threads + Wait + Sync, G: Gate + Sync>(
     let count = crews.count();
     let turns = crews.turns(turns);
     let bells = Bells::new(one.places.allocator(), actors, count)?;
-    let round = Round {
+    let work = Turns {
         rt,
         lines,
         fabric: f,
@@ -257,7 +257,7 @@ pub(crate) fn round_in<R: Threads + Wait + Sync, G: Gate + Sync>(
         turns,
         bells: &bells,
     };
-    let moved = turns_by(rt, &round, 0, count, actors)?;
+    let moved = turns_by(rt, &work, 0, count, actors)?;
     crews.learn(&bells);
     Ok(moved)
 }
