@@ -1,4 +1,4 @@
-/* A model of the crews of a round: how they ring, sleep, are woken and end (nm_world: bells.rt, rounds.rt). `.ci/wakes`
+/* A model of the crews of a round: how they ring, sleep, are woken and end (nm_crews: bells.rt, forks.rt; nm_world: rounds.rt). `.ci/wakes`
  * builds it, and holds the lines that it quotes against the sources. It makes each step on a shared word by itself, in
  * every order that there is, and looks at each state that comes of it:
  *
