@@ -39,7 +39,7 @@ use Rattle.nm_types.proofs.NumberLemmas.{same_number}
 use Rattle.nm_types.proofs.TruthLemmas.{and_left, and_right}
 
 -- the commands of a script are in range
-in_range_from : (ranks rank number : ℕ) (lines : List Line) →
+pub in_range_from : (ranks rank number : ℕ) (lines : List Line) →
     list_all (λ line. nat_lt line.rank ranks && is_in_range ranks line.command) lines ≡ true →
     AllByRecursion (λ (c : Numbered). is_in_range ranks c.command ≡ true) (commands_from rank number lines)
 in_range_from ranks rank number [] right = tt

@@ -10,6 +10,7 @@ use Rattle.nm_copyring.specs.declared.port.Rings.{Rings}
 use Rattle.nm_rank.specs.Ranks.{IsFresh}
 use Rattle.nm_process.specs.Processes.{ProcessView}
 use Rattle.nm_crews.specs.Crews.{HaveTold}
+use Rattle.nm_crews.specs.Crews.HaveTold.{halves, sole}
 use Rattle.nm_world.specs.declared.actors.Actor.{Actor}
 use Rattle.nm_world.specs.Actors.{Continues, ActorInvariant, did}
 use Rattle.nm_world.specs.Idle.{Idle}
@@ -119,9 +120,9 @@ swept_halves n lines f r xs ys xs' ys' p q one two = record {
 }
 
 -- and so what all crews have told
-pub swept_all : (n : ℕ) (lines : List Line) (f : Fabric Packet) (r : Rings) (xs xs' : List Actor) (p : Bool) →
-    HaveTold (HasSwept n lines f r) p xs xs' → HasSwept n lines f r p xs xs'
-swept_all n lines f r xs xs' p (HaveTold.one told) = told
-swept_all n lines f r xs xs' p (HaveTold.both {q} {q'} {ys} {zs} {ys'} {zs'} front back) =
-    swept_halves n lines f r ys zs ys' zs' q q' (swept_all n lines f r ys ys' q front)
-    (swept_all n lines f r zs zs' q' back)
+pub swept_all : (n : ℕ) (lines : List Line) (f : Fabric Packet) (r : Rings) (old new : List Actor) (some : Bool) →
+    HaveTold (HasSwept n lines f r) some old new → HasSwept n lines f r some old new
+swept_all n lines f r old new some (sole told) = told
+swept_all n lines f r old new some (halves {p} {q} {xs} {ys} {xs'} {ys'} front back) =
+    swept_halves n lines f r xs ys xs' ys' p q (swept_all n lines f r xs xs' p front)
+    (swept_all n lines f r ys ys' q back)
