@@ -3,6 +3,9 @@
 //! clearances, matching by source, tag and context, and a history of all events that stays until the end.
 //!
 //!   protocol flood KEY RANKS MESSAGES [--cells N]
+//!   protocol pingpong|window LENGTH TIMES
+//!
+//! A ping-pong has so many round trips of two ranks, and a window 64 messages, each with an empty answer.
 //!
 //! What its figures are for: they show what the protocol itself need not exceed. Where `threads.rs` is faster than
 //! this program, that is at most the price of the protocol; what the proved program takes beyond this one may still
@@ -21,7 +24,7 @@
 //!
 //! Standard output: the summary, as `nemesis flood` prints it. The last line is `done` where each receive got a
 //! message that fits it, with the bytes that were sent, all cells are home and each rank came to its end; else `bad`,
-//! with status 1.
+//! with status 1. A ping-pong and windows print nanoseconds for each message in its place.
 use std::cell::UnsafeCell;
 use std::collections::{HashMap, VecDeque};
 use std::hash::{BuildHasherDefault, Hasher};
@@ -32,6 +35,7 @@ use std::process::exit;
 use std::sync::atomic::{AtomicU64, Ordering::SeqCst};
 use std::sync::OnceLock;
 use std::thread::{self, Thread};
+use std::time::Instant;
 
 // The protocol's numbers, as the program has them.
 const CELLS: usize = 8;
@@ -41,6 +45,8 @@ const BOX: usize = 64;
 const PLACES: usize = 4;
 const PIECE: usize = 1024;
 const EAGER: u32 = 1024;
+// How many messages are under way before the sender waits, where they go in windows.
+const WINDOW: u16 = 64;
 // How much a rank does of one kind in a turn, and how often a crew looks at its bell before it sleeps.
 const TURN: usize = 64;
 const PULLS: usize = 4;
@@ -60,7 +66,7 @@ struct Envelope {
 enum Command {
     Send { q: u16, to: u8, env: Envelope },
     Receive { q: u16, from: u8, env: Envelope },
-    Wait { q: u16 },
+    Wait { q: u16, from: u8, env: Envelope }, // a receive's: of a message like this, whatever its length
 }
 
 // Receives are named from here on.
@@ -74,27 +80,84 @@ fn envelope(k: usize, len: u32, ask: bool) -> Envelope {
     Envelope { len, tag: (k % 1000) as u16, ctx: (k % 3) as u8, ask }
 }
 
-/// The commands of each rank.
-fn script(key: usize, ranks: usize, messages: usize) -> Vec<Vec<Command>> {
+/// What ranks do: their commands, and how many messages of how many bytes there are in all.
+struct Script {
+    own: Vec<Vec<Command>>,
+    messages: usize,
+    bytes: usize,
+}
+
+impl Script {
+    fn new(ranks: usize, messages: usize, bytes: usize) -> Script {
+        let each = 4 * messages.div_ceil(ranks);
+        Script { own: (0..ranks).map(|_| Vec::with_capacity(each)).collect(), messages, bytes }
+    }
+    fn send(&mut self, k: u16, from: usize, to: usize, env: Envelope) {
+        self.own[from].push(Command::Send { q: k, to: to as u8, env });
+    }
+    fn receive(&mut self, k: u16, from: usize, to: usize, env: Envelope) {
+        self.own[to].push(Command::Receive { q: RECEIVES + k, from: from as u8, env });
+    }
+    fn wait_for_send(&mut self, k: u16, from: usize) {
+        self.own[from].push(Command::Wait { q: k, from: from as u8, env: NONE });
+    }
+    fn wait_for_receive(&mut self, k: u16, from: usize, to: usize, env: Envelope) {
+        self.own[to].push(Command::Wait { q: RECEIVES + k, from: from as u8, env });
+    }
+}
+
+/// A flood.
+fn flood(key: usize, ranks: usize, messages: usize) -> Script {
     let sender = |k: usize| k % ranks;
     let receiver = |k: usize| (k % ranks + k / ranks + key) % ranks;
-    let each = 4 * messages.div_ceil(ranks);
-    let mut own: Vec<Vec<Command>> = (0..ranks).map(|_| Vec::with_capacity(each)).collect();
+    let mut it = Script::new(ranks, messages, (0..messages).map(|k| length(key, k) as usize).sum());
     for k in 0..messages {
-        let env = envelope(k, length(key, k), k % 8 == 7);
-        own[sender(k)].push(Command::Send { q: k as u16, to: receiver(k) as u8, env });
+        it.send(k as u16, sender(k), receiver(k), envelope(k, length(key, k), k % 8 == 7));
     }
     for k in (0..messages).rev() {
-        let env = envelope(k, 2048, false);
-        own[receiver(k)].push(Command::Receive { q: RECEIVES + k as u16, from: sender(k) as u8, env });
+        it.receive(k as u16, sender(k), receiver(k), envelope(k, 2048, false));
     }
     for k in 0..messages {
-        own[sender(k)].push(Command::Wait { q: k as u16 });
+        it.wait_for_send(k as u16, sender(k));
     }
     for k in 0..messages {
-        own[receiver(k)].push(Command::Wait { q: RECEIVES + k as u16 });
+        it.wait_for_receive(k as u16, sender(k), receiver(k), envelope(k, 2048, false));
     }
-    own
+    it
+}
+
+/// So many round trips between two ranks.
+fn pingpong(length: u32, times: usize) -> Script {
+    let mut it = Script::new(2, 2 * times, 2 * times * length as usize);
+    let env = envelope(0, length, false);
+    for (from, to) in [(0, 1), (1, 0)].repeat(times) {
+        it.send(0, from, to, env);
+        it.wait_for_send(0, from);
+        it.receive(0, from, to, env);
+        it.wait_for_receive(0, from, to, env);
+    }
+    it
+}
+
+/// So many windows of messages from the first rank to the second one.
+fn window(length: u32, times: usize) -> Script {
+    let mut it = Script::new(2, times * (WINDOW as usize + 1), times * WINDOW as usize * length as usize);
+    let (env, empty) = (envelope(0, length, false), envelope(1, 0, false));
+    for _ in 0..times {
+        for k in 0..WINDOW {
+            it.send(k, 0, 1, env);
+            it.receive(k, 0, 1, env);
+        }
+        for k in 0..WINDOW {
+            it.wait_for_send(k, 0);
+            it.wait_for_receive(k, 0, 1, env);
+        }
+        it.send(0, 1, 0, empty);
+        it.wait_for_send(0, 1);
+        it.receive(0, 1, 0, empty);
+        it.wait_for_receive(0, 1, 0, empty);
+    }
+    it
 }
 
 /// The bytes of all bodies, from any byte of the period on.
@@ -789,7 +852,7 @@ impl Rank<'_> {
         let ran = match self.own.get(self.at) {
             Some(&Command::Send { q, to, env }) => self.start_send(q, to, env),
             Some(&Command::Receive { q, from, env }) => self.start_receive(q, from, env),
-            Some(&Command::Wait { q }) => self.wait(q),
+            Some(&Command::Wait { q, from, env }) => self.wait(q, from, env),
             None => false,
         };
         self.at += ran as usize;
@@ -832,7 +895,7 @@ impl Rank<'_> {
         true
     }
     /// Whether a request is complete; if so, its name is free again.
-    fn wait(&mut self, q: u16) -> bool {
+    fn wait(&mut self, q: u16, source: u8, like: Envelope) -> bool {
         let name = self.names[q as usize];
         if name & SEND != 0 {
             if !self.peers[(name >> 16 & 63) as usize].sent[(name & 0xFFFF) as usize].out {
@@ -846,9 +909,9 @@ impl Rank<'_> {
                 return false;
             }
             let Receipt { body, env, .. } = &self.peers[from as usize].came[n as usize];
-            let (k, ranks) = ((q - RECEIVES) as usize, self.peers.len());
-            let fit = envelope(k, env.len, env.ask) == *env && k % ranks == from as usize;
-            let more = [0, 1, env.len as u64, (fit && body[..] == PATTERN[..body.len()]) as u64];
+            let fit = Envelope { len: env.len, ask: env.ask, ..like } == *env && source == from;
+            let right = fit && body.chunks(8 * 251).all(|it| *it == PATTERN[..it.len()]);
+            let more = [0, 1, env.len as u64, right as u64];
             self.totals.iter_mut().zip(more).for_each(|(all, one)| *all += one);
             self.history.add(Did::Got, from, n, self.at, *env);
         }
@@ -915,43 +978,66 @@ fn rounds<'a>(crew: usize, s: &Shared, own: &'a [Vec<Command>], names: usize) ->
 
 // ---------------------------------------------------------------- the whole
 
-/// The numbers of the command line, where they are fit: key, ranks, messages, cells.
-fn numbers() -> Option<[usize; 4]> {
-    let words: Vec<String> = std::env::args().skip(1).collect();
-    let words: Vec<&str> = words.iter().map(String::as_str).collect();
-    let (key, ranks, messages, cells) = match words[..] {
-        ["flood", key, ranks, messages] => (key, ranks, messages, CELLS),
-        ["flood", key, ranks, messages, "--cells", cells] => (key, ranks, messages, cells.parse().ok()?),
-        _ => return None,
-    };
-    let (key, ranks, messages) = (key.parse().ok()?, ranks.parse().ok()?, messages.parse().ok()?);
-    let fit = key < 65536 && (1..=64).contains(&ranks) && messages <= 16000 && (1..=64).contains(&cells);
-    fit.then_some([key, ranks, messages, cells])
+/// What the command line asks for, where it is fit, and the cells of each rank.
+fn asked(words: &[&str]) -> Option<(Script, usize)> {
+    let number = |word: &str, most| word.parse().ok().filter(|number| *number <= most);
+    match *words {
+        ["flood", key, ranks, messages, ref rest @ ..] => {
+            let cells = match *rest {
+                [] => CELLS,
+                ["--cells", cells] => number(cells, 64).filter(|it| *it > 0)?,
+                _ => return None,
+            };
+            let ranks = number(ranks, 64).filter(|it| *it > 0)?;
+            Some((flood(number(key, 65535)?, ranks, number(messages, 16000)?), cells))
+        }
+        ["pingpong", length, times] => Some((pingpong(number(length, 1 << 20)? as u32, number(times, 8000)?), CELLS)),
+        ["window", length, times] => Some((window(number(length, 1 << 20)? as u32, number(times, 250)?), CELLS)),
+        _ => None,
+    }
 }
 
-fn main() {
-    let Some([key, ranks, messages, cells]) = numbers() else {
-        eprintln!("protocol flood KEY RANKS MESSAGES [--cells N]");
-        exit(2)
-    };
-    let (own, names) = (&script(key, ranks, messages)[..], RECEIVES as usize + messages);
-    let crews = thread::available_parallelism().map_or(2, |n| n.get().max(2)).min(ranks);
-    let s = &Shared::new(ranks, cells, crews);
-    let mut all = thread::scope(|scope| {
-        let others: Vec<_> = (1..crews).map(|c| scope.spawn(move || rounds(c, s, own, names))).collect();
+/// All ranks at their ends, and the nanoseconds that this took.
+fn run<'a>(s: &'a Shared, own: &'a [Vec<Command>], names: usize) -> (Vec<Rank<'a>>, u128) {
+    let begun = Instant::now();
+    let all = thread::scope(|scope| {
+        let others: Vec<_> = (1..s.crews.len()).map(|c| scope.spawn(move || rounds(c, s, own, names))).collect();
         let mut all = rounds(0, s, own, names);
         all.extend(others.into_iter().flat_map(|it| it.join().expect("a crew ended early")));
         all
     });
+    (all, begun.elapsed().as_nanos())
+}
+
+fn main() {
+    let words: Vec<String> = std::env::args().skip(1).collect();
+    let words: Vec<&str> = words.iter().map(String::as_str).collect();
+    let Some((Script { own, messages, bytes: length }, cells)) = asked(&words) else {
+        eprintln!("protocol flood KEY RANKS MESSAGES [--cells N]\nprotocol pingpong|window LENGTH TIMES");
+        exit(2)
+    };
+    let (ranks, names) = (own.len(), RECEIVES as usize + messages.max(WINDOW as usize));
+    let crews = thread::available_parallelism().map_or(2, |n| n.get().max(2)).min(ranks);
+    let s = &Shared::new(ranks, cells, crews);
+    let (mut all, took) = run(s, &own, names);
     let totals = [0, 1, 2, 3].map(|k| all.iter().map(|rank| rank.totals[k]).sum::<u64>());
     let [sent, got, bytes, _] = totals;
-    let [count, length] = [messages as u64, (0..messages).map(|k| length(key, k) as u64).sum()];
+    let [count, length] = [messages, length].map(|it| it as u64);
     let back = |rank: &mut Rank| from_fn(|| s.dequeue(&s.doors[rank.me as usize].free, &mut rank.free)).count();
     let home: usize = all.iter_mut().map(|rank| cells - rank.used + back(rank)).sum();
     let ended = all.iter().all(|rank| rank.at == rank.own.len());
     let done = ended && totals == [count, count, length, count] && home == ranks * cells;
-    println!("flood {key} {ranks} {messages}\nsent {sent}\ngot {got} bytes {bytes}");
-    println!("cells {} home {home}\n{}", ranks * cells, if done { "done" } else { "bad" });
+    match words[0] {
+        "flood" => {
+            println!("{}\nsent {sent}\ngot {got} bytes {bytes}", words[..4].join(" "));
+            println!("cells {} home {home}\n{}", ranks * cells, if done { "done" } else { "bad" });
+        }
+        shape => {
+            // the answers of windows are not counted
+            let counted = if shape == "window" { messages / (WINDOW as usize + 1) * WINDOW as usize } else { messages };
+            println!("{}", if done { format!("{:.1}", took as f64 / counted as f64) } else { "bad".into() });
+        }
+    }
     // no memory is given back
     exit(!done as i32)
 }
