@@ -19,8 +19,14 @@
 //! for each message at each end, by rank and number. Two switches tell what the history costs (`rustc --cfg`):
 //!   no_history     none is kept
 //!   small_events   events of 24 bytes, and not of 48
-//! and a third one what the size of its records costs:
+//! a third one what the size of its records costs:
 //!   wide_records   each record of a message or a request has about as many bytes as the proved program keeps of it
+//! and four what else a message could gain between two ranks:
+//!   rung_bells     a crew of one rank leaves its bell rung while it is at work, so who rings again writes nothing, and
+//!                  looks into the boxes of all that ever sent to it
+//!   at_once        a message leaves right after its command, and pieces in the turn in which places were emptied
+//!   used_bodies    the memory of a body is used again once its receive was waited for
+//!   long_pieces    pieces of 8,192 bytes, and not of 1,024
 //!
 //! Standard output: the summary, as `nemesis flood` prints it. The last line is `done` where each receive got a
 //! message that fits it, with the bytes that were sent, all cells are home and each rank came to its end; else `bad`,
@@ -43,7 +49,7 @@ const PACKET: usize = 256;
 const BOXES: usize = 4;
 const BOX: usize = 64;
 const PLACES: usize = 4;
-const PIECE: usize = 1024;
+const PIECE: usize = if cfg!(long_pieces) { 8192 } else { 1024 };
 const EAGER: u32 = 1024;
 // How many messages are under way before the sender waits, where they go in windows.
 const WINDOW: u16 = 64;
@@ -51,6 +57,8 @@ const WINDOW: u16 = 64;
 const TURN: usize = 64;
 const PULLS: usize = 4;
 const LOOKS: usize = 10_000;
+// How many turns for nothing a crew makes while its bell stays rung.
+const SPINS: usize = 200;
 
 // ---------------------------------------------------------------- the script
 
@@ -161,8 +169,8 @@ fn window(length: u32, times: usize) -> Script {
 }
 
 /// The bytes of all bodies, from any byte of the period on.
-static PATTERN: [u8; 251 + 2048] = {
-    let mut bytes = [0; 251 + 2048];
+static PATTERN: [u8; 251 + 8192] = {
+    let mut bytes = [0; 251 + 8192];
     let mut k = 0;
     while k < bytes.len() {
         bytes[k] = ((31 * k + 7) % 251) as u8;
@@ -406,6 +414,11 @@ impl Shared {
             self.awake.0.fetch_sub(1, SeqCst);
         }
     }
+    /// Which ranks of a crew are rung, and stay so.
+    fn still_rung(&self, crew: usize) -> Option<u64> {
+        let seen = self.bells[crew].word.0.load(SeqCst);
+        (seen != 0 && seen & (OVER | SLEEPS) == 0).then_some(seen)
+    }
     /// Which ranks of a crew may have something to do, beside these. None: no crew has, so all is over.
     fn next(&self, crew: usize, due: u64) -> Option<u64> {
         let bell = &self.bells[crew];
@@ -590,6 +603,7 @@ struct Rank<'a> {
     cleared: VecDeque<Note>,         // messages that are to leave in pieces
     pushed: u32,                     // bytes of the first one there
     spare: Option<Box<[u8; PIECE]>>, // memory for a piece
+    used_bodies: Vec<Vec<u8>>,       // whose memory is used again
     asked: usize,                    // memory that was taken since it was asked for ahead
     due: u64,                        // whose pieces are to come
     hot: u64,                        // whose boxes may be filled
@@ -703,8 +717,11 @@ impl Rank<'_> {
 
     // ------------------------------------------------------------ what comes
 
-    /// Room for a body, of memory that is asked for by blocks.
+    /// Room for a body: memory that was used, if the last one's is enough, or such as is asked for by blocks.
     fn body(&mut self, len: u32) -> Vec<u8> {
+        if let Some(used) = self.used_bodies.pop_if(|it| it.capacity() >= len as usize) {
+            return used;
+        }
         self.asked += len as usize + 256;
         if self.asked >= AHEAD {
             self.asked = 0;
@@ -772,7 +789,7 @@ impl Rank<'_> {
         let slot = &s.pair(from, self.me).boxes[peer.unboxed as usize % BOXES];
         let flag = slot.flag.load(SeqCst);
         if flag != peer.taken as u64 + 1 {
-            if flag == 0 {
+            if flag == 0 && !self.keeps_rung(s) {
                 self.hot &= !(1 << from);
             }
             return false;
@@ -858,6 +875,15 @@ impl Rank<'_> {
         self.at += ran as usize;
         ran
     }
+    /// Runs the next command; what it makes ready leaves at once, where nothing is before it.
+    fn run_and_send(&mut self, s: &Shared) -> bool {
+        let first = self.outbox.is_empty();
+        let ran = self.run_next();
+        if cfg!(at_once) && ran && first {
+            self.send_next(s);
+        }
+        ran
+    }
     fn start_send(&mut self, q: u16, to: u8, env: Envelope) -> bool {
         let env = Envelope { ask: env.ask || env.len > EAGER, ..env };
         let peer = &mut self.peers[to as usize];
@@ -908,12 +934,16 @@ impl Rank<'_> {
             if !paired || !self.peers[from as usize].came[n as usize].is_whole() {
                 return false;
             }
-            let Receipt { body, env, .. } = &self.peers[from as usize].came[n as usize];
+            let Receipt { body, env, .. } = &mut self.peers[from as usize].came[n as usize];
             let fit = Envelope { len: env.len, ask: env.ask, ..like } == *env && source == from;
             let right = fit && body.chunks(8 * 251).all(|it| *it == PATTERN[..it.len()]);
             let more = [0, 1, env.len as u64, right as u64];
             self.totals.iter_mut().zip(more).for_each(|(all, one)| *all += one);
             self.history.add(Did::Got, from, n, self.at, *env);
+            if cfg!(used_bodies) && !body.is_empty() {
+                body.clear();
+                self.used_bodies.push(take(body));
+            }
         }
         self.names[q as usize] = 0;
         true
@@ -941,6 +971,10 @@ impl Rank<'_> {
         }
         here
     }
+    /// Whether its crew leaves its bell rung while it is at work.
+    fn keeps_rung(&self, s: &Shared) -> bool {
+        cfg!(rung_bells) && s.crews[self.crew].len() == 1
+    }
     /// Which ranks of its crew have something to do after its turn.
     fn turn(&mut self, s: &Shared) -> u64 {
         let sent = some(TURN, || self.send_next(s));
@@ -952,8 +986,9 @@ impl Rank<'_> {
         }
         let took = self.take_all(s);
         let pulled = bits(self.due).fold(false, |any, from| any | some(PULLS, || self.pull_next(s, from)));
+        let pushed = pushed | (cfg!(at_once) && some(TURN, || self.push_next(s)));
         let told = told | self.tell(s);
-        let ran = some(TURN, || self.run_next());
+        let ran = some(TURN, || self.run_and_send(s));
         let again = sent | pushed | took | pulled | ran;
         told | (again as u64) << (self.me as usize - s.crews[self.crew].start)
     }
@@ -967,11 +1002,13 @@ fn rounds<'a>(crew: usize, s: &Shared, own: &'a [Vec<Command>], names: usize) ->
         Rank { me: me as u8, crew, own: &own[me][..], names: vec![0; names], peers, ..Rank::default() }
     };
     let mut ranks: Vec<Rank> = s.crews[crew].clone().map(rank).collect();
-    let mut next = Some(u64::MAX);
+    let (mut next, mut idle) = (Some(u64::MAX), 0);
     while let Some(due) = next {
         let turns = ranks.iter_mut().enumerate().filter(|(k, _)| due >> k & 1 != 0);
         let more = turns.fold(0, |more, (_, rank)| more | rank.turn(s));
-        next = s.next(crew, more);
+        idle = if more == 0 { idle + 1 } else { 0 };
+        let rung = if idle < SPINS && ranks.iter().all(|it| it.keeps_rung(s)) { s.still_rung(crew) } else { None };
+        next = rung.map(|rung| more | rung).or_else(|| s.next(crew, more));
     }
     ranks
 }
