@@ -2,17 +2,18 @@
 use Rattle.std.proofs.Common.{◌≡◌, ◌⊎◌, inl, inr, ℕ, ◌+◌, ◌<◌, ◌≤◌, ◌==◌, zero, suc, Bool, true}
 use Rattle.std.proofs.Common.{false, cond, Option, Some, None, List, [], ◌∷◌, length, take, refl, sym}
 use Rattle.std.proofs.Common.{◌∙◌, ap, subst, arith, add-one, get_or}
-use Rattle.std.specs.Prelude.{IfSome, map, option_map, unwrap_or}
+use Rattle.std.specs.Prelude.{IfSome, IsSome, map, option_map, unwrap_or}
 use Rattle.std.specs.List.{find, list_all, slice_get}
 use Rattle.std.specs.Option.{option_map_or}
-use Rattle.std.proofs.lemmas.Bool.{eq-eqb}
 use Rattle.std.proofs.lemmas.Bool.Decides.{nat_tests}
 use Rattle.std.proofs.lemmas.List.{take_all}
-use Rattle.std.proofs.lemmas.Option.{slice_get_cases, slice_get_read, slice_get_past}
+use Rattle.std.proofs.lemmas.Option.{slice_get_cases, slice_get_past}
 use Rattle.nm_types.specs.declared.scripts.Command.{Command}
 use Rattle.nm_types.specs.declared.scripts.Line.{Line}
 use Rattle.nm_types.specs.Commands.{Numbered, commands_from, commands_of, command_at, numbered}
-use Rattle.nm_process.specs.Places.{ArePlaces, IsOwnLine, IsPlaced, ScriptedView, place_at}
+use Rattle.nm_process.specs.Lines.{AreLines}
+use Rattle.nm_process.specs.Places.{ArePlaces, IsOwnLine, IsPlaced, ScriptedView, gives_lines, place_at}
+use Rattle.nm_process.specs.Sources.{PassedOn}
 use Rattle.nm_process.specs.Steps.{is_look}
 use Rattle.nm_process.specs.Work.{IsNext}
 use Rattle.nm_types.proofs.TruthLemmas.{and_left, and_right}
@@ -289,48 +290,77 @@ place_from lines me from k own are within counted =
     })
 
 -- the first command stands at its place
-pub placed_first : (lines : List Line) (me next : ℕ) (own : List ℕ) → ArePlaces lines me own →
-    next ≡ place_at own lines 0 → IsPlaced lines me 0 (record { own = own; next = next })
-placed_first lines me next own are is =
+pub placed_first : (lines : List Line) (me ranks next : ℕ) (own : List ℕ) → AreLines ranks lines →
+    ArePlaces lines me own → next ≡ place_at own lines 0 →
+    IsPlaced (record { lines = lines; me = me; ranks = ranks; own = own; at = 0; next = next })
+placed_first lines me ranks next own in_range are is =
     let first = place_from lines me 0 0 own are (omega arith) refl in
-    subst (λ (k : ℕ). IsPlaced lines me 0 (record { own = own; next = k })) (sym is)
-    (record { places = are; counted = first.counted; own = first.own })
+    subst (λ (k : ℕ). IsPlaced (record { lines = lines; me = me; ranks = ranks; own = own; at = 0; next = k })) (sym is)
+    (record { lines = in_range; places = are; counted = first.counted; own = first.own })
 
--- and so does the one after the next one
-pub placed_on : (lines : List Line) (me k at bound line next : ℕ) (x : Command) (s : ScriptedView) →
-    IsPlaced lines me k s → IsNext (commands_of me lines) k bound line x → at ≡ k + 1 →
-    next ≡ place_at s.own lines at →
-    IsPlaced lines me at (record { own = s.own; next = next }) × (line + 1 ≤ next + 2)
-placed_on lines me k at bound line next x s placed is one stands = by_place (slice_get_cases lines s.next).1 where
-  by_place : ((l : Line) × (s.next < length lines) × (slice_get lines s.next ≡ Some l)
-      × (get_or lines s.next l ≡ l)) ⊎ ((length lines ≤ s.next) × (slice_get lines s.next ≡ None)) →
-      IsPlaced lines me at (record { own = s.own; next = next }) × (line + 1 ≤ next + 2)
-  by_place (inl there) =
-      let l = there.0 in
-      let mine = own_line lines me s.next l there.2 placed.own in
-      let same : line ≡ s.next + 2 = ap (λ (o : Option Numbered). option_map_or (λ c. c.line) o 0)
-      (sym is.next ∙ next_command lines me s.next k l there.2 mine placed.counted) in
-      let inside : s.next + 1 ≤ length lines = omega (arith, there.1) in
-      let on = place_from lines me (s.next + 1) at s.own placed.places inside
-      (next_counted lines me s.next k l there.2 mine placed.counted ∙ sym one) in
-      subst (λ (n : ℕ). IsPlaced lines me at (record { own = s.own; next = n }) × (line + 1 ≤ n + 2)) (sym stands) (
-        record { places = placed.places; counted = on.counted; own = on.own },
-        let past = on.past in omega (arith, past, same),
-      )
+-- the command at the place of the next one, where there is one
+line_there : (s : ScriptedView) → IsPlaced s → IsSome (slice_get (commands_of s.me s.lines) s.at) →
+    (l : Line) × (slice_get s.lines s.next ≡ Some l) × (s.next < length s.lines)
+line_there s placed some = by_place (slice_get_cases s.lines s.next).1 where
+  by_place : ((l : Line) × (s.next < length s.lines) × (slice_get s.lines s.next ≡ Some l)
+      × (get_or s.lines s.next l ≡ l)) ⊎ ((length s.lines ≤ s.next) × (slice_get s.lines s.next ≡ None)) →
+      (l : Line) × (slice_get s.lines s.next ≡ Some l) × (s.next < length s.lines)
+  by_place (inl there) = (there.0, there.2, there.1)
   by_place (inr past) =
-      let none = none_is_next lines me s.next k past.0 placed.counted in
-      let never : Some (record { line = line; command = x }) ≡ None = sym is.next ∙ none in cc
+      let never : IsSome {T = Numbered} None = subst (λ (o : Option Numbered). IsSome o)
+      (none_is_next s.lines s.me s.next s.at past.0 placed.counted) some in cc
 
--- the line that is read at the place of the next command
-pub gives_next : (lines : List Line) (me at place : ℕ) (l : Line) (s : ScriptedView) → IsPlaced lines me at s →
-    place ≡ s.next → place < length lines → l ≡ get_or lines place l →
-    IfSome (slice_get lines place) (λ l. l.rank ≡ me) →
-    (at < place + 2) × IsNext (commands_of me lines) at (s.next + 2) (place + 2) l.command
-gives_next lines me at place l s placed here inside is rank =
-    let there : slice_get lines place ≡ Some l = slice_get_read lines (length lines) place l refl inside is in
-    let mine = eq-eqb l.rank me (subst (λ (o : Option Line). IfSome o (λ l. l.rank ≡ me)) there rank) in
-    let counted = subst (λ (k : ℕ). length (commands_of me (take k lines)) ≡ at) (sym here) placed.counted in (
-      at_before lines me place at counted,
-      subst (λ (k : ℕ). IsNext (commands_of me lines) at (k + 2) (place + 2) l.command) here
-          (next_is lines me place at l there mine counted),
+-- the line at the place of the next command is that of the command after those that ran
+pub gives_next : (s : ScriptedView) (l : Line) → IsPlaced s → slice_get s.lines s.next ≡ Some l →
+    (s.at < s.next + 2) × IsNext (commands_of s.me s.lines) s.at (s.next + 2) (s.next + 2) l.command
+gives_next s l placed there =
+    let mine = own_line s.lines s.me s.next l there placed.own in (
+      at_before s.lines s.me s.next s.at placed.counted,
+      next_is s.lines s.me s.next s.at l there mine placed.counted,
     )
+
+-- how many ran is below the number of lines, where one is next
+pub at_few : (s : ScriptedView) → IsPlaced s → IsSome (slice_get (commands_of s.me s.lines) s.at) →
+    s.at < length s.lines
+at_few s placed some =
+    let there = line_there s placed some in
+    let inside = there.2 in
+    let few = count_before s.me 2 s.next s.lines in
+    let counted = placed.counted in
+    omega (arith, inside, few, counted)
+
+-- the command after the next one stands at its place
+pub placed_on : (s : ScriptedView) (next : ℕ) → IsPlaced s →
+    IsSome (slice_get (commands_of s.me s.lines) s.at) → next ≡ place_at s.own s.lines (s.at + 1) →
+    IsPlaced (record s { at = s.at + 1; next = next }) × (s.next + 1 ≤ next)
+placed_on s next placed some stands =
+    let there = line_there s placed some in
+    let inside = there.2 in
+    let mine = own_line s.lines s.me s.next there.0 there.1 placed.own in
+    let on = place_from s.lines s.me (s.next + 1) (s.at + 1) s.own placed.places (omega (arith, inside))
+    (next_counted s.lines s.me s.next s.at there.0 there.1 mine placed.counted) in
+    subst (λ (n : ℕ). IsPlaced (record s { at = s.at + 1; next = n }) × (s.next + 1 ≤ n)) (sym stands) (
+      record { lines = placed.lines; places = placed.places; counted = on.counted; own = on.own },
+      on.past,
+    )
+
+-- it gave the same commands before, and the line of the one that ran is not past the last
+pub passed_lines : (s : ScriptedView) (t : ScriptedView) → IsPlaced s →
+    IsSome (slice_get (commands_of s.me s.lines) s.at) → t.lines ≡ s.lines → t.me ≡ s.me → s.next + 1 ≤ t.next →
+    (commands : List Numbered) (last : ℕ) → gives_lines t commands last →
+    PassedOn (gives_lines s) commands s.at last
+passed_lines s t placed some lines me on commands last gives =
+    let there = line_there s placed some in
+    let mine = own_line s.lines s.me s.next there.0 there.1 placed.own in
+    let same : commands ≡ commands_of s.me s.lines = gives.0 ∙ ap (λ (k : ℕ). commands_of k t.lines) me
+    ∙ ap (λ (ls : List Line). commands_of s.me ls) lines in
+    let high = gives.1 in
+    record {
+      before = s.next + 1;
+      gives = (same, refl);
+      rises = λ line x is.
+          let line_is : line ≡ s.next + 2 = ap (λ (o : Option Numbered). option_map_or (λ c. c.line) o 0)
+          (sym is.next ∙ ap (λ (cs : List Numbered). slice_get cs s.at) same
+          ∙ next_command s.lines s.me s.next s.at there.0 there.1 mine placed.counted) in
+          omega (arith, line_is, on, high);
+    }

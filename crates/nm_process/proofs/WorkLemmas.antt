@@ -1,7 +1,6 @@
 -- A process at work, one event after another.
 use Rattle.std.proofs.Common.{◌≡◌, ℕ, ◌+◌, ◌<◌, ◌≤◌, List, [], refl, sym, subst, arith}
-use Rattle.nm_types.specs.declared.scripts.Line.{Line}
-use Rattle.nm_types.specs.Commands.{Numbered, commands_of}
+use Rattle.nm_types.specs.Commands.{Numbered}
 use Rattle.nm_types.specs.Sizes.{Sizes}
 use Rattle.nm_history.specs.declared.events.Event.{Event}
 use Rattle.nm_history.specs.AtEach.{AtEach}
@@ -11,7 +10,6 @@ use Rattle.nm_request.specs.Requests.{Live}
 use Rattle.nm_rank.specs.Ranks.{RankView}
 use Rattle.nm_process.specs.declared.steps.Handle.{Handle}
 use Rattle.nm_process.specs.Names.{AreHeld, AreGiven}
-use Rattle.nm_process.specs.Places.{IsAtWork, IsPlaced, ScriptedView}
 use Rattle.nm_process.specs.Processes.{ProcessView}
 use Rattle.nm_process.specs.Work.{IsWorking}
 use Rattle.nm_process.proofs.LineLemmas.{below-more}
@@ -55,7 +53,7 @@ begins shape commands bound v names handles sizes none no_names no_handles =
     }))
 
 -- a later bound
-bound_more : (shape : Sizes) (commands : List Numbered) (bound more : ℕ) (v : ProcessView) → bound ≤ more →
+pub bound_more : (shape : Sizes) (commands : List Numbered) (bound more : ℕ) (v : ProcessView) → bound ≤ more →
     IsWorking shape commands bound v → IsWorking shape commands more v
 bound_more shape commands bound more v less work = record {
   sizes = work.sizes;
@@ -66,26 +64,4 @@ bound_more shape commands bound more v less work = record {
   past = below-more bound more v.rank.events less work.past;
   requests = work.requests;
   handles = work.handles;
-}
-
--- a process that ran no command is still at work on those of a script
-pub stays_at_work : (shape : Sizes) (lines : List Line) (s : ScriptedView) (a v : ProcessView) →
-    v.rank.me ≡ a.rank.me → v.at ≡ a.at →
-    ((commands : List Numbered) (bound : ℕ) → 0 < bound → IsWorking shape commands bound a →
-    IsWorking shape commands bound v) → IsAtWork shape lines s a → IsAtWork shape lines s v
-stays_at_work shape lines s a v me at keeps work = record {
-  work = subst (λ (k : ℕ). IsWorking shape (commands_of k lines) (s.next + 2) v) (sym me)
-      (keeps (commands_of a.rank.me lines) (s.next + 2) (omega arith) work.work);
-  place = subst (λ (k : ℕ). IsPlaced lines k v.at s) (sym me)
-      (subst (λ (k : ℕ). IsPlaced lines a.rank.me k s) (sym at) work.place);
-}
-
--- and so is one that ran the next of them
-pub ran_at_work : (shape : Sizes) (lines : List Line) (me line : ℕ) (t : ScriptedView) (v : ProcessView) →
-    v.rank.me ≡ me → IsWorking shape (commands_of me lines) (line + 1) v → IsPlaced lines me v.at t →
-    line + 1 ≤ t.next + 2 → IsAtWork shape lines t v
-ran_at_work shape lines me line t v same work place less = record {
-  work = subst (λ (k : ℕ). IsWorking shape (commands_of k lines) (t.next + 2) v) (sym same)
-      (bound_more shape (commands_of me lines) (line + 1) (t.next + 2) v less work);
-  place = subst (λ (k : ℕ). IsPlaced lines k v.at t) (sym same) place;
 }

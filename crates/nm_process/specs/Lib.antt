@@ -4,6 +4,7 @@ pub mod Names
 pub mod Places
 pub mod Playing
 pub mod Processes
+pub mod Sources
 pub mod Sparse
 pub mod Starts
 pub mod Steps

@@ -1,15 +1,20 @@
 -- The places of a rank's commands in a script, and that of the next one.
-use Rattle.std.specs.Prelude.{◌≡◌, ℕ, ◌+◌, ◌==◌, true, IfSome, List, length, map, take, slice_get, unwrap_or}
+use Rattle.std.specs.Prelude.{◌≡◌, ℕ, ◌+◌, ◌==◌, true, IfSome, List, length, map, option_map, take, slice_get}
+use Rattle.std.specs.Prelude.{unwrap_or}
 use Rattle.nm_types.specs.declared.scripts.Line.{Line}
-use Rattle.nm_types.specs.Commands.{commands_of}
-use Rattle.nm_types.specs.Sizes.{Sizes}
-use Rattle.nm_process.specs.Processes.{ProcessView}
-use Rattle.nm_process.specs.Work.{IsWorking}
+use Rattle.nm_types.specs.Commands.{Numbered, commands_of}
+use Rattle.nm_process.specs.Lines.{AreLines}
+use Rattle.nm_process.specs.Sources.{SourceView}
 
--- What contracts see of what gives the commands of a rank: their places in the script, in order, and that
--- of the next one, past all lines if there is none.
+-- What contracts see of what gives the commands of a rank: the script, the rank and how many there are, the
+-- places of its commands, in order, how many of them ran, and the place of the next one, past all lines if
+-- there is none.
 pub record ScriptedView : Type 0 where
+  pub lines : List Line
+  pub me : ℕ
+  pub ranks : ℕ
   pub own : List ℕ
+  pub at : ℕ
   pub next : ℕ
 
 -- the rank's lines stand at these places of the script, in order: the one at place p has number p + 2
@@ -24,14 +29,22 @@ place_at own lines at = unwrap_or (slice_get own at) (length lines)
 abbrev pub IsOwnLine : List Line → ℕ → ℕ → Type 0
 IsOwnLine lines me place = IfSome (slice_get lines place) (λ l. (l.rank == me) ≡ true)
 
--- the next command is the one after so many of the rank's
-pub record IsPlaced (lines : List Line) (me at : ℕ) (s : ScriptedView) : Type 0 where
-  pub places : ArePlaces lines me s.own
-  pub counted : length (commands_of me (take s.next lines)) ≡ at
-  pub own : IsOwnLine lines me s.next
+-- the next command is the one after so many of the rank's, and all lines are those of a run
+pub record IsPlaced (s : ScriptedView) : Type 0 where
+  pub lines : AreLines s.ranks s.lines
+  pub places : ArePlaces s.lines s.me s.own
+  pub counted : length (commands_of s.me (take s.next s.lines)) ≡ s.at
+  pub own : IsOwnLine s.lines s.me s.next
 
--- a process is at work on the commands of its rank in a script, and the next one is the one after those that
--- ran
-pub record IsAtWork (shape : Sizes) (lines : List Line) (s : ScriptedView) (v : ProcessView) : Type 0 where
-  pub work : IsWorking shape (commands_of v.rank.me lines) (s.next + 2) v
-  pub place : IsPlaced lines v.rank.me v.at s
+-- the command after those that ran, if there is one
+abbrev pub shown : ScriptedView → SourceView
+shown s =
+    record {
+      at = s.at;
+      ranks = s.ranks;
+      next = option_map (λ c. c.command) (slice_get (commands_of s.me s.lines) s.at);
+    }
+
+-- it gives the rank's commands in the script
+abbrev pub gives_lines : ScriptedView → List Numbered → ℕ → Type 0
+gives_lines s commands last = (commands ≡ commands_of s.me s.lines) × (last ≡ s.next + 1)

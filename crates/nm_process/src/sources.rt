@@ -1,0 +1,50 @@
+//! What gives a rank its commands.
+
+ghost use Rattle.std.specs.Prelude.{◌≡◌, ◌+◌, ◌<◌, ◌++◌, ℕ, None, true, List};
+ghost use Rattle.std.specs.Prelude.{IfSome, IsSome, MatchOption, OnOk, option_map, option_to_list, slice_get};
+ghost use Rattle.nm_types.specs.declared.answers.Answer.{Answer};
+ghost use Rattle.nm_types.specs.Commands.{Numbered};
+ghost use Rattle.nm_types.specs.Limits.{is_in_range};
+ghost use Rattle.nm_process.specs.LastAnswer.{last_answer};
+ghost use Rattle.nm_process.specs.Sources.{GivesSome, PassedOn, SourceView};
+ghost use Rattle.nm_process.specs.Work.{IsNext};
+
+use nm_rank::Rank;
+use nm_types::{Command, Memory};
+
+/// What gives a rank its commands, one after another, each with a line of its own. The lines rise.
+pub trait Source: Drop {
+    // What contracts see of it.
+    ghost shows: { Self → SourceView };
+
+    // It may give these commands in all, and none of those that ran has a line past this one.
+    ghost gives: { Self → List Numbered → ℕ → Type 0 };
+
+    // It was told these answers.
+    ghost told: { Self → List Answer → Type 0 };
+
+    /// About how many commands it gives, for which memory is asked for ahead.
+    fn count(&self) -> usize;
+
+    /// The line of its next command and that command, if there is one.
+    fn next(&self) -> Option<(u32, &Command)>
+        ensures shown { option_map (λ c. c.1.now) result ≡ (shows self.now).next }
+        ensures counted { IfSome result (λ c. (shows self.now).at < c.0) }
+        ensures in_range { IfSome result (λ c. is_in_range (shows self.now).ranks c.1.now ≡ true) }
+        ensures next { (commands : List Numbered) (last : ℕ) → gives self.now commands last →
+            MatchOption result (slice_get commands (shows self.now).at ≡ None)
+            (λ c. IsNext commands (shows self.now).at (last + 1) c.0 c.1.now) };
+
+    /// Goes on to the command after the next one, which this rank ran. Its answer is the last event of the
+    /// rank.
+    fn pass(&mut self, rank: &Rank) -> Result<(), Memory>
+        requires next { IsSome (shows self.old).next }
+        ensures counted { OnOk result (((shows self.new).at ≡ (shows self.old).at + 1)
+            × ((shows self.new).ranks ≡ (shows self.old).ranks)) }
+        ensures some { OnOk result (GivesSome (gives self.new)) }
+        ensures gives { OnOk result ((commands : List Numbered) (last : ℕ) →
+            gives self.new commands last →
+            PassedOn (gives self.old) commands (shows self.old).at last) }
+        ensures told { OnOk result ((answers : List Answer) → told self.old answers →
+            told self.new (answers ++ option_to_list (last_answer rank.now.events))) };
+}
