@@ -1,4 +1,4 @@
--- What there is to tell of actors that came to rest is a run of their script.
+-- What there is to tell of players that came to rest is a run of their commands.
 use Rattle.std.proofs.Common.{◌≡◌, ℕ, ◌+◌, ◌<◌, zero, suc, ◌≤◌, Bool, true, false, not, ◌&&◌, cond, Option, Some, None}
 use Rattle.std.proofs.Common.{List, [], ◌∷◌, ◌++◌, length, map, refl, sym, ◌∙◌, ap, subst, arith, append-nil}
 use Rattle.std.proofs.Common.{append_assoc}
@@ -8,35 +8,33 @@ use Rattle.std.proofs.lemmas.Bool.Decides.{nat_tests}
 use Rattle.std.proofs.lemmas.List.{length-map, map-append}
 use Rattle.std.proofs.lemmas.List.Folds.{list_all-append}
 use Rattle.std.proofs.lemmas.List.FromFn.{filter_of_map_range_with_len_more}
-use Rattle.nm_types.specs.declared.scripts.Line.{Line}
-use Rattle.nm_types.specs.Commands.{Numbered, commands_of}
+use Rattle.nm_types.specs.Commands.{Numbered}
 use Rattle.nm_types.specs.Sizes.{Sizes}
 use Rattle.nm_history.specs.declared.events.Event.{Event}
 use Rattle.nm_history.specs.Answers.{can_go_on}
 use Rattle.nm_history.specs.Outgoing.{outgoing}
-use Rattle.nm_history.specs.Quiescence.{Ended, Packets, packets_by_rank, packets_from, packets_of}
+use Rattle.nm_history.specs.Quiescence.{Ended, Packets, packets_by_rank_by, packets_from_by, packets_of_by}
 use Rattle.nm_history.specs.Quiescence.{IsStopped as StandsAt}
-use Rattle.nm_history.specs.Run.{IsRunOf}
+use Rattle.nm_history.specs.Run.{IsRunBy}
 use Rattle.nm_history.specs.Sends.{sent_body}
 use Rattle.nm_cells.specs.declared.closed.Closed.{Closed}
-use Rattle.nm_cells.specs.declared.port.Fabric.{Fabric}
 use Rattle.nm_cells.specs.declared.port.Port.{Port}
 use Rattle.nm_cells.specs.ClosedLists.{sent_list}
-use Rattle.nm_cells.specs.Ports.{sent_by}
+use Rattle.nm_cells.specs.Ports.{knows, sent_by}
 use Rattle.nm_copyring.specs.declared.close.RingAccount.{RingAccount}
-use Rattle.nm_copyring.specs.declared.port.Rings.{Rings}
 use Rattle.nm_report.specs.declared.accounts.RankAccount.{RankAccount}
 use Rattle.nm_report.specs.declared.pairs.PairCount.{PairCount}
 use Rattle.nm_report.specs.Ends as report
 use Rattle.nm_report.specs.Ends.{are_done, ends_of}
 use Rattle.nm_process.specs.Processes.{ProcessView}
 use Rattle.nm_world.specs.declared.actors.Actor.{Actor}
-use Rattle.nm_world.specs.Records.{AreToTell, counts_of, counts_to, ended_of}
+use Rattle.nm_process.specs.Sources.{SourceView}
+use Rattle.nm_world.specs.declared.players.Player.{Player}
+use Rattle.nm_world.specs.Players.{IsAtWork}
+use Rattle.nm_world.specs.Records.{AreAtWork, AreKnown, counts_of, counts_to, ended_from, ended_of}
 use Rattle.nm_world.specs.Parcels.{packet_of}
 use Rattle.nm_world.specs.Rest.{HasRun, IsCarried, IsClosed}
-use Rattle.nm_world.specs.Runs.{InPlace}
-use Rattle.nm_world.proofs.Runs.{in_place_at}
-use Rattle.nm_types.proofs.ListLemmas.{get_map, place_below}
+use Rattle.nm_types.proofs.ListLemmas.{get_map}
 use Rattle.nm_sending.proofs.PutLemmas.{called_length}
 use Rattle.nm_types.specs.declared.packets.Packet.{Packet}
 
@@ -93,33 +91,43 @@ and_true_right : (b : Bool) → (b && true) ≡ b
 and_true_right true = refl
 and_true_right false = refl
 
--- one actor more was told of
+-- one player more was told of
 pub map_next : {A B : Type 0} (g : A → B) (ps ps' : List B) (xs xs' : List A) (a : A) (all : List B) →
     xs ≡ a ∷ xs' → ps' ≡ ps ++ g a ∷ [] → ps ++ map g xs ≡ all → ps' ++ map g xs' ≡ all
 map_next g ps ps' xs xs' a all split pushed so_far =
     ap (λ l. l ++ map g xs') pushed ∙ append_assoc ps (g a ∷ []) (map g xs')
     ∙ ap (λ l. ps ++ map g l) (sym split) ∙ so_far
 
-pub ends_next : (lines : List Line) (ranks ranks' : List RankAccount) (r : RankAccount) (xs xs' : List Actor)
-    (a : Actor) (all : List Ended) → xs ≡ a ∷ xs' → ranks' ≡ ranks ++ r ∷ [] →
-    ends_of (r ∷ []) ≡ ended_of lines a.process ∷ [] →
-    ends_of ranks ++ map (λ (x : Actor). ended_of lines x.process) xs ≡ all →
-    ends_of ranks' ++ map (λ (x : Actor). ended_of lines x.process) xs' ≡ all
-ends_next lines ranks ranks' r xs xs' a all split pushed one so_far =
-    let ends : List Actor → List Ended = λ ys. map (λ (x : Actor). ended_of lines x.process) ys in
-    ap (λ (rs : List RankAccount). ends_of rs ++ ends xs') pushed
-    ∙ ap (λ (es : List Ended). es ++ ends xs') (map-append _ ranks (r ∷ []))
-    ∙ append_assoc (ends_of ranks) (ends_of (r ∷ [])) (ends xs')
-    ∙ ap (λ (es : List Ended). ends_of ranks ++ (es ++ ends xs')) one
-    ∙ ap (λ (ys : List Actor). ends_of ranks ++ ends ys) (sym split) ∙ so_far
-
-pub packets_next : (n : ℕ) (pairs pairs' : List PairCount) (xs xs' : List Actor) (a : Actor) (all : List Packets) →
-    xs ≡ a ∷ xs' → report.packets_of pairs' ≡ report.packets_of pairs ++ counts_to n a.port →
+pub packets_next : {S : Type 0} (n : ℕ) (pairs pairs' : List PairCount) (xs xs' : List (Player S)) (x : Player S)
+    (all : List Packets) → xs ≡ x ∷ xs' →
+    report.packets_of pairs' ≡ report.packets_of pairs ++ counts_to n x.actor.port →
     report.packets_of pairs ++ counts_of n xs ≡ all → report.packets_of pairs' ++ counts_of n xs' ≡ all
-packets_next n pairs pairs' xs xs' a all split counted so_far =
+packets_next {S} n pairs pairs' xs xs' x all split counted so_far =
     ap (λ (ps : List Packets). ps ++ counts_of n xs') counted
-    ∙ append_assoc (report.packets_of pairs) (counts_to n a.port) (counts_of n xs')
-    ∙ ap (λ (ys : List Actor). report.packets_of pairs ++ counts_of n ys) (sym split) ∙ so_far
+    ∙ append_assoc (report.packets_of pairs) (counts_to n x.actor.port) (counts_of n xs')
+    ∙ ap (λ (ys : List (Player S)). report.packets_of pairs ++ counts_of n ys) (sym split) ∙ so_far
+
+pub ends_next : {S : Type 0} (shows : S → SourceView) (gives : S → List Numbered → ℕ → Type 0)
+    (commands : ℕ → List Numbered) (k m : ℕ) (ends ends' : List Ended) (xs xs' : List (Player S)) (x : Player S)
+    (all : List Ended) → xs ≡ x ∷ xs' → m ≡ k + 1 →
+    (IsAtWork shows gives x (commands k) → ends' ≡ ends ++ ended_of (commands k) x.actor.process ∷ []) →
+    AreAtWork shows gives commands k xs → ends ++ ended_from commands k xs ≡ all →
+    AreAtWork shows gives commands m xs' × (ends' ++ ended_from commands m xs' ≡ all)
+ends_next {S} shows gives commands k m ends ends' xs xs' x all split more one work so_far =
+    let works = subst (λ (ys : List (Player S)). AreAtWork shows gives commands k ys) split work in
+    subst (λ (n : ℕ). AreAtWork shows gives commands n xs' × (ends' ++ ended_from commands n xs' ≡ all)) (sym more) (
+      works.1,
+      ap (λ (es : List Ended). es ++ ended_from commands (k + 1) xs') (one works.0)
+          ∙ append_assoc ends (ended_of (commands k) x.actor.process ∷ []) (ended_from commands (k + 1) xs')
+          ∙ ap (λ (ys : List (Player S)). ends ++ ended_from commands k ys) (sym split) ∙ so_far,
+    )
+
+-- the ports of the first of them, and of the others
+pub known_next : {S : Type 0} (n : ℕ) (xs : List (Player S)) (x : Player S) (xs' : List (Player S)) → xs ≡ x ∷ xs' →
+    AreKnown n xs → ((knows x.actor.port).ranks ≡ n) × AreKnown n xs'
+known_next {S} n xs x xs' split known =
+    let is = subst (λ (ys : List (Player S)). AreKnown n ys) split known in
+    (is 0 x refl, λ k y at. is (suc k) y at)
 
 pub done_next : (ranks ranks' : List RankAccount) (r : RankAccount) (done none : Bool) →
     done ≡ are_done (ends_of ranks) →
@@ -132,33 +140,34 @@ done_next ranks ranks' r done none before pushed waits =
     ∙ ap (λ (es : List Ended). are_done es) (sym (map-append _ ranks (r ∷ [])))
     ∙ ap (λ (rs : List RankAccount). are_done (ends_of rs)) (sym pushed)
 
--- the ends are those of the actors
+-- the ends are those of the players
 stands_waits : (commands : List Numbered) (h : List Event) (o : Option Numbered) (w : Option ℕ) →
     MatchOption o (w ≡ None) (λ c. (w ≡ Some c.line) × (can_go_on commands h c.command ≡ false)) →
     w ≡ option_map (λ (c : Numbered). c.line) o
 stands_waits commands h None w is = is
 stands_waits commands h (Some c) w is = is.0
 
-pub end_is : (lines : List Line) (i : ℕ) (v : ProcessView) (e : Ended) → v.rank.me ≡ i → e.at ≡ v.at →
-    e.events ≡ v.rank.events → StandsAt (commands_of i lines) e → e ≡ ended_of lines v
-end_is lines i v e me at events stands =
-    let waits : e.waits ≡ option_map (λ (c : Numbered). c.line) (slice_get (commands_of v.rank.me lines) v.at) =
-    stands_waits (commands_of i lines) e.events (slice_get (commands_of i lines) e.at) e.waits stands
-    ∙ ap (λ (k : ℕ). option_map (λ (c : Numbered). c.line) (slice_get (commands_of i lines) k)) at
-    ∙ ap (λ (k : ℕ). option_map (λ (c : Numbered). c.line) (slice_get (commands_of k lines) v.at)) (sym me) in
+pub end_is : (commands : List Numbered) (v : ProcessView) (e : Ended) → e.at ≡ v.at →
+    e.events ≡ v.rank.events → StandsAt commands e → e ≡ ended_of commands v
+end_is commands v e at events stands =
+    let waits : e.waits ≡ option_map (λ (c : Numbered). c.line) (slice_get commands v.at) =
+    stands_waits commands e.events (slice_get commands e.at) e.waits stands
+    ∙ ap (λ (k : ℕ). option_map (λ (c : Numbered). c.line) (slice_get commands k)) at in
     λ i. record { at = at i; waits = waits i; events = events i }
 
-ends_same : (lines : List Line) (actors : List Actor) (ends : List Ended) → length ends ≡ length actors →
-    ((i : ℕ) (a : Actor) → slice_get actors i ≡ Some a →
-    IfSome (slice_get ends i) (λ e. e ≡ ended_of lines a.process)) →
-    ends ≡ map (λ (x : Actor). ended_of lines x.process) actors
-ends_same lines [] [] many each = refl
-ends_same lines [] (e ∷ ends) many each = absurd (omega (arith, many))
-ends_same lines (a ∷ actors) [] many each = absurd (omega (arith, many))
-ends_same lines (a ∷ actors) (e ∷ ends) many each =
-    ap (λ (x : Ended). x ∷ ends) (each 0 a refl)
-    ∙ ap (λ (xs : List Ended). ended_of lines a.process ∷ xs)
-    (ends_same lines actors ends (omega (arith, many)) (λ i. each (suc i)))
+ends_same : {S : Type 0} (commands : ℕ → List Numbered) (k : ℕ) (players : List (Player S)) (ends : List Ended) →
+    length ends ≡ length players →
+    ((i m : ℕ) (x : Player S) → m ≡ k + i → slice_get players i ≡ Some x →
+    IfSome (slice_get ends i) (λ e. e ≡ ended_of (commands m) x.actor.process)) →
+    ends ≡ ended_from commands k players
+ends_same commands k [] [] many each = refl
+ends_same commands k [] (e ∷ ends) many each = absurd (omega (arith, many))
+ends_same commands k (x ∷ players) [] many each = absurd (omega (arith, many))
+ends_same commands k (x ∷ players) (e ∷ ends) many each =
+    ap (λ (y : Ended). y ∷ ends) (each 0 k x (omega arith) refl)
+    ∙ ap (λ (ys : List Ended). ended_of (commands k) x.actor.process ∷ ys)
+    (ends_same commands (k + 1) players ends (omega (arith, many))
+    (λ i m y is at. each (suc i) m y (omega (arith, is)) at))
 
 -- the counts are those of the packets that the histories call for
 map_below : (a n : ℕ) (f g : ℕ → Packets) → ((j : ℕ) → j < a + n → f j ≡ g j) →
@@ -168,88 +177,81 @@ map_below a (suc n) f g same =
     ap (λ (x : Packets). x ∷ map f (range_with_len (a + 1) n)) (same a (omega arith))
     ∙ ap (λ (xs : List Packets). g a ∷ xs) (map_below (a + 1) n f g (λ j low. same j (omega (arith, low))))
 
-row_is : (lines : List Line) (n i : ℕ) (p : Port Packet) (h : List Event) → p.rank ≡ i →
-    ((j : ℕ) → j < n → sent_by p j ≡ length (outgoing (sent_body (commands_of i lines)) h j)) →
-    counts_to n p ≡ packets_from lines (range_with_len 0 n) i h
-row_is lines n i p h own each =
+row_is : (commands : ℕ → List Numbered) (n i : ℕ) (p : Port Packet) (h : List Event) → p.rank ≡ i →
+    ((j : ℕ) → j < n → sent_by p j ≡ length (outgoing (sent_body (commands i)) h j)) →
+    counts_to n p ≡ packets_from_by commands (range_with_len 0 n) i h
+row_is commands n i p h own each =
     ap (λ (xs : List Packets). filter (λ (x : Packets). nat_lt 0 x.count) xs)
     (map_below 0 n (λ to. record { from = p.rank; to = to; count = sent_by p to })
-    (λ to. record { from = i; to = to; count = length (outgoing (sent_body (commands_of i lines)) h to) })
+    (λ to. record { from = i; to = to; count = length (outgoing (sent_body (commands i)) h to) })
     (λ j low. λ k. record { from = own k; to = j; count = each j (omega (arith, low)) k }))
 
-pub counts_same : (lines : List Line) (n k : ℕ) (actors : List Actor) (ends : List Ended) →
-    length ends ≡ length actors →
-    ((i m : ℕ) (a : Actor) (e : Ended) → m ≡ k + i → slice_get actors i ≡ Some a → slice_get ends i ≡ Some e →
-    (a.port.rank ≡ m)
-    × ((j : ℕ) → j < n → sent_by a.port j ≡ length (outgoing (sent_body (commands_of m lines)) e.events j))) →
-    counts_of n actors ≡ packets_by_rank lines (range_with_len 0 n) k ends
-counts_same lines n k [] [] many each = refl
-counts_same lines n k [] (e ∷ ends) many each = absurd (omega (arith, many))
-counts_same lines n k (a ∷ actors) [] many each = absurd (omega (arith, many))
-counts_same lines n k (a ∷ actors) (e ∷ ends) many each =
-    let here = each 0 k a e (omega arith) refl refl in
-    ap (λ (ps : List Packets). ps ++ counts_of n actors) (row_is lines n k a.port e.events here.0 here.1)
-    ∙ ap (λ (ps : List Packets). packets_from lines (range_with_len 0 n) k e.events ++ ps)
-    (counts_same lines n (k + 1) actors ends (omega (arith, many))
-    (λ i m b x is at to. each (suc i) m b x (omega (arith, is)) at to))
+pub counts_same : {S : Type 0} (commands : ℕ → List Numbered) (n k : ℕ) (players : List (Player S))
+    (ends : List Ended) → length ends ≡ length players →
+    ((i m : ℕ) (x : Player S) (e : Ended) → m ≡ k + i → slice_get players i ≡ Some x → slice_get ends i ≡ Some e →
+    (x.actor.port.rank ≡ m)
+    × ((j : ℕ) → j < n → sent_by x.actor.port j ≡ length (outgoing (sent_body (commands m)) e.events j))) →
+    counts_of n players ≡ packets_by_rank_by commands (range_with_len 0 n) k ends
+counts_same commands n k [] [] many each = refl
+counts_same commands n k [] (e ∷ ends) many each = absurd (omega (arith, many))
+counts_same commands n k (x ∷ players) [] many each = absurd (omega (arith, many))
+counts_same commands n k (x ∷ players) (e ∷ ends) many each =
+    let here = each 0 k x e (omega arith) refl refl in
+    ap (λ (ps : List Packets). ps ++ counts_of n players) (row_is commands n k x.actor.port e.events here.0 here.1)
+    ∙ ap (λ (ps : List Packets). packets_from_by commands (range_with_len 0 n) k e.events ++ ps)
+    (counts_same commands n (k + 1) players ends (omega (arith, many))
+    (λ i m b y is at to. each (suc i) m b y (omega (arith, is)) at to))
 
 some_there : {A : Type 0} (o : Option A) (P : A → Type 0) (x : A) → o ≡ Some x → IfSome o P → P x
 some_there o P x is holds = subst (λ p. IfSome p P) is holds
 
--- the actors of a run were told of
-pub told_run : (shape : Sizes) (lines : List Line) (f : Fabric Packet) (r : Rings) (actors : List Actor) (c : Closed Packet)
-    (q : RingAccount) (ends : List Ended) (ranks : List RankAccount) (pairs : List PairCount) →
-    InPlace shape lines f r 0 actors → length actors ≡ shape.ranks →
-    IsClosed shape.ranks (map (λ (a : Actor). a.port) actors) c → HasRun shape lines actors c q ends →
-    ends_of ranks ≡ map (λ (x : Actor). ended_of lines x.process) actors →
-    report.packets_of pairs ≡ counts_of shape.ranks actors →
-    IsRunOf shape lines (ends_of ranks) (report.packets_of pairs) × (ends ≡ ends_of ranks)
-told_run shape lines f r actors c q ends ranks pairs place many closed run told counted = (
-  subst (λ (es : List Ended). IsRunOf shape lines es (report.packets_of pairs)) all
-      (subst (λ (ps : List Packets). IsRunOf shape lines ends ps) (sym packets) run.run),
+-- the players of a run were told of
+pub told_run : {S : Type 0} (shape : Sizes) (commands : ℕ → List Numbered) (players : List (Player S))
+    (actors : List Actor) (c : Closed Packet) (q : RingAccount) (ends : List Ended) (ranks : List RankAccount)
+    (pairs : List PairCount) → actors ≡ map (λ (x : Player S). x.actor) players →
+    ((i : ℕ) (x : Player S) → slice_get players i ≡ Some x → x.actor.port.rank ≡ i) → length players ≡ shape.ranks →
+    IsClosed shape.ranks (map (λ (a : Actor). a.port) actors) c → HasRun shape commands actors c q ends →
+    ends_of ranks ≡ ended_from commands 0 players →
+    report.packets_of pairs ≡ counts_of shape.ranks players →
+    IsRunBy shape commands (ends_of ranks) (report.packets_of pairs) × (ends ≡ ends_of ranks)
+told_run {S} shape commands players actors c q ends ranks pairs are own many closed run told counted = (
+  subst (λ (es : List Ended). IsRunBy shape commands es (report.packets_of pairs)) all
+      (subst (λ (ps : List Packets). IsRunBy shape commands ends ps) (sym packets) run.run),
   all,
 ) where
-  long : length ends ≡ length actors
+  long : length ends ≡ length players
   long = run.run.one_each ∙ sym many
 
-  own : (i : ℕ) (a : Actor) → slice_get actors i ≡ Some a → (a.port.rank ≡ i) × (a.process.rank.me ≡ i)
-  own i a at =
-      let s = in_place_at shape lines f r 0 i actors a place at in
-      let rank : a.port.rank ≡ i = s.1 ∙ omega arith in
-      (rank, s.0.is.stands.me ∙ rank)
+  actor_at : (i : ℕ) (x : Player S) → slice_get players i ≡ Some x → slice_get actors i ≡ Some x.actor
+  actor_at i x at = ap (λ (as' : List Actor). slice_get as' i) are
+      ∙ get_map (λ (x : Player S). x.actor) players i x at
 
-  same : ends ≡ map (λ (x : Actor). ended_of lines x.process) actors
-  same = ends_same lines actors ends long (λ i a at. by i a at (slice_get ends i) (run.are i a at)) where
-    by : (i : ℕ) (a : Actor) → slice_get actors i ≡ Some a → (o : Option Ended) →
-        IfSome o (λ e. (e.at ≡ a.process.at) × (e.events ≡ a.process.rank.events) × StandsAt (commands_of i lines) e) →
-        IfSome o (λ e. e ≡ ended_of lines a.process)
-    by i a at None is = tt
-    by i a at (Some e) is = end_is lines i a.process e (own i a at).1 is.0 is.1 is.2
+  same : ends ≡ ended_from commands 0 players
+  same = ends_same commands 0 players ends long (λ i m x is at.
+      let here : i ≡ m = omega (arith, is) in
+      subst (λ (k : ℕ). IfSome (slice_get ends i) (λ e. e ≡ ended_of (commands k) x.actor.process)) here
+      (by i x.actor (slice_get ends i) (run.are i x.actor (actor_at i x at)))) where
+        by : (i : ℕ) (a : Actor) → (o : Option Ended) →
+            IfSome o (λ e. (e.at ≡ a.process.at) × (e.events ≡ a.process.rank.events) × StandsAt (commands i) e) →
+            IfSome o (λ e. e ≡ ended_of (commands i) a.process)
+        by i a None is = tt
+        by i a (Some e) is = end_is (commands i) a.process e is.0 is.1 is.2
 
   all : ends ≡ ends_of ranks
   all = same ∙ sym told
 
-  packets : report.packets_of pairs ≡ packets_of lines ends
+  packets : report.packets_of pairs ≡ packets_of_by commands ends
   packets =
       counted
-      ∙ counts_same lines shape.ranks 0 actors ends long (λ i m a e is at to.
+      ∙ counts_same commands shape.ranks 0 players ends long (λ i m x e is at to.
       let here : m ≡ i = is ∙ omega arith in
-      let low = place_below actors i a at in
-      let rank = (own i a at).0 in (
+      let rank = own i x at in (
         rank ∙ sym here,
-        λ j within. sym (closed.counts i j a.port (get_map (λ (a : Actor). a.port) actors i a at) within).0
+        λ j within. sym (closed.counts i j x.actor.port
+            (get_map (λ (a : Actor). a.port) actors i x.actor (actor_at i x at)) within).0
             ∙ sym (length-map (sent_list c i j) packet_of)
-            ∙ sym (called_length i 0 _ _ (some_there (slice_get ends i) (IsCarried lines c q i j) e to
+            ∙ sym (called_length i 0 _ _ (some_there (slice_get ends i) (IsCarried (commands i) c q i j) e to
             (run.carried i j within)).packets)
-            ∙ ap (λ (k : ℕ). length (outgoing (sent_body (commands_of k lines)) e.events j)) (sym here),
+            ∙ ap (λ (k : ℕ). length (outgoing (sent_body (commands k)) e.events j)) (sym here),
       ))
-      ∙ ap (λ (n : ℕ). packets_by_rank lines (range_with_len 0 n) 0 ends) (sym run.run.one_each)
-
-pub to_tell : (shape : Sizes) (lines : List Line) (f : Fabric Packet) (r : Rings) (k : ℕ) (actors : List Actor) →
-    InPlace shape lines f r k actors → f.ranks ≡ shape.ranks → AreToTell shape.ranks lines actors
-to_tell shape lines f r k [] place ranks = tt
-to_tell shape lines f r k (a ∷ actors) place ranks = (
-  place.0.is.work,
-  place.0.is.cells.2 ∙ ranks,
-  to_tell shape lines f r (k + 1) actors place.2 ranks,
-)
+      ∙ ap (λ (n : ℕ). packets_by_rank_by commands (range_with_len 0 n) 0 ends) (sym run.run.one_each)

@@ -1,8 +1,7 @@
 -- An actor at its start.
-use Rattle.std.proofs.Common.{◌≡◌, ℕ, ◌<◌, List, sym, ap, ◌∙◌, arith}
+use Rattle.std.proofs.Common.{◌≡◌, ℕ, ◌+◌, ◌<◌, List, sym, ap, ◌∙◌, arith}
 use Rattle.std.proofs.lemmas.List.{get_or-replicate}
-use Rattle.nm_types.specs.declared.scripts.Line.{Line}
-use Rattle.nm_types.specs.Commands.{commands_of}
+use Rattle.nm_types.specs.Commands.{Numbered}
 use Rattle.nm_types.specs.Sizes.{Sizes}
 use Rattle.nm_chain.specs.declared.table.table.Entry.{Entry}
 use Rattle.nm_chain.specs.Rule.{sent_to}
@@ -16,34 +15,26 @@ use Rattle.nm_copyring.specs.declared.table.Entry as ring_entry
 use Rattle.nm_copyring.specs.declared.table.Lane.{Lane}
 use Rattle.nm_copyring.specs.Rule as ring_rule
 use Rattle.nm_copyring.specs.Ports as ring
-use Rattle.nm_process.specs.Lines.{AreLines}
-use Rattle.nm_process.specs.Places.{IsAtWork, ScriptedView}
+use Rattle.nm_process.specs.Work.{IsWorking}
 use Rattle.nm_process.specs.Processes.{ProcessView}
 use Rattle.nm_global.specs.ProcessInvariant.{IsOf, no_past}
-use Rattle.nm_world.specs.Actors.{ActorInvariant}
+use Rattle.nm_world.specs.Actors.{ActorInvariant, HasPorts, StandsSome}
 use Rattle.nm_world.proofs.Steps.{stands_of}
 use Rattle.nm_types.specs.declared.packets.Packet.{Packet}
 
 new_lane_at : (n k i : ℕ) → i < n → ring_rule.lane (ring_rule.newcomer n k) i ≡ ring_rule.new_lane
 new_lane_at n k i within = get_or-replicate n i ring_rule.new_lane ring_rule.new_lane within
 
-pub new_stands : (shape : Sizes) (lines : List Line) (f : Fabric Packet) (r : Rings) (v : ProcessView)
-    (script : ScriptedView) (port : Port Packet) (rp : RingPort) → AreLines shape.ranks lines → f.ranks ≡ shape.ranks → r.ranks ≡ shape.ranks →
+pub new_stands : (shape : Sizes) (commands : List Numbered) (last : ℕ) (f : Fabric Packet) (r : Rings)
+    (v : ProcessView) (port : Port Packet) (rp : RingPort) → r.ranks ≡ shape.ranks →
     IsNew f port port.rank → ring.IsNew r rp port.rank → v.rank.sizes ≡ shape →
-    IsAtWork shape lines script v → IsOf shape (commands_of port.rank lines) port.rank v.rank no_past →
-    ActorInvariant lines f r (record { process = v; script = script; port = port; ring = rp; places = tt })
-new_stands shape lines f r v script port rp in_range cells rings new fresh sizes work stands =
-    stands_of shape lines f r (record { process = v; script = script; port = port; ring = rp; places = tt }) no_past sizes
+    IsWorking shape commands (last + 1) v → IsOf shape commands port.rank v.rank no_past →
+    ActorInvariant commands last (record { process = v; port = port; ring = rp; places = tt })
+new_stands shape commands last f r v port rp rings new fresh sizes work stands =
+    stands_of shape commands last (record { process = v; port = port; ring = rp; places = tt }) no_past sizes
     (record {
       work = work;
       stands = stands;
-      in_range = in_range;
-      cells = new.0;
-      rings = fresh.0;
-      rank = fresh.1;
-      ranks = (cells, rings);
-      hands = new.4;
-      rest = new.7 ∙ sym (ap count_held new.6);
       sent = λ to within. record {
         listed = record { each = λ k. tt };
         many = sym (ap (λ (e : Entry Packet). sent_to to e.put_box e.put) new.2 ∙ omega arith);
@@ -54,3 +45,21 @@ new_stands shape lines f r v script port rp in_range cells rings new fresh sizes
       pulled = λ i within. sym (ap (λ (e : ring_entry.Entry). (ring_rule.lane e i).pulled) fresh.2
           ∙ ap (λ (l : Lane). l.pulled) (new_lane_at r.ranks port.rank i (omega (arith, within, rings))));
     })
+
+-- and so it has its ports
+pub new_ports : (shape : Sizes) (f : Fabric Packet) (r : Rings) (v : ProcessView) (port : Port Packet)
+    (rp : RingPort) → f.ranks ≡ shape.ranks → r.ranks ≡ shape.ranks → IsNew f port port.rank →
+    ring.IsNew r rp port.rank → v.rank.sizes ≡ shape →
+    StandsSome (record { process = v; port = port; ring = rp; places = tt }) →
+    HasPorts f r (record { process = v; port = port; ring = rp; places = tt })
+new_ports shape f r v port rp cells rings new fresh sizes some =
+    let same = ap (λ (s : Sizes). s.ranks) sizes in
+    record {
+      some = some;
+      cells = new.0;
+      rings = fresh.0;
+      rank = fresh.1;
+      ranks = (cells ∙ sym same, rings ∙ sym same);
+      hands = new.4;
+      rest = new.7 ∙ sym (ap count_held new.6);
+    }

@@ -2,7 +2,7 @@
 use Rattle.std.proofs.Common.{◌≡◌, ◌≢◌, ℕ, suc, ◌+◌, ◌<◌, ◌==◌, Bool, true, false, cond, Some, List, [], ◌∷◌, ◌++◌}
 use Rattle.std.proofs.Common.{length, map, take, get_or, refl, sym, ap, ◌∙◌, subst, arith, append-nil}
 use Rattle.std.proofs.lemmas.Bool.{eq-eqb, ne_eqb}
-use Rattle.std.specs.List.{AllZip, slice_get}
+use Rattle.std.specs.List.{All, AllZip, slice_get}
 use Rattle.std.specs.Prelude.{Vec, slice_index_or}
 use Rattle.std.proofs.lemmas.List.{length-take-le, map-append}
 use Rattle.std.proofs.lemmas.Option.{get_or_from_slice_get}
@@ -13,8 +13,11 @@ use Rattle.nm_types.specs.Commands.{Numbered, commands_from, commands_of, number
 use Rattle.nm_types.proofs.ListLemmas.{place_below, take_next}
 use Rattle.nm_types.specs.declared.packets.Packet.{Packet}
 use Rattle.nm_cells.specs.declared.port.Port.{Port}
-use Rattle.nm_process.specs.Places.{ArePlaces}
-use Rattle.nm_world.specs.ByRank.{AreByRank, Notes}
+use Rattle.std.proofs.lemmas.List.Elements.{All-cons}
+use Rattle.nm_history.specs.Quiescence.{commands_by_rank}
+use Rattle.nm_process.specs.Places.{ArePlaces, ScriptedView, gives_lines, shown}
+use Rattle.nm_world.specs.Players.{AreGiven, BeginsAt, GivesLess}
+use Rattle.nm_world.specs.ByRank.{AreByRank, AreScripts, Notes}
 
 -- the number of a rank's line behind others
 lines_behind : (rank number : ℕ) (xs : List Line) (l : Line) →
@@ -116,3 +119,43 @@ of_ports {A} lines k (p ∷ ps) (own ∷ owns) many ranks places = (
   where
     later : (i : ℕ) → (k + 1) + i ≡ k + suc i
     later i = omega arith
+
+-- what gives the commands of each rank, at its start
+pub scripts_begin : (ranks : ℕ) (lines : List Line) (k : ℕ) (scripts : List ScriptedView) →
+    AreScripts ranks lines k scripts → All (BeginsAt shown gives_lines ranks) scripts
+scripts_begin ranks lines k [] are = λ i d low. absurd (omega (arith, low))
+scripts_begin ranks lines k (s ∷ scripts) are =
+    All-cons (BeginsAt shown gives_lines ranks) s scripts (record {
+      at = are.3;
+      ranks = are.2;
+      some = record { commands = commands_of s.me s.lines; last = s.next + 1; some = (refl, refl) };
+    }) (scripts_begin ranks lines (k + 1) scripts are.4)
+
+-- it gives them still at the end
+pub scripts_give : (ranks : ℕ) (lines : List Line) (k : ℕ) (scripts left : List ScriptedView) →
+    AreScripts ranks lines k scripts → AllZip (GivesLess gives_lines) scripts left →
+    AreGiven gives_lines (commands_by_rank lines) k left
+scripts_give ranks lines k [] [] are gave = tt
+scripts_give ranks lines k [] (t ∷ left) are gave = absurd gave
+scripts_give ranks lines k (s ∷ scripts) [] are gave = absurd gave
+scripts_give ranks lines k (s ∷ scripts) (t ∷ left) are gave =
+    let own = commands_of t.me t.lines in
+    let before = gave.0 own (t.next + 1) (refl, refl) in
+    let same : own ≡ commands_of k lines = before.gives.0 ∙ ap (λ (r : ℕ). commands_of r s.lines) are.1
+    ∙ ap (λ (ls : List Line). commands_of k ls) are.0 in (
+      record { before = t.next + 1; gives = (sym same, refl) },
+      scripts_give ranks lines (k + 1) scripts left are.4 gave.1,
+    )
+
+-- one more
+pub scripts_more : (ranks : ℕ) (lines : List Line) (k : ℕ) (scripts : List ScriptedView) (s : ScriptedView) →
+    AreScripts ranks lines k scripts → s.lines ≡ lines → s.me ≡ k + length scripts → s.ranks ≡ ranks → s.at ≡ 0 →
+    AreScripts ranks lines k (scripts ++ s ∷ [])
+scripts_more ranks lines k [] s are own me many none = (own, me ∙ omega arith, many, none, tt)
+scripts_more ranks lines k (x ∷ scripts) s are own me many none = (
+  are.0,
+  are.1,
+  are.2,
+  are.3,
+  scripts_more ranks lines (k + 1) scripts s are.4 own (me ∙ omega arith) many none,
+)

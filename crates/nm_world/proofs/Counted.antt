@@ -8,18 +8,17 @@ use Rattle.std.specs.Option.{option_map_or, option_or}
 use Rattle.std.proofs.lemmas.Bool.Decides.{nat_tests}
 use Rattle.std.proofs.lemmas.List.Folds.{find-append}
 use native.Mathlib.Decide.{ℕ_discrete}
-use Rattle.nm_types.specs.declared.scripts.Line.{Line}
-use Rattle.nm_types.specs.Commands.{commands_of}
+use Rattle.nm_types.specs.Commands.{Numbered}
 use Rattle.nm_types.specs.Sizes.{Sizes}
 use Rattle.nm_world.specs.Parcels.{packet_of}
 use Rattle.std.proofs.lemmas.List.{length-map}
 use Rattle.nm_history.specs.Outgoing.{outgoing}
-use Rattle.nm_history.specs.Quiescence.{Ended, Packets, packets_by_rank, packets_from, packets_of}
+use Rattle.nm_history.specs.Quiescence.{Ended, Packets, packets_by_rank_by, packets_from_by, packets_of_by}
 use Rattle.nm_history.specs.Sends.{sent_body}
 use Rattle.nm_cells.specs.declared.closed.Closed.{Closed}
 use Rattle.nm_cells.specs.ClosedLists.{sent_list, taken_list}
 use Rattle.nm_copyring.specs.declared.close.RingAccount.{RingAccount}
-use Rattle.nm_world.specs.Runs.{AreCarried, count_between}
+use Rattle.nm_world.specs.Runs.{AreCarriedBy, count_between}
 use Rattle.nm_types.proofs.NumberLemmas.{unequal, eq_true}
 use Rattle.nm_types.proofs.ListLemmas.{get_some}
 use Rattle.nm_sending.proofs.PutLemmas.{called_length}
@@ -97,64 +96,64 @@ row_here i j from a (suc n) g own low high =
               is_zero k less = let low : k ≤ 0 = grind (arith, nat_tests) in omega (arith, low)
 
 -- none in the rows of later ranks
-rows_past : (lines : List Line) (n k i j : ℕ) (ends : List Ended) → i < k →
-    find (is_of i j) (packets_by_rank lines (range_with_len 0 n) k ends) ≡ None
-rows_past lines n k i j [] past = refl
-rows_past lines n k i j (e ∷ ends) past =
-    find-append (is_of i j) (packets_from lines (range_with_len 0 n) k e.events)
-    (packets_by_rank lines (range_with_len 0 n) (k + 1) ends)
+rows_past : (commands : ℕ → List Numbered) (n k i j : ℕ) (ends : List Ended) → i < k →
+    find (is_of i j) (packets_by_rank_by commands (range_with_len 0 n) k ends) ≡ None
+rows_past commands n k i j [] past = refl
+rows_past commands n k i j (e ∷ ends) past =
+    find-append (is_of i j) (packets_from_by commands (range_with_len 0 n) k e.events)
+    (packets_by_rank_by commands (range_with_len 0 n) (k + 1) ends)
     ∙ ap (λ (o : Option Packets). option_or o
-    (find (is_of i j) (packets_by_rank lines (range_with_len 0 n) (k + 1) ends)))
-    (row_other i j k (λ to. length (outgoing (sent_body (commands_of k lines)) e.events to)) (range_with_len 0 n)
+    (find (is_of i j) (packets_by_rank_by commands (range_with_len 0 n) (k + 1) ends)))
+    (row_other i j k (λ to. length (outgoing (sent_body (commands k)) e.events to)) (range_with_len 0 n)
     (unequal k i (λ same. absurd (omega (arith, same, past)))))
-    ∙ rows_past lines n (k + 1) i j ends (omega (arith, past))
+    ∙ rows_past commands n (k + 1) i j ends (omega (arith, past))
 
-pub count_is : (lines : List Line) (n k m i j : ℕ) (ends : List Ended) (e : Ended) → m ≡ k + i →
+pub count_is : (commands : ℕ → List Numbered) (n k m i j : ℕ) (ends : List Ended) (e : Ended) → m ≡ k + i →
     slice_get ends i ≡ Some e → j < n →
-    count_between (packets_by_rank lines (range_with_len 0 n) k ends) m j
-    ≡ length (outgoing (sent_body (commands_of m lines)) e.events j)
-count_is lines n k m i j [] e is at low = absurd (none at) where
+    count_between (packets_by_rank_by commands (range_with_len 0 n) k ends) m j
+    ≡ length (outgoing (sent_body (commands m)) e.events j)
+count_is commands n k m i j [] e is at low = absurd (none at) where
   none : None ≡ Some e → ⊥
   none x = cc
-count_is lines n k m zero j (x ∷ ends) e is at low =
-    let g : ℕ → ℕ = λ to. length (outgoing (sent_body (commands_of k lines)) x.events to) in
+count_is commands n k m zero j (x ∷ ends) e is at low =
+    let g : ℕ → ℕ = λ to. length (outgoing (sent_body (commands k)) x.events to) in
     let same : k ≡ m = omega (arith, is) in
     ap (λ (o : Option Packets). option_map_or (λ (p : Packets). p.count) o 0)
-    (find-append (is_of m j) (packets_from lines (range_with_len 0 n) k x.events)
-    (packets_by_rank lines (range_with_len 0 n) (k + 1) ends)
+    (find-append (is_of m j) (packets_from_by commands (range_with_len 0 n) k x.events)
+    (packets_by_rank_by commands (range_with_len 0 n) (k + 1) ends)
     ∙ ap (option_or (find (is_of m j) (row k g (range_with_len 0 n))))
-    (rows_past lines n (k + 1) m j ends (omega (arith, is)))
+    (rows_past commands n (k + 1) m j ends (omega (arith, is)))
     ∙ or_none (find (is_of m j) (row k g (range_with_len 0 n))))
     ∙ row_here m j k 0 n g (eq_true k m same) (omega arith) (omega (arith, low))
-    ∙ ap (λ (r : ℕ). length (outgoing (sent_body (commands_of r lines)) x.events j)) same
-    ∙ ap (λ (y : Ended). length (outgoing (sent_body (commands_of m lines)) y.events j)) (one at) where
+    ∙ ap (λ (r : ℕ). length (outgoing (sent_body (commands r)) x.events j)) same
+    ∙ ap (λ (y : Ended). length (outgoing (sent_body (commands m)) y.events j)) (one at) where
       one : {u v : Ended} → Some u ≡ Some v → u ≡ v
       one x = cc
 
       or_none : (o : Option Packets) → option_or o None ≡ o
       or_none None = refl
       or_none (Some p) = refl
-count_is lines n k m (suc i) j (x ∷ ends) e is at low =
+count_is commands n k m (suc i) j (x ∷ ends) e is at low =
     ap (λ (o : Option Packets). option_map_or (λ (p : Packets). p.count) o 0)
-    (find-append (is_of m j) (packets_from lines (range_with_len 0 n) k x.events)
-    (packets_by_rank lines (range_with_len 0 n) (k + 1) ends)
+    (find-append (is_of m j) (packets_from_by commands (range_with_len 0 n) k x.events)
+    (packets_by_rank_by commands (range_with_len 0 n) (k + 1) ends)
     ∙ ap (λ (o : Option Packets). option_or o
-    (find (is_of m j) (packets_by_rank lines (range_with_len 0 n) (k + 1) ends)))
-    (row_other m j k (λ to. length (outgoing (sent_body (commands_of k lines)) x.events to)) (range_with_len 0 n)
+    (find (is_of m j) (packets_by_rank_by commands (range_with_len 0 n) (k + 1) ends)))
+    (row_other m j k (λ to. length (outgoing (sent_body (commands k)) x.events to)) (range_with_len 0 n)
     (unequal k m (λ same. absurd (omega (arith, same, is))))))
-    ∙ count_is lines n (k + 1) m i j ends e (omega (arith, is)) at low
+    ∙ count_is commands n (k + 1) m i j ends e (omega (arith, is)) at low
 
 -- what the closed ports carried is as much as is counted
-pub carried_counts : (shape : Sizes) (lines : List Line) (c : Closed Packet) (q : RingAccount) (ends : List Ended)
-    (packets : List Packets) → length ends ≡ shape.ranks → packets ≡ packets_of lines ends →
-    AreCarried shape lines c q ends → (i j : ℕ) → i < shape.ranks → j < shape.ranks →
+pub carried_counts : (shape : Sizes) (commands : ℕ → List Numbered) (c : Closed Packet) (q : RingAccount) (ends : List Ended)
+    (packets : List Packets) → length ends ≡ shape.ranks → packets ≡ packets_of_by commands ends →
+    AreCarriedBy shape commands c q ends → (i j : ℕ) → i < shape.ranks → j < shape.ranks →
     (length (sent_list c i j) ≡ count_between packets i j) × (length (taken_list c i j) ≡ count_between packets i j)
-carried_counts shape lines c q ends packets many counts carried i j low within =
+carried_counts shape commands c q ends packets many counts carried i j low within =
     let e = get_some ends i (omega (arith, low, many)) in
     let is = carried i j e.0 within e.1 in
-    let long = called_length i 0 (outgoing (sent_body (commands_of i lines)) e.0.events j)
+    let long = called_length i 0 (outgoing (sent_body (commands i)) e.0.events j)
     (map packet_of (sent_list c i j)) is.packets in
     let count = ap (λ (ps : List Packets). count_between ps i j) counts
-    ∙ count_is lines (length ends) 0 i i j ends e.0 (omega arith) e.1 (omega (arith, within, many)) in
+    ∙ count_is commands (length ends) 0 i i j ends e.0 (omega arith) e.1 (omega (arith, within, many)) in
     let sent : length (sent_list c i j) ≡ count_between packets i j = sym (length-map (sent_list c i j) packet_of) ∙ sym long ∙ sym count in
     (sent, ap length is.taken ∙ sent)

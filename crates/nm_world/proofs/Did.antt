@@ -16,8 +16,10 @@ use Rattle.nm_copyring.specs.Ports as ring
 use Rattle.nm_chain.specs.Total.{total}
 use Rattle.nm_world.specs.declared.actors.Actor.{Actor}
 use Rattle.nm_world.specs.Actors.{Grew, Grows, PortGrows, RingGrows, did}
-use Rattle.nm_world.specs.Actors.{AllContinue, Continues, SomeGrew, ActorInvariant, did_any, done_by, done_of}
-use Rattle.nm_types.specs.declared.scripts.Line.{Line}
+use Rattle.nm_process.specs.Sources.{SourceView}
+use Rattle.nm_world.specs.declared.players.Player.{Player}
+use Rattle.nm_world.specs.Actors.{ActorInvariant, Continues, done_by}
+use Rattle.nm_world.specs.Players.{AllPlayOn, PlaysOn, SomeGrew, did_any, done_of}
 use Rattle.nm_types.specs.Commands.{Numbered}
 use Rattle.nm_types.specs.Sizes.{Sizes}
 use Rattle.nm_global.specs.ProcessInvariant.{GoesOn}
@@ -147,11 +149,11 @@ did_on n a b c p q one two = or_less (done_by n a) (done_by n b) (done_by n c) p
     (done_up n b c two)
 
 -- one step more of a loop that tells whether something was done
-pub kept_and : (n : ℕ) (lines : List Line) (f : Fabric Packet) (r : Rings) (a b c : Actor) (p q : Bool) →
-    Continues lines f r a b → Continues lines f r b c → p ≡ did n a b → q ≡ did n b c →
-    Continues lines f r a c × ((p || q) ≡ did n a c)
-kept_and n lines f r a b c p q one two before then =
-    (kept_on lines f r a b c one two, did_on n a b c p q one.grows two.grows before then)
+pub kept_and : (n : ℕ) (f : Fabric Packet) (r : Rings) (a b c : Actor) (p q : Bool) →
+    Continues f r a b → Continues f r b c → p ≡ did n a b → q ≡ did n b c →
+    Continues f r a c × ((p || q) ≡ did n a c)
+kept_and n f r a b c p q one two before then =
+    (kept_on f r a b c one two, did_on n a b c p q one.grows two.grows before then)
 
 pub or_none : (p q : Bool) → q ≡ false → p ≡ (p || q)
 or_none true q none = refl
@@ -162,8 +164,8 @@ or_one true q one = refl
 or_one false q one = sym one
 
 -- a command that ran
-pub ran_on : (n : ℕ) {lines : List Line} {f : Fabric Packet} {r : Rings} (a b : Actor) (s : ActorInvariant lines f r a) →
-    {sizes : Sizes} {commands : List Numbered} {i : ℕ} → GoesOn sizes commands i b.process.rank s.past → b.port ≡ a.port → b.ring ≡ a.ring →
+pub ran_on : (n : ℕ) {commands : List Numbered} {last : ℕ} (a b : Actor) (s : ActorInvariant commands last a) →
+    {sizes : Sizes} {given : List Numbered} {i : ℕ} → GoesOn sizes given i b.process.rank s.past → b.port ≡ a.port → b.ring ≡ a.ring →
     Grows a b × Grew n a b
 ran_on n a b s on port ring =
     let was = s.is.stands.logged.events in
@@ -182,19 +184,19 @@ ran_on n a b s on port ring =
       events (omega (arith, grew, old, new)),
     )
 
--- lists of actors
-done_append : (n : ℕ) (xs ys : List Actor) → done_of n (xs ++ ys) ≡ done_of n xs + done_of n ys
+-- lists of players
+done_append : {S : Type 0} (n : ℕ) (xs ys : List (Player S)) → done_of n (xs ++ ys) ≡ done_of n xs + done_of n ys
 done_append n [] ys = omega arith
 done_append n (x ∷ xs) ys = let rest = done_append n xs ys in omega (arith, rest)
 
-pub all_up : (n : ℕ) (lines : List Line) (f : Fabric Packet) (r : Rings) (xs ys : List Actor) →
-    AllContinue lines f r xs ys → done_of n xs ≤ done_of n ys
-all_up n lines f r [] [] kept = omega arith
-all_up n lines f r [] (y ∷ ys) kept = absurd kept
-all_up n lines f r (x ∷ xs) [] kept = absurd kept
-all_up n lines f r (x ∷ xs) (y ∷ ys) kept =
-    let rest = all_up n lines f r xs ys kept.1 in
-    let one = done_up n x y kept.0.grows in omega (arith, rest, one)
+pub all_up : {S : Type 0} (n : ℕ) (shows : S → SourceView) (gives : S → List Numbered → ℕ → Type 0) (f : Fabric Packet) (r : Rings) (xs ys : List (Player S)) →
+    AllPlayOn shows gives f r xs ys → done_of n xs ≤ done_of n ys
+all_up n shows gives f r [] [] kept = omega arith
+all_up n shows gives f r [] (y ∷ ys) kept = absurd kept
+all_up n shows gives f r (x ∷ xs) [] kept = absurd kept
+all_up n shows gives f r (x ∷ xs) (y ∷ ys) kept =
+    let rest = all_up n shows gives f r xs ys kept.1 in
+    let one = done_up n x.actor y.actor kept.0.grows in omega (arith, rest, one)
 
 or_sum : (x y x' y' : ℕ) (p q : Bool) → x ≤ x' → y ≤ y' → p ≡ nat_lt x x' → q ≡ nat_lt y y' →
     (p || q) ≡ nat_lt (x + y) (x' + y')
@@ -207,27 +209,27 @@ or_sum x y x' y' false false up to p_is q_is =
     less_false (x + y) (x' + y') (omega (arith, one, two, up, to))
 
 -- both halves
-pub did_halves : (n : ℕ) (lines : List Line) (f : Fabric Packet) (r : Rings) (xs ys xs' ys' : List Actor) (p q : Bool) →
-    AllContinue lines f r xs xs' → AllContinue lines f r ys ys' → p ≡ did_any n xs xs' → q ≡ did_any n ys ys' →
+pub did_halves : {S : Type 0} (n : ℕ) (shows : S → SourceView) (gives : S → List Numbered → ℕ → Type 0) (f : Fabric Packet) (r : Rings) (xs ys xs' ys' : List (Player S)) (p q : Bool) →
+    AllPlayOn shows gives f r xs xs' → AllPlayOn shows gives f r ys ys' → p ≡ did_any n xs xs' → q ≡ did_any n ys ys' →
     (p || q) ≡ did_any n (xs ++ ys) (xs' ++ ys')
-did_halves n lines f r xs ys xs' ys' p q one two p_is q_is =
+did_halves n shows gives f r xs ys xs' ys' p q one two p_is q_is =
     subst (λ (k : ℕ). (p || q) ≡ nat_lt k (done_of n (xs' ++ ys'))) (sym (done_append n xs ys))
     (subst (λ (k : ℕ). (p || q) ≡ nat_lt (done_of n xs + done_of n ys) k) (sym (done_append n xs' ys'))
-    (or_sum (done_of n xs) (done_of n ys) (done_of n xs') (done_of n ys') p q (all_up n lines f r xs xs' one)
-    (all_up n lines f r ys ys' two) p_is q_is))
+    (or_sum (done_of n xs) (done_of n ys) (done_of n xs') (done_of n ys') p q (all_up n shows gives f r xs xs' one)
+    (all_up n shows gives f r ys ys' two) p_is q_is))
 
 -- from one to the next, of many
-pub did_any_on : (n : ℕ) (lines : List Line) (f : Fabric Packet) (r : Rings) (xs ys zs : List Actor) (p q : Bool) →
-    AllContinue lines f r xs ys → AllContinue lines f r ys zs → p ≡ did_any n xs ys → q ≡ did_any n ys zs →
+pub did_any_on : {S : Type 0} (n : ℕ) (shows : S → SourceView) (gives : S → List Numbered → ℕ → Type 0) (f : Fabric Packet) (r : Rings) (xs ys zs : List (Player S)) (p q : Bool) →
+    AllPlayOn shows gives f r xs ys → AllPlayOn shows gives f r ys zs → p ≡ did_any n xs ys → q ≡ did_any n ys zs →
     (p || q) ≡ did_any n xs zs
-did_any_on n lines f r xs ys zs p q one two = or_less (done_of n xs) (done_of n ys) (done_of n zs) p q
-    (all_up n lines f r xs ys one) (all_up n lines f r ys zs two)
+did_any_on n shows gives f r xs ys zs p q one two = or_less (done_of n xs) (done_of n ys) (done_of n zs) p q
+    (all_up n shows gives f r xs ys one) (all_up n shows gives f r ys zs two)
 
-pub did_sole : (n : ℕ) (a b : Actor) → did n a b ≡ did_any n (a ∷ []) (b ∷ [])
-did_sole n a b =
-    let one : done_by n a + 0 ≡ done_by n a = omega arith in
-    let two : done_by n b + 0 ≡ done_by n b = omega arith in
-    sym (ap (λ (k : ℕ). nat_lt k (done_by n b + 0)) one ∙ ap (λ (k : ℕ). nat_lt (done_by n a) k) two)
+pub did_sole : {S : Type 0} (n : ℕ) (x y : Player S) → did n x.actor y.actor ≡ did_any n (x ∷ []) (y ∷ [])
+did_sole n x y =
+    let one : done_by n x.actor + 0 ≡ done_by n x.actor = omega arith in
+    let two : done_by n y.actor + 0 ≡ done_by n y.actor = omega arith in
+    sym (ap (λ (k : ℕ). nat_lt k (done_by n y.actor + 0)) one ∙ ap (λ (k : ℕ). nat_lt (done_by n x.actor) k) two)
 
 -- what was done is what grew
 abbrev long : Actor → ℕ
@@ -280,14 +282,14 @@ did_iff n a b up = (
 )
 
 -- and of many
-some_grew : (n : ℕ) (lines : List Line) (f : Fabric Packet) (r : Rings) (xs ys : List Actor) → AllContinue lines f r xs ys →
+some_grew : {S : Type 0} (n : ℕ) (shows : S → SourceView) (gives : S → List Numbered → ℕ → Type 0) (f : Fabric Packet) (r : Rings) (xs ys : List (Player S)) → AllPlayOn shows gives f r xs ys →
     done_of n xs < done_of n ys → SomeGrew n xs ys
-some_grew n lines f r [] [] kept more = absurd (omega (arith, more))
-some_grew n lines f r [] (y ∷ ys) kept more = absurd kept
-some_grew n lines f r (x ∷ xs) [] kept more = absurd kept
-some_grew n lines f r (x ∷ xs) (y ∷ ys) kept more =
-    by (some_grew n lines f r xs ys kept.1) (dec_le (suc (done_by n x)) (done_by n y)) where
-      by : (done_of n xs < done_of n ys → SomeGrew n xs ys) → Dec (suc (done_by n x) ≤ done_by n y) →
+some_grew n shows gives f r [] [] kept more = absurd (omega (arith, more))
+some_grew n shows gives f r [] (y ∷ ys) kept more = absurd kept
+some_grew n shows gives f r (x ∷ xs) [] kept more = absurd kept
+some_grew {S} n shows gives f r (x ∷ xs) (y ∷ ys) kept more =
+    by (some_grew n shows gives f r xs ys kept.1) (dec_le (suc (done_by n x.actor)) (done_by n y.actor)) where
+      by : (done_of n xs < done_of n ys → SomeGrew n xs ys) → Dec (suc (done_by n x.actor) ≤ done_by n y.actor) →
           SomeGrew n (x ∷ xs) (y ∷ ys)
       by rest (yes h) = record {
         place = 0;
@@ -295,7 +297,7 @@ some_grew n lines f r (x ∷ xs) (y ∷ ys) kept more =
         after = y;
         was = refl;
         is = refl;
-        grew = grew_of n x y h;
+        grew = grew_of n x.actor y.actor h;
       }
       by rest (no h) = let one = rest (omega (arith, more, h)) in record {
         place = suc one.place;
@@ -306,46 +308,48 @@ some_grew n lines f r (x ∷ xs) (y ∷ ys) kept more =
         grew = one.grew;
       }
 
-some_did : (n : ℕ) (lines : List Line) (f : Fabric Packet) (r : Rings) (xs ys : List Actor) (k : ℕ) (a b : Actor) →
-    AllContinue lines f r xs ys → slice_get xs k ≡ Some a → slice_get ys k ≡ Some b → Grew n a b →
+some_did : {S : Type 0} (n : ℕ) (shows : S → SourceView) (gives : S → List Numbered → ℕ → Type 0) (f : Fabric Packet) (r : Rings) (xs ys : List (Player S)) (k : ℕ) (a b : Player S) →
+    AllPlayOn shows gives f r xs ys → slice_get xs k ≡ Some a → slice_get ys k ≡ Some b → Grew n a.actor b.actor →
     done_of n xs < done_of n ys
-some_did n lines f r [] [] k a b kept was is grew = cc
-some_did n lines f r [] (y ∷ ys) k a b kept was is grew = absurd kept
-some_did n lines f r (x ∷ xs) [] k a b kept was is grew = absurd kept
-some_did n lines f r (x ∷ xs) (y ∷ ys) zero a b kept was is grew =
-    let here : Grew n x y = subst (λ (z : Actor). Grew n z y) (one (sym was))
-    (subst (λ (z : Actor). Grew n a z) (one (sym is)) grew) in
-    let less = is_less (done_by n x) (done_by n y) (did_more n x y kept.0.grows here) in
-    let rest = all_up n lines f r xs ys kept.1 in omega (arith, less, rest) where
-      one : {u v : Actor} → Some u ≡ Some v → u ≡ v
+some_did n shows gives f r [] [] k a b kept was is grew = cc
+some_did n shows gives f r [] (y ∷ ys) k a b kept was is grew = absurd kept
+some_did n shows gives f r (x ∷ xs) [] k a b kept was is grew = absurd kept
+some_did {S} n shows gives f r (x ∷ xs) (y ∷ ys) zero a b kept was is grew =
+    let here : Grew n x.actor y.actor = subst (λ (z : Player S). Grew n z.actor y.actor) (one (sym was))
+    (subst (λ (z : Player S). Grew n a.actor z.actor) (one (sym is)) grew) in
+    let less = is_less (done_by n x.actor) (done_by n y.actor) (did_more n x.actor y.actor kept.0.grows here) in
+    let rest = all_up n shows gives f r xs ys kept.1 in omega (arith, less, rest) where
+      one : {u v : Player S} → Some u ≡ Some v → u ≡ v
       one e = cc
-some_did n lines f r (x ∷ xs) (y ∷ ys) (suc k) a b kept was is grew =
-    let rest = some_did n lines f r xs ys k a b kept.1 was is grew in
-    let up = done_up n x y kept.0.grows in omega (arith, rest, up)
+some_did n shows gives f r (x ∷ xs) (y ∷ ys) (suc k) a b kept was is grew =
+    let rest = some_did n shows gives f r xs ys k a b kept.1 was is grew in
+    let up = done_up n x.actor y.actor kept.0.grows in omega (arith, rest, up)
 
-pub did_any_iff : (n : ℕ) (lines : List Line) (f : Fabric Packet) (r : Rings) (xs ys : List Actor) →
-    AllContinue lines f r xs ys → (did_any n xs ys ≡ true) ↔ SomeGrew n xs ys
-did_any_iff n lines f r xs ys kept = (
-  λ is. some_grew n lines f r xs ys kept (is_less (done_of n xs) (done_of n ys) (sym is)),
+pub did_any_iff : {S : Type 0} (n : ℕ) (shows : S → SourceView) (gives : S → List Numbered → ℕ → Type 0) (f : Fabric Packet) (r : Rings) (xs ys : List (Player S)) →
+    AllPlayOn shows gives f r xs ys → (did_any n xs ys ≡ true) ↔ SomeGrew n xs ys
+did_any_iff n shows gives f r xs ys kept = (
+  λ is. some_grew n shows gives f r xs ys kept (is_less (done_of n xs) (done_of n ys) (sym is)),
   λ some. sym (less_true (done_of n xs) (done_of n ys)
-      (some_did n lines f r xs ys some.place some.before some.after kept some.was some.is some.grew)),
+      (some_did n shows gives f r xs ys some.place some.before some.after kept some.was some.is some.grew)),
 )
 
 -- of a call that tells whether something was done
-pub grew_where_moved : {E : Type 0} (result : Result Bool E) (n : ℕ) (lines : List Line) (f : Fabric Packet) (r : Rings)
-    (a b : Actor) → IfOk result (λ _. Continues lines f r a b) → IfOk result (λ moved. moved ≡ did n a b) →
-    IfOk result (λ moved. (moved ≡ true) ↔ Grew n a b)
-grew_where_moved (Err x) n lines f r a b kept moved = tt
-grew_where_moved (Ok m) n lines f r a b kept moved = (
-  λ is. (did_iff n a b kept.grows).0 (sym moved ∙ is),
-  λ grew. moved ∙ (did_iff n a b kept.grows).1 grew,
+pub grew_where_moved : {E : Type 0} {S : Type 0} (result : Result Bool E) (n : ℕ) (shows : S → SourceView)
+    (gives : S → List Numbered → ℕ → Type 0) (f : Fabric Packet) (r : Rings) (x y : Player S) →
+    IfOk result (λ _. PlaysOn shows gives f r x y) → IfOk result (λ moved. moved ≡ did n x.actor y.actor) →
+    IfOk result (λ moved. (moved ≡ true) ↔ Grew n x.actor y.actor)
+grew_where_moved (Err e) n shows gives f r x y kept moved = tt
+grew_where_moved (Ok m) n shows gives f r x y kept moved = (
+  λ is. (did_iff n x.actor y.actor kept.grows).0 (sym moved ∙ is),
+  λ grew. moved ∙ (did_iff n x.actor y.actor kept.grows).1 grew,
 )
 
-pub some_grew_where_moved : {E : Type 0} (result : Result Bool E) (n : ℕ) (lines : List Line) (f : Fabric Packet) (r : Rings)
-    (xs ys : List Actor) → IfOk result (λ _. AllContinue lines f r xs ys) →
-    IfOk result (λ moved. moved ≡ did_any n xs ys) → IfOk result (λ moved. (moved ≡ true) ↔ SomeGrew n xs ys)
-some_grew_where_moved (Err x) n lines f r xs ys kept moved = tt
-some_grew_where_moved (Ok m) n lines f r xs ys kept moved = (
-  λ is. (did_any_iff n lines f r xs ys kept).0 (sym moved ∙ is),
-  λ grew. moved ∙ (did_any_iff n lines f r xs ys kept).1 grew,
+pub some_grew_where_moved : {E : Type 0} {S : Type 0} (result : Result Bool E) (n : ℕ) (shows : S → SourceView)
+    (gives : S → List Numbered → ℕ → Type 0) (f : Fabric Packet) (r : Rings) (xs ys : List (Player S)) →
+    IfOk result (λ _. AllPlayOn shows gives f r xs ys) → IfOk result (λ moved. moved ≡ did_any n xs ys) →
+    IfOk result (λ moved. (moved ≡ true) ↔ SomeGrew n xs ys)
+some_grew_where_moved (Err e) n shows gives f r xs ys kept moved = tt
+some_grew_where_moved (Ok m) n shows gives f r xs ys kept moved = (
+  λ is. (did_any_iff n shows gives f r xs ys kept).0 (sym moved ∙ is),
+  λ grew. moved ∙ (did_any_iff n shows gives f r xs ys kept).1 grew,
 )

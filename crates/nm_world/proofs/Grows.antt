@@ -18,8 +18,7 @@ use Rattle.nm_copyring.specs.Plays.{one_empty, one_full, one_pulled, one_pushed,
 use Rattle.nm_copyring.specs.Ports as ring
 use Rattle.nm_world.specs.declared.actors.Actor.{Actor}
 use Rattle.nm_world.specs.Actors.{Grows, LaneGrows, PortGrows, RingGrows}
-use Rattle.nm_world.specs.Actors.{Continues, ActorInvariant}
-use Rattle.nm_types.specs.declared.scripts.Line.{Line}
+use Rattle.nm_world.specs.Actors.{Continues, HasPorts}
 use Rattle.nm_cells.specs.declared.port.Fabric.{Fabric}
 use Rattle.nm_copyring.specs.declared.port.Rings.{Rings}
 use Rattle.nm_world.proofs.Entries.{EntryGrows, entry_same, misses_on}
@@ -164,15 +163,14 @@ grows_on a b c one two = record {
   ring = λ k. lane_on _ _ _ (one.ring k) (two.ring k);
 }
 
-pub kept_on : (lines : List Line) (f : Fabric Packet) (r : Rings) (a b c : Actor) → Continues lines f r a b →
-    Continues lines f r b c → Continues lines f r a c
-kept_on lines f r a b c one two = record {
-  stands = two.stands;
+pub kept_on : (f : Fabric Packet) (r : Rings) (a b c : Actor) → Continues f r a b → Continues f r b c →
+    Continues f r a c
+kept_on f r a b c one two = record {
+  ports = two.ports;
+  stands = λ commands last at. two.stands commands last (one.stands commands last at);
   seat = two.seat ∙ one.seat;
-  grows =
-      grows_on a b c one.grows two.grows;
+  grows = grows_on a b c one.grows two.grows;
 }
 
-pub kept_same : (lines : List Line) (f : Fabric Packet) (r : Rings) (a : Actor) → ActorInvariant lines f r a →
-    Continues lines f r a a
-kept_same lines f r a s = record { stands = s; seat = refl; grows = grows_same a }
+pub kept_same : (f : Fabric Packet) (r : Rings) (a : Actor) → HasPorts f r a → Continues f r a a
+kept_same f r a p = record { ports = p; stands = λ commands last at. at; seat = refl; grows = grows_same a }

@@ -8,8 +8,6 @@ use Rattle.std.specs.Prelude.{IfSome, option_map, slice_index}
 use Rattle.std.specs.List.{slice_get}
 use native.Mathlib.Decide.{ℕ_discrete, dec_le}
 use Rattle.nm_types.specs.declared.packets.Piece.{Piece}
-use Rattle.nm_types.specs.declared.scripts.Line.{Line}
-use Rattle.nm_types.specs.Commands.{commands_of}
 use Rattle.nm_sending.specs.Letters.{Letter}
 use Rattle.nm_rndv.specs.Offers.{Offered, next_offered, offered}
 use Rattle.nm_rank.specs.Ranks.{IsFresh}
@@ -32,7 +30,6 @@ use Rattle.nm_copyring.specs.Plays.{one_empty, one_full, with_lane}
 use Rattle.nm_copyring.specs.Ports as ring
 use Rattle.nm_copyring.specs.Ports.{full_to}
 use Rattle.nm_process.specs.Processes.{ProcessView}
-use Rattle.nm_process.specs.Steps.{goes_on}
 use Rattle.nm_world.specs.declared.actors.Actor.{Actor}
 use Rattle.nm_world.specs.Actors.{Grows, PortGrows, RingGrows}
 use Rattle.nm_world.specs.Idle.{NotSent, GaveNone, Idle, IsDue, FirstNotSent, NoPiece, NextNotPushed, QueueMissed}
@@ -225,11 +222,9 @@ pieces_within a a' b' b i up same none on due =
     let x = (up i).empty in let y = (on i).empty in omega (arith, x, rose, y)
 
 -- what was idle from a later moment on was so from the first
-pub idle_before : (lines : List Line) (a b c : Actor) → Grows a b → b.process ≡ a.process → Idle lines b c →
-    Idle lines a c
-idle_before lines a b c up same idle = record {
+pub idle_before : (a b c : Actor) → Grows a b → b.process ≡ a.process → Idle b c → Idle a c
+idle_before a b c up same idle = record {
   process = idle.process ∙ same;
-  stuck = subst (λ (v : ProcessView). goes_on (commands_of v.rank.me lines) v ≡ false) same idle.stuck;
   polled = none_within a.process.rank.sizes.ranks a.port b.port c.port c.port up.port
       (subst (λ (v : ProcessView). GaveNone v.rank.sizes.ranks b.port c.port) same idle.polled) (port_same c.port);
   letter = back_within a b c c up.port same idle.letter (port_same c.port);
@@ -265,11 +260,9 @@ more_none a b d sender i one two same low before last = by (ℕ_discrete i sende
   by (no ne) = pieces_within a a b d i (ring_same a.ring) refl (before (omega (arith, low, ne))) two.ring
 
 -- what was idle up to an earlier moment is so up to a later one
-pub idle_after : (lines : List Line) (a b c : Actor) → Idle lines a b → Grows b c → c.process ≡ b.process →
-    Idle lines a c
-idle_after lines a b c idle up same = record {
+pub idle_after : (a b c : Actor) → Idle a b → Grows b c → c.process ≡ b.process → Idle a c
+idle_after a b c idle up same = record {
   process = same ∙ idle.process;
-  stuck = idle.stuck;
   polled = none_within a.process.rank.sizes.ranks a.port a.port b.port c.port (port_same a.port) idle.polled up.port;
   letter = back_within a a b c (port_same a.port) refl idle.letter up.port;
   piece = piece_within a a b c (ring_same a.ring) refl idle.piece up.ring;

@@ -1,29 +1,23 @@
 -- What a step keeps by which a packet or a piece leaves.
-use Rattle.std.proofs.Common.{◌≡◌, ℕ, ◌<◌, ◌==◌, Bool, true, false, cond}
+use Rattle.std.proofs.Common.{◌≡◌, ℕ, ◌+◌, ◌<◌, ◌==◌, Bool, true, false, cond}
 use Rattle.std.proofs.Common.{List, [], ◌∷◌, ◌++◌, length, map, refl, sym, ap, ◌∙◌, subst}
-use Rattle.std.proofs.Common.{arith}
 use Rattle.nm_types.specs.declared.packets.Packet.{Packet}
 use Rattle.nm_types.specs.declared.packets.Path.{Path}
 use Rattle.nm_types.specs.declared.packets.Path.TheVariants.{Box, Cell}
 use Rattle.nm_types.specs.declared.packets.Piece.{Piece}
-use Rattle.nm_types.specs.declared.scripts.Line.{Line}
-use Rattle.nm_types.specs.Commands.{commands_of}
+use Rattle.nm_types.specs.Commands.{Numbered}
 use Rattle.nm_history.specs.declared.events.Event.{Event}
 use Rattle.nm_history.specs.Known.{Taken}
 use Rattle.nm_history.specs.Pieces.{Pulled}
 use Rattle.nm_chain.specs.declared.table.table.Entry.{Entry}
-use Rattle.nm_cells.specs.declared.port.Fabric.{Fabric}
 use Rattle.nm_cells.specs.declared.port.Port.{Port}
 use Rattle.nm_cells.specs.Ports.{SameTaken, knows, sent_by, taken_by}
-use Rattle.nm_port.specs.Keeps.{KeepsPort}
-use Rattle.nm_port.specs.Polls.{count_held}
 use Rattle.nm_port.specs.Sends.{SendsBy}
 use Rattle.nm_copyring.specs.declared.port.RingPort.{RingPort}
-use Rattle.nm_copyring.specs.declared.port.Rings.{Rings}
 use Rattle.nm_copyring.specs.declared.table.Entry as ring_entry
 use Rattle.nm_copyring.specs.declared.table.Lane.{Lane}
 use Rattle.nm_copyring.specs.Rule.{lane}
-use Rattle.nm_copyring.specs.Calls.{KeepsRingPort, Pushes}
+use Rattle.nm_copyring.specs.Calls.{Pushes}
 use Rattle.nm_copyring.specs.Plays.{one_pushed, with_lane}
 use Rattle.nm_copyring.specs.Ports as ring
 use Rattle.nm_global.specs.Emitted.{Emitted, with_packet, with_piece}
@@ -31,7 +25,7 @@ use Rattle.nm_channels.specs.Moments.{LogEntry, taken_from}
 use Rattle.nm_channels.specs.Moments.Cause.{Acted}
 use Rattle.nm_global.proofs.Shown.{pulled_still, taken_still}
 use Rattle.nm_process.specs.Processes.{ProcessView}
-use Rattle.nm_process.specs.Places.{IsAtWork}
+use Rattle.nm_process.specs.Work.{IsWorking}
 use Rattle.nm_port.specs.CarriedPackets.{HasPassed, HasSent, one_more}
 use Rattle.nm_global.specs.ProcessInvariant.{IsOf, with_moment, with_packet_left}
 use Rattle.nm_global.specs.ProcessInvariant.{with_piece_left}
@@ -74,30 +68,23 @@ left_pieces to j p l = by (to == j) where
   by true = refl
   by false = refl
 
-pub send_on : SendCarries → (lines : List Line) (f : Fabric Packet) (r : Rings) (a : Actor) (v : ProcessView)
+pub send_on : SendCarries → (commands : List Numbered) (last : ℕ) (a : Actor) (v : ProcessView)
     (port : Port Packet) (way : Path) (fits : Bool) (to : ℕ) (p : Packet) (events : List Event)
-    (s : ActorInvariant lines f r a) {idle : Type 0} → KeepsPort f idle a.port port → SameTaken a.port port →
+    (s : ActorInvariant commands last a) → port.rank ≡ a.port.rank → SameTaken a.port port →
     SendsBy way fits to (parcel_of p) a.port port → p.seq ≡ sent_by a.port to →
-    IsAtWork a.process.rank.sizes lines a.script v →
-    IsOf a.process.rank.sizes (commands_of a.port.rank lines) a.port.rank v.rank
+    IsWorking a.process.rank.sizes commands (last + 1) v →
+    IsOf a.process.rank.sizes commands a.port.rank v.rank
     (with_moment (with_packet_left s.past (to, p)) (record { cause = Acted; events = events })) →
-    ActorInvariant lines f r (record { process = v; script = a.script; port = port; ring = a.ring; places = tt })
-send_on law lines f r a v port way fits to p events s keeps same sends number work on =
+    ActorInvariant commands last (record { process = v; port = port; ring = a.ring; places = tt })
+send_on law commands last a v port way fits to p events s rank same sends number work on =
     let m : LogEntry = record { cause = Acted; events = events } in
     let now = with_moment (with_packet_left s.past (to, p)) m in
     let got = got_by way fits to (parcel_of p) a.port port sends in
-    stands_of a.process.rank.sizes lines f r
-    (record { process = v; script = a.script; port = port; ring = a.ring; places = tt }) now work.work.sizes
+    stands_of a.process.rank.sizes commands last
+    (record { process = v; port = port; ring = a.ring; places = tt }) now work.sizes
     (record {
       work = work;
-      stands = subst (λ (k : ℕ). IsOf a.process.rank.sizes (commands_of k lines) k v.rank now) (sym keeps.rank) on;
-      in_range = s.is.in_range;
-      cells = keeps.owns;
-      rings = s.is.rings;
-      rank = s.is.rank ∙ sym keeps.rank;
-      ranks = s.is.ranks;
-      hands = let few = keeps.few in let none = s.is.hands in omega (arith, few, none);
-      rest = same.2 ∙ s.is.rest ∙ ap count_held (sym same.1);
+      stands = subst (λ (k : ℕ). IsOf a.process.rank.sizes commands k v.rank now) (sym rank) on;
       sent = λ j within. subst (λ (ps : List Packet). HasSent packet_of (knows port) j ps)
           (sym (left_packets to j p (s.past.left j)))
           (law packet_of way fits to (parcel_of p) a.port port j (s.past.left j).packets sends number
@@ -119,29 +106,21 @@ piece_packets j piece l = by (piece.0 == j) where
   by true = refl
   by false = refl
 
-pub push_on : (lines : List Line) (f : Fabric Packet) (r : Rings) (a : Actor) (v : ProcessView)
-    (port : RingPort) (to : ℕ) (q : Piece) (events : List Event) (s : ActorInvariant lines f r a) →
-    KeepsRingPort r a.ring port → to < r.ranks → Pushes to q a.ring port →
-    IsAtWork a.process.rank.sizes lines a.script v →
-    IsOf a.process.rank.sizes (commands_of a.port.rank lines) a.port.rank v.rank
+pub push_on : (commands : List Numbered) (last : ℕ) (a : Actor) (v : ProcessView)
+    (port : RingPort) (to : ℕ) (q : Piece) (events : List Event) (s : ActorInvariant commands last a) →
+    to < length (ring.knows a.ring).lanes → Pushes to q a.ring port →
+    IsWorking a.process.rank.sizes commands (last + 1) v →
+    IsOf a.process.rank.sizes commands a.port.rank v.rank
     (with_moment (with_piece_left s.past (to, q)) (record { cause = Acted; events = events })) →
-    ActorInvariant lines f r (record { process = v; script = a.script; port = a.port; ring = port; places = tt })
-push_on lines f r a v port to q events s keeps within knew work on =
+    ActorInvariant commands last (record { process = v; port = a.port; ring = port; places = tt })
+push_on commands last a v port to q events s within knew work on =
     let m : LogEntry = record { cause = Acted; events = events } in
     let now = with_moment (with_piece_left s.past (to, q)) m in
-    let wide = s.is.rings.1.2 in
-    stands_of a.process.rank.sizes lines f r
-    (record { process = v; script = a.script; port = a.port; ring = port; places = tt }) now work.work.sizes
+    stands_of a.process.rank.sizes commands last
+    (record { process = v; port = a.port; ring = port; places = tt }) now work.sizes
     (record {
       work = work;
       stands = on;
-      in_range = s.is.in_range;
-      cells = s.is.cells;
-      rings = keeps.owns;
-      rank = keeps.rank ∙ s.is.rank;
-      ranks = s.is.ranks;
-      hands = s.is.hands;
-      rest = s.is.rest;
       sent = λ j low. subst (λ (ps : List Packet). HasSent packet_of (knows a.port) j ps)
           (sym (piece_packets j (to, q) (s.past.left j))) (s.is.sent j low);
       taken = λ i low. subst (λ (ts : List Taken). HasPassed packet_of (knows a.port) (taken_by a.port i) i
@@ -149,7 +128,7 @@ push_on lines f r a v port to q events s keeps within knew work on =
       pushed = λ j low. by j low (to == j) refl;
       pulled = λ i low. ap (map (λ (d : Pulled). d.piece)) (pulled_still i s.past.log m refl)
           ∙ s.is.pulled i low ∙ sym (ap (λ (e : ring_entry.Entry). (lane e i).pulled) knew
-          ∙ still i (omega (arith, within, wide)));
+          ∙ still i within);
     }) where
       still : (i : ℕ) → to < length (ring.knows a.ring).lanes →
           (lane (with_lane (one_pushed q) to (ring.knows a.ring)) i).pulled ≡ (lane (ring.knows a.ring) i).pulled
@@ -166,13 +145,11 @@ push_on lines f r a v port to q events s keeps within knew work on =
           (cond b (record (s.past.left j) { pieces = (s.past.left j).pieces ++ q ∷ [] }) (s.past.left j)).pieces
           ≡ ring.pushed_to port j
       by j low true e =
-          let wide = s.is.rings.1.2 in
           ap (λ (qs : List Piece). qs ++ q ∷ []) (s.is.pushed j low)
           ∙ sym (ap (λ (x : ring_entry.Entry). (lane x j).pushed) knew
           ∙ subst (λ (k : ℕ). (lane (with_lane (one_pushed q) to (ring.knows a.ring)) k).pushed
           ≡ (lane (ring.knows a.ring) k).pushed ++ q ∷ []) (same_number to j e)
-          (ap (λ (l : Lane). l.pushed) (lane_here (ring.knows a.ring) to (one_pushed q)
-          (omega (arith, within, wide)))))
+          (ap (λ (l : Lane). l.pushed) (lane_here (ring.knows a.ring) to (one_pushed q) within)))
       by j low false e =
           s.is.pushed j low ∙ sym (ap (λ (x : ring_entry.Entry). (lane x j).pushed) knew
           ∙ ap (λ (l : Lane). l.pushed) (lane_else (ring.knows a.ring) to j (one_pushed q) (differ to j e)))

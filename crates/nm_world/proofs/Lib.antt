@@ -4,7 +4,8 @@ mod Begins
 mod Accounts
 -- what is counted between two ranks
 mod Counted
--- lists of actors
+-- players, and lists of them
+mod Playing
 mod Runs
 -- a run at rest
 mod AtRest
@@ -17,7 +18,7 @@ mod Did
 mod Idle
 -- what a step moves
 mod Moves
--- sweeps over actors
+-- sweeps over players
 mod Sweeps
 -- loops over steps
 mod Loops

@@ -9,8 +9,7 @@ use native.Mathlib.Decide.{dec_le}
 use Rattle.std.proofs.lemmas.List.Elements.{filter_map-append}
 use Rattle.std.proofs.lemmas.List.Sums.{sum_by-append}
 use Rattle.nm_types.specs.declared.scripts.Command.{Command}
-use Rattle.nm_types.specs.declared.scripts.Line.{Line}
-use Rattle.nm_types.specs.Commands.{Numbered, command_at, commands_of}
+use Rattle.nm_types.specs.Commands.{Numbered, command_at}
 use Rattle.nm_history.specs.declared.events.Event.{Event}
 use Rattle.nm_history.specs.RankRun.{Answers, ran_lines, ran_of}
 use Rattle.nm_cells.specs.declared.port.Fabric.{Fabric}
@@ -19,8 +18,6 @@ use Rattle.nm_cells.specs.declared.port.Port.{Port}
 use Rattle.nm_cells.specs.Ports.{taken_by}
 use Rattle.nm_process.specs.Processes.{ProcessView}
 use Rattle.nm_process.specs.Steps.{is_look}
-use Rattle.nm_process.specs.Places.{IsAtWork, ScriptedView}
-use Rattle.nm_types.specs.Sizes.{Sizes}
 use Rattle.nm_rank.specs.Ranks.{IsFresh}
 use Rattle.nm_world.specs.declared.actors.Actor.{Actor}
 use Rattle.nm_world.specs.Actors.{Grows, Continues, Environment, PortGrows, Seat, ActorInvariant, did}
@@ -28,7 +25,7 @@ use Rattle.nm_world.specs.Idle.{Moves, QueueMissed}
 use Rattle.nm_world.specs.Looks.{IsAtLast, Polled, PolledBefore, PolledUnlessWorn, is_look_at, looks_in}
 use Rattle.nm_world.specs.Looks.{RanNext, looks_next, polls_of}
 use Rattle.nm_world.proofs.Did.{did_same, sum_more, sum_up}
-use Rattle.nm_world.proofs.Grows.{kept_on, port_same}
+use Rattle.nm_world.proofs.Grows.{port_same}
 use Rattle.nm_world.proofs.Loops.{HasLooped}
 use Rattle.nm_world.proofs.Results.{clash}
 use Rattle.nm_types.proofs.ListLemmas.{take_more}
@@ -101,17 +98,13 @@ sole_look commands line c found =
       by true = omega arith
       by false = omega arith
 
-pub looks_ran : (sizes : Sizes) (lines : List Line) (s t : ScriptedView) (a b : ProcessView) →
-    IsAtWork sizes lines s a → IsAtWork sizes lines t b → b.rank.me ≡ a.rank.me →
-    RanNext (commands_of a.rank.me lines) a b →
-    looks_in (commands_of a.rank.me lines) b.rank.events
-    ≡ looks_in (commands_of a.rank.me lines) a.rank.events + looks_next lines a
-looks_ran sizes lines s t a b one two me run =
-    let commands = commands_of a.rank.me lines in
+pub looks_ran : (commands : List Numbered) (a b : ProcessView) →
+    Answers commands a.at a.rank.events → Answers commands b.at b.rank.events → RanNext commands a b →
+    looks_in commands b.rank.events ≡ looks_in commands a.rank.events + looks_next commands a
+looks_ran commands a b one answers run =
     let next = run.next.next in
     let found = run.next.found in
     let line : Numbered = record { line = run.line; command = run.command } in
-    let answers = subst (λ (k : ℕ). Answers (commands_of k lines) b.at b.rank.events) me two.work.answers in
     let at = run.ran.at in
     let more : b.at ≡ suc a.at = omega (arith, at) in
     let taken : take b.at commands ≡ take a.at commands ++ line ∷ [] =
@@ -119,22 +112,22 @@ looks_ran sizes lines s t a b one two me run =
     ap (count_by (is_look_at commands)) (answers.in_order
     ∙ ap (map (λ (c : Numbered). c.line)) taken
     ∙ map-append (λ (c : Numbered). c.line) (take a.at commands) (line ∷ [])
-    ∙ ap (λ (ls : List ℕ). ls ++ line.line ∷ []) (sym one.work.answers.in_order))
+    ∙ ap (λ (ls : List ℕ). ls ++ line.line ∷ []) (sym one.in_order))
     ∙ sum_by-append (λ x. cond (is_look_at commands x) 1 0) (ran_lines a.rank.events) (line.line ∷ [])
     ∙ ap (λ (k : ℕ). looks_in commands a.rank.events + k) (sole_look commands line.line run.command found
     ∙ sym (ap (λ (o : Option Numbered). cond (option_map_or (λ c. is_look c.command) o false) 1 0) next))
 
 -- one step of a loop that takes packets, and its last one
-pub ranks_same : (lines : List Line) (f : Fabric Packet) (r : Rings) (a b : Actor) → Continues lines f r a b →
+pub ranks_same : (f : Fabric Packet) (r : Rings) (a b : Actor) → Continues f r a b →
     b.process.rank.sizes.ranks ≡ a.process.rank.sizes.ranks
-ranks_same lines f r a b kept = ap (λ (s : Seat). s.sizes.ranks) kept.seat
+ranks_same f r a b kept = ap (λ (s : Seat). s.sizes.ranks) kept.seat
 
 pub polled_by_step : (here : Environment) (a b d : Actor) (q : Bool) →
-    Continues here.lines here.fabric here.rings a b → q ≡ true → Moves here q b d →
+    Continues here.fabric here.rings a b → q ≡ true → Moves here q b d →
     PolledUnlessWorn b.process.rank.sizes.ranks 1 b d → Polled a.process.rank.sizes.ranks 1 a.port d.port
 polled_by_step here a b d q kept is moves = ⊎_elim
     (λ polled. polled_within a.process.rank.sizes.ranks 1 a.port b.port d.port d.port kept.grows.port
-    (subst (λ (k : ℕ). Polled k 1 b.port d.port) (ranks_same here.lines here.fabric here.rings a b kept) polled)
+    (subst (λ (k : ℕ). Polled k 1 b.port d.port) (ranks_same here.fabric here.rings a b kept) polled)
     (port_same d.port))
     (λ worn. absurd (clash (sym is ∙ moves.moved ∙ ap (did here.fabric.ranks b) worn.1
     ∙ sym (did_same here.fabric.ranks b))))
@@ -145,7 +138,7 @@ pub polled_last : (here : Environment) (k : ℕ) (a b d : Actor) → HasLooped h
 polled_last here k a b d looped before up = ⊎_elim
     (λ polled. inl (polled_within a.process.rank.sizes.ranks 1 a.port b.port d.port d.port
     looped.moves.kept.grows.port (subst (λ (k : ℕ). Polled k 1 b.port d.port)
-    (ranks_same here.lines here.fabric here.rings a b looped.moves.kept) polled) (port_same d.port)))
+    (ranks_same here.fabric here.rings a b looped.moves.kept) polled) (port_same d.port)))
     (λ worn. by worn (dec_le 1 k)) where
       by : (¬ IsFresh b.process.rank) × (d ≡ b) → Dec (1 ≤ k) → PolledUnlessWorn a.process.rank.sizes.ranks 1 a d
       by worn (yes some) =
@@ -155,85 +148,57 @@ polled_last here k a b d looped before up = ⊎_elim
           let same = looped.first (omega (arith, none)) in
           inr (subst (λ (x : Actor). ¬ IsFresh x.process.rank) same worn.0, worn.1 ∙ same)
 
--- an actor that stands, and went on
-module _ (lines : List Line) (f : Fabric Packet) (r : Rings) where
-  pub me_same : (a b : Actor) → ActorInvariant lines f r a → Continues lines f r a b → b.process.rank.me ≡ a.process.rank.me
-  me_same a b s kept =
-      kept.stands.is.stands.me ∙ ap (λ (s : Seat). s.rank) kept.seat ∙ sym s.is.stands.me
+-- the looks of an actor that ran no command
+pub looks_kept : (commands : List Numbered) (last : ℕ) (f : Fabric Packet) (r : Rings) (a b : Actor) →
+    ActorInvariant commands last a → Continues f r a b → b.process.at ≡ a.process.at →
+    looks_in commands b.process.rank.events ≡ looks_in commands a.process.rank.events
+looks_kept commands last f r a b s on at =
+    looks_same commands a.process.at b.process.at a.process.rank.events b.process.rank.events s.is.work.answers
+    (on.stands commands last s).is.work.answers at
 
-  answers_of : (a b : Actor) → ActorInvariant lines f r a → Continues lines f r a b →
-      Answers (commands_of a.process.rank.me lines) b.process.at b.process.rank.events
-  answers_of a b s kept =
-      subst (λ (k : ℕ). Answers (commands_of k lines) b.process.at b.process.rank.events) (me_same a b s kept)
-      kept.stands.is.work.work.answers
+looks_front : (commands : List Numbered) (a b : Actor) (g : Grows a b) →
+    looks_in commands b.process.rank.events
+    ≡ looks_in commands a.process.rank.events + looks_in commands g.events.0
+looks_front commands a b g =
+    ap (looks_in commands) g.events.1 ∙ looks_more commands a.process.rank.events g.events.0
 
-  -- the looks of an actor that ran no command
-  pub looks_kept : (a b c : Actor) → ActorInvariant lines f r a → Continues lines f r a b → Continues lines f r b c →
-      c.process.at ≡ b.process.at →
-      looks_in (commands_of a.process.rank.me lines) c.process.rank.events
-      ≡ looks_in (commands_of a.process.rank.me lines) b.process.rank.events
-  looks_kept a b c s one two at =
-      looks_same (commands_of a.process.rank.me lines) b.process.at c.process.at b.process.rank.events
-      c.process.rank.events (answers_of a b s one) (answers_of a c s (kept_on lines f r a b c one two)) at
+-- before a command that did not run
+pub looked_last : (commands : List Numbered) (last : ℕ) (f : Fabric Packet) (r : Rings) (a b c : Actor) →
+    ActorInvariant commands last b → Continues f r b c → c.process.at ≡ b.process.at → PolledBefore commands a b →
+    PolledBefore commands a c
+looked_last commands last f r a b c s two at before looks is =
+    let same = looks_kept commands last f r b c s two at in
+    polled_within a.process.rank.sizes.ranks looks a.port a.port b.port c.port (port_same a.port)
+    (before looks (sym same ∙ is)) two.grows.port
 
-  pub looks_front : (a b : Actor) →
-      (g : Grows a b) → looks_in (commands_of a.process.rank.me lines) b.process.rank.events
-      ≡ looks_in (commands_of a.process.rank.me lines) a.process.rank.events
-      + looks_in (commands_of a.process.rank.me lines) g.events.0
-  looks_front a b g =
-      ap (looks_in (commands_of a.process.rank.me lines)) g.events.1
-      ∙ looks_more (commands_of a.process.rank.me lines) a.process.rank.events g.events.0
-
-  -- before a command that did not run
-  pub looked_last : (a b c : Actor) → ActorInvariant lines f r a → Continues lines f r a b → Continues lines f r b c →
-      c.process.at ≡ b.process.at → PolledBefore lines a b → PolledBefore lines a c
-  looked_last a b c s one two at before looks is =
-      let commands = commands_of a.process.rank.me lines in
-      let front = looks_front a b one.grows in
-      let same = looks_kept a b c s one two at in
-      let polled = before looks (sym same ∙ is) in
-      polled_within a.process.rank.sizes.ranks looks a.port a.port b.port c.port (port_same a.port) polled
-      two.grows.port
-
-  next_same : (b m : Actor) → ActorInvariant lines f r b → Continues lines f r b m → m.process.at ≡ b.process.at →
-      looks_next lines m.process ≡ looks_next lines b.process
-  next_same b m s kept at =
-      ap (λ (k : ℕ). cond (option_map_or (λ (c : Numbered). is_look c.command)
-      (slice_get (commands_of k lines) m.process.at) false) 1 0) (me_same b m s kept)
-      ∙ ap (λ (k : ℕ). cond (option_map_or (λ (c : Numbered). is_look c.command)
-      (slice_get (commands_of b.process.rank.me lines) k) false) 1 0) at
-
-  -- before one that ran
-  pub looked_more : (a b m d : Actor) → ActorInvariant lines f r a → Continues lines f r a b → Continues lines f r b m →
-      Continues lines f r m d → m.process.at ≡ b.process.at → PolledBefore lines a b →
-      PolledUnlessWorn b.process.rank.sizes.ranks (looks_next lines b.process) b m → IsFresh m.process.rank →
-      RanNext (commands_of m.process.rank.me lines) m.process d.process → PolledBefore lines a d
-  looked_more a b m d s one two three at before looked fresh run looks is =
-      let commands = commands_of a.process.rank.me lines in
-      let n = a.process.rank.sizes.ranks in
-      let next = looks_next lines b.process in
-      let so_far = looks_in commands one.grows.events.0 in
-      let first = looks_front a b one.grows in
-      let same = looks_kept a b m s one two at in
-      let ran = looks_ran m.process.rank.sizes lines m.script d.script m.process d.process two.stands.is.work
-      (subst (λ (z : Sizes). IsAtWork z lines d.script d.process) (ap (λ (s : Seat). s.sizes) three.seat)
-      three.stands.is.work) (me_same m d two.stands three) run in
-      let here = subst (λ (k : ℕ). looks_in (commands_of k lines) d.process.rank.events
-      ≡ looks_in (commands_of k lines) m.process.rank.events + looks_next lines m.process)
-      (me_same a m s (kept_on lines f r a b m one two)) ran in
-      let then = next_same b m one.stands two at in
-      let sum : so_far + next ≡ looks = omega (arith, first, same, here, then, is) in
-      ⊎_elim
-      (λ polled. subst (λ (k : ℕ). Polled n k a.port d.port) sum
-      (polled_within n (so_far + next) a.port a.port m.port d.port (port_same a.port)
-      (polled_on n so_far next a.port b.port m.port (before so_far first)
-      (subst (λ (k : ℕ). Polled k next b.port m.port) (ranks_same lines f r a b one) polled) two.grows.port)
-      three.grows.port))
-      (λ worn. absurd (worn.0 (subst (λ (x : Actor). IsFresh x.process.rank) worn.1 fresh))) looked
+-- before one that ran, where the actor stood at m and at d
+pub looked_more : (commands : List Numbered) (last : ℕ) (f : Fabric Packet) (r : Rings) (a b m d : Actor) →
+    Grows a b → b.process.rank.sizes.ranks ≡ a.process.rank.sizes.ranks →
+    ActorInvariant commands last b → Continues f r b m → Grows m d → m.process.at ≡ b.process.at →
+    Answers commands d.process.at d.process.rank.events → PolledBefore commands a b →
+    PolledUnlessWorn b.process.rank.sizes.ranks (looks_next commands b.process) b m → IsFresh m.process.rank →
+    RanNext commands m.process d.process → PolledBefore commands a d
+looked_more commands last f r a b m d one ranks s two three at answers before looked fresh run looks is =
+    let n = a.process.rank.sizes.ranks in
+    let next = looks_next commands b.process in
+    let so_far = looks_in commands one.events.0 in
+    let first = looks_front commands a b one in
+    let same = looks_kept commands last f r b m s two at in
+    let here = looks_ran commands m.process d.process (two.stands commands last s).is.work.answers answers run in
+    let then : looks_next commands m.process ≡ next =
+    ap (λ (k : ℕ). cond (option_map_or (λ (c : Numbered). is_look c.command) (slice_get commands k) false) 1 0) at in
+    let sum : so_far + next ≡ looks = omega (arith, first, same, here, then, is) in
+    ⊎_elim
+    (λ polled. subst (λ (k : ℕ). Polled n k a.port d.port) sum
+    (polled_within n (so_far + next) a.port a.port m.port d.port (port_same a.port)
+    (polled_on n so_far next a.port b.port m.port (before so_far first)
+    (subst (λ (k : ℕ). Polled k next b.port m.port) ranks polled) two.grows.port)
+    three.port))
+    (λ worn. absurd (worn.0 (subst (λ (x : Actor). IsFresh x.process.rank) worn.1 fresh))) looked
 
 -- at the start
-pub looked_none : (lines : List Line) (a : Actor) → PolledBefore lines a a
-looked_none lines a looks is =
+pub looked_none : (commands : List Numbered) (a : Actor) → PolledBefore commands a a
+looked_none commands a looks is =
     let none : 0 ≡ looks = omega (arith, is) in
     subst (λ (k : ℕ). Polled a.process.rank.sizes.ranks k a.port a.port) none
     (polled_none a.process.rank.sizes.ranks a.port a.port (port_same a.port))

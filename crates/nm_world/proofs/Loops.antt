@@ -5,7 +5,7 @@ use Rattle.std.proofs.lemmas.Bool.Decides.{nat_tests}
 use Rattle.std.proofs.Math.Nat.{add-mul, mul-le-mul_right}
 use Rattle.nm_rank.specs.Ranks.{IsFresh}
 use Rattle.nm_world.specs.declared.actors.Actor.{Actor}
-use Rattle.nm_world.specs.Actors.{ActorInvariant, Environment}
+use Rattle.nm_world.specs.Actors.{Environment, HasPorts}
 use Rattle.nm_world.specs.Idle.{Moves}
 use Rattle.nm_world.proofs.Did.{or_none}
 use Rattle.nm_world.proofs.Moves.{moves_none, moves_on}
@@ -23,7 +23,7 @@ pub is_first : (k : ℕ) → nat_lt 0 k ≡ false → k ≡ 0
 is_first k none = let low : k ≤ 0 = grind (arith, nat_tests) in omega (arith, low)
 
 module _ (here : Environment) (a : Actor) where
-  pub loop_none : ActorInvariant here.lines here.fabric here.rings a → HasLooped here 0 a a
+  pub loop_none : HasPorts here.fabric here.rings a → HasLooped here 0 a a
   loop_none s = record { moves = moves_none here a s; first = λ e. refl }
 
   pub loop_more : (k : ℕ) (b c : Actor) (q : Bool) → q ≡ true → HasLooped here k a b → Moves here q b c →

@@ -1,13 +1,12 @@
 -- What each step of an actor keeps, but for those by which something leaves it.
-use Rattle.std.proofs.Common.{◌≡◌, ◌≢◌, ⊎_elim, ℕ, ◌<◌, ◌==◌, Bool, true, false, cond}
+use Rattle.std.proofs.Common.{◌≡◌, ◌≢◌, ⊎_elim, ℕ, ◌+◌, ◌<◌, ◌==◌, Bool, true, false, cond}
 use Rattle.std.proofs.Common.{Some, None, List, [], ◌∷◌, ◌++◌, length, map, refl, sym, ap, ◌∙◌, subst}
 use Rattle.std.proofs.Common.{arith, append-nil}
 use Rattle.std.specs.List.{cons_option}
 use Rattle.std.proofs.lemmas.List.{map-append}
 use Rattle.nm_types.specs.declared.packets.Packet.{Packet}
 use Rattle.nm_types.specs.declared.packets.Piece.{Piece}
-use Rattle.nm_types.specs.declared.scripts.Line.{Line}
-use Rattle.nm_types.specs.Commands.{commands_of}
+use Rattle.nm_types.specs.Commands.{Numbered}
 use Rattle.nm_types.specs.Sizes.{Sizes}
 use Rattle.nm_history.specs.Known.{Taken}
 use Rattle.nm_history.specs.Pieces.{Pulled}
@@ -16,7 +15,7 @@ use Rattle.nm_chain.specs.declared.table.parcels.Parcel.{Parcel}
 use Rattle.nm_chain.specs.OwnQueues.{OwnQueue, receive_queue, free_queue}
 use Rattle.nm_cells.specs.declared.port.Fabric.{Fabric}
 use Rattle.nm_cells.specs.declared.port.Port.{Port}
-use Rattle.nm_cells.specs.Ports.{knows, taken_by}
+use Rattle.nm_cells.specs.Ports.{Owns, knows, taken_by}
 use Rattle.nm_port.specs.Keeps.{KeepsPort}
 use Rattle.nm_port.specs.Polls.{HoldsTheRest, Polls, with_all_missed}
 use Rattle.nm_port.specs.Sends.{HadMiss, tried}
@@ -36,19 +35,76 @@ use Rattle.nm_rank.specs.Ranks.{RankView}
 use Rattle.nm_global.specs.Moments.{drew, pulled, took}
 use Rattle.nm_global.proofs.Shown.{pulled_still, taken-push, taken_still}
 use Rattle.nm_process.specs.Processes.{ProcessView}
-use Rattle.nm_process.specs.Places.{IsAtWork, ScriptedView}
+use Rattle.nm_process.specs.Work.{IsWorking}
 use Rattle.nm_port.specs.CarriedPackets.{HasPassed, HasSent, one_more}
 use Rattle.nm_global.specs.ProcessInvariant.{GoesOn, IsOf, GhostHistory, with_moment}
 use Rattle.nm_world.specs.Parcels.{packet_of}
 use Rattle.nm_world.specs.declared.actors.Actor.{Actor}
-use Rattle.nm_world.specs.Actors.{IsActor, Seat, ActorInvariant, seat_of}
+use Rattle.nm_world.specs.Actors.{ActorInvariant, Continues, Grows, HasPorts, IsActor, Seat, seat_of}
 use Rattle.nm_types.proofs.NumberLemmas.{same_number, differ}
 use Rattle.nm_channels.proofs.Pulling.{pulled-push}
 
-pub stands_of : (shape : Sizes) (lines : List Line) (f : Fabric Packet) (r : Rings) (a : Actor) (past : GhostHistory) →
-    a.process.rank.sizes ≡ shape → IsActor shape lines f r a past → ActorInvariant lines f r a
-stands_of shape lines f r a past same is =
-    record { past = past; is = subst (λ (s : Sizes). IsActor s lines f r a past) (sym same) is }
+pub stands_of : (shape : Sizes) (commands : List Numbered) (last : ℕ) (a : Actor) (past : GhostHistory) →
+    a.process.rank.sizes ≡ shape → IsActor shape commands last a past → ActorInvariant commands last a
+stands_of shape commands last a past same is =
+    record { past = past; is = subst (λ (s : Sizes). IsActor s commands last a past) (sym same) is }
+
+-- whose actor it is
+pub seat_is : (a : Actor) (v : ProcessView) (rank : ℕ) → rank ≡ a.port.rank →
+    v.rank.sizes ≡ a.process.rank.sizes → ◌≡◌ {A = Seat} (record { rank = rank; sizes = v.rank.sizes }) (seat_of a)
+seat_is a v rank one two = ap (λ (k : ℕ). record { rank = k; sizes = v.rank.sizes }) one
+    ∙ ap (λ (s : Sizes). record { rank = a.port.rank; sizes = s }) two
+
+-- an actor whose ports go on, at whatever commands it stands
+pub continues_by : (f : Fabric Packet) (r : Rings) (a b : Actor) (p : HasPorts f r a) → Owns f b.port →
+    ring.Owns r b.ring → b.ring.rank ≡ b.port.rank → b.port.hands ≡ 0 → HoldsTheRest b.port → seat_of b ≡ seat_of a →
+    Grows a b →
+    ((commands : List Numbered) (last : ℕ) → ActorInvariant commands last a → ActorInvariant commands last b) →
+    Continues f r a b
+continues_by f r a b p cells rings rank hands rest seat grows stands =
+    let ranks = ap (λ (s : Seat). s.sizes.ranks) seat in
+    record {
+      ports = record {
+        some = record {
+          commands = p.some.commands;
+          last = p.some.last;
+          stands = stands p.some.commands p.some.last p.some.stands;
+        };
+        cells = cells;
+        rings = rings;
+        rank = rank;
+        ranks = (p.ranks.0 ∙ sym ranks, p.ranks.1 ∙ sym ranks);
+        hands = hands;
+        rest = rest;
+      };
+      stands = stands;
+      seat = seat;
+      grows = grows;
+    }
+
+-- one whose port to the fabric goes on
+pub port_goes_on : (f : Fabric Packet) (r : Rings) (a : Actor) (v : ProcessView) (port : Port Packet)
+    (p : HasPorts f r a) {idle : Type 0} → KeepsPort f idle a.port port → HoldsTheRest port →
+    v.rank.sizes ≡ a.process.rank.sizes → Grows a (record { process = v; port = port; ring = a.ring; places = tt }) →
+    ((commands : List Numbered) (last : ℕ) → ActorInvariant commands last a →
+    ActorInvariant commands last (record { process = v; port = port; ring = a.ring; places = tt })) →
+    Continues f r a (record { process = v; port = port; ring = a.ring; places = tt })
+port_goes_on f r a v port p keeps rest sizes grows stands =
+    let few = keeps.few in
+    let none = p.hands in
+    continues_by f r a (record { process = v; port = port; ring = a.ring; places = tt }) p keeps.owns p.rings
+    (p.rank ∙ sym keeps.rank) (omega (arith, few, none)) rest (seat_is a v port.rank keeps.rank sizes) grows stands
+
+-- one whose port to the rings goes on
+pub ring_goes_on : (f : Fabric Packet) (r : Rings) (a : Actor) (v : ProcessView) (port : RingPort)
+    (p : HasPorts f r a) → KeepsRingPort r a.ring port → v.rank.sizes ≡ a.process.rank.sizes →
+    Grows a (record { process = v; port = a.port; ring = port; places = tt }) →
+    ((commands : List Numbered) (last : ℕ) → ActorInvariant commands last a →
+    ActorInvariant commands last (record { process = v; port = a.port; ring = port; places = tt })) →
+    Continues f r a (record { process = v; port = a.port; ring = port; places = tt })
+ring_goes_on f r a v port p keeps sizes grows stands =
+    continues_by f r a (record { process = v; port = a.port; ring = port; places = tt }) p p.cells keeps.owns
+    (keeps.rank ∙ p.rank) p.hands p.rest (seat_is a v a.port.rank refl sizes) grows stands
 
 -- the lists that a port's seat has
 pub record SameSent (e e' : Entry Packet) : Type 0 where
@@ -114,23 +170,15 @@ none_got e e' miss =
     let two = missed_got receive_queue (with_all_missed e) e' miss in record { box = two.box; cell = two.cell }
 
 -- a port that passed nothing on and sent nothing
-pub nothing_carried : (lines : List Line) (f : Fabric Packet) (r : Rings) (a : Actor) (port : Port Packet)
-    (s : ActorInvariant lines f r a) {idle : Type 0} → KeepsPort f idle a.port port → HoldsTheRest port →
-    taken_by port ≡ taken_by a.port → SameSent (knows a.port) (knows port) → SameGot (knows a.port) (knows port) →
-    ActorInvariant lines f r (record a { port = port })
-nothing_carried lines f r a port s keeps rest taken sent got = record {
+pub nothing_carried : (commands : List Numbered) (last : ℕ) (a : Actor) (port : Port Packet)
+    (s : ActorInvariant commands last a) → port.rank ≡ a.port.rank → taken_by port ≡ taken_by a.port →
+    SameSent (knows a.port) (knows port) → SameGot (knows a.port) (knows port) →
+    ActorInvariant commands last (record a { port = port })
+nothing_carried commands last a port s rank taken sent got = record {
   past = s.past;
   is = record {
     work = s.is.work;
-    stands = subst (λ (k : ℕ). IsOf a.process.rank.sizes (commands_of k lines) k a.process.rank s.past) (sym keeps.rank)
-        s.is.stands;
-    in_range = s.is.in_range;
-    cells = keeps.owns;
-    rings = s.is.rings;
-    rank = s.is.rank ∙ sym keeps.rank;
-    ranks = s.is.ranks;
-    hands = let few = keeps.few in let none = s.is.hands in omega (arith, few, none);
-    rest = rest;
+    stands = subst (λ (k : ℕ). IsOf a.process.rank.sizes commands k a.process.rank s.past) (sym rank) s.is.stands;
     sent = λ to within. sent_same (knows a.port) (knows port) to (s.past.left to).packets sent (s.is.sent to within);
     taken = λ from within. subst (λ (n : ℕ → ℕ). HasPassed packet_of (knows port) (n from) from
         (map (λ t. t.packet) (taken_from from s.past.log))) (sym taken)
@@ -142,22 +190,15 @@ nothing_carried lines f r a port s keeps rest taken sent got = record {
 }
 
 -- a command that ran
-pub run_on : (lines : List Line) (f : Fabric Packet) (r : Rings) (a : Actor) (v : ProcessView) (t : ScriptedView)
-    (s : ActorInvariant lines f r a) → IsAtWork a.process.rank.sizes lines t v →
-    GoesOn a.process.rank.sizes (commands_of a.port.rank lines) a.port.rank v.rank s.past →
-    ActorInvariant lines f r (record a { process = v; script = t })
-run_on lines f r a v t s work on =
-    stands_of a.process.rank.sizes lines f r (record a { process = v; script = t }) on.after work.work.sizes
+pub run_on : (commands : List Numbered) (before last : ℕ) (a : Actor) (v : ProcessView)
+    (s : ActorInvariant commands before a) → IsWorking a.process.rank.sizes commands (last + 1) v →
+    GoesOn a.process.rank.sizes commands a.port.rank v.rank s.past →
+    ActorInvariant commands last (record a { process = v })
+run_on commands before last a v s work on =
+    stands_of a.process.rank.sizes commands last (record a { process = v }) on.after work.sizes
     (record {
       work = work;
       stands = on.is;
-      in_range = s.is.in_range;
-      cells = s.is.cells;
-      rings = s.is.rings;
-      rank = s.is.rank;
-      ranks = s.is.ranks;
-      hands = s.is.hands;
-      rest = s.is.rest;
       sent = λ to within. subst (λ (l : Emitted). HasSent packet_of (knows a.port) to l.packets)
           (sym (on.same.left to)) (s.is.sent to within);
       taken = λ from within. subst (λ (ts : List Taken). HasPassed packet_of (knows a.port) (taken_by a.port from) from
@@ -199,26 +240,18 @@ PollCarries = (seen : Parcel Packet → Packet) (f : Fabric Packet) (old new : P
     (ps : List Packet) → Polls f old new p → HasPassed seen (knows old) (taken_by old i) i ps →
     HasPassed seen (knows new) (taken_by new i) i (one_more p.from i (seen p) ps)
 
-pub take_on : PollCarries → (lines : List Line) (f : Fabric Packet) (r : Rings) (a : Actor) (v : ProcessView)
-    (port : Port Packet) (p : Parcel Packet) (s : ActorInvariant lines f r a) {idle : Type 0} →
-    KeepsPort f idle a.port port → HoldsTheRest port → Polls f a.port port p →
-    IsAtWork a.process.rank.sizes lines a.script v →
-    IsOf a.process.rank.sizes (commands_of a.port.rank lines) a.port.rank v.rank (with_moment s.past (took a.process.rank (packet_of p))) →
-    ActorInvariant lines f r (record { process = v; script = a.script; port = port; ring = a.ring; places = tt })
-take_on law lines f r a v port p s keeps rest polls work on =
+pub take_on : PollCarries → (commands : List Numbered) (last : ℕ) (f : Fabric Packet) (a : Actor) (v : ProcessView)
+    (port : Port Packet) (p : Parcel Packet) (s : ActorInvariant commands last a) → port.rank ≡ a.port.rank →
+    Polls f a.port port p → IsWorking a.process.rank.sizes commands (last + 1) v →
+    IsOf a.process.rank.sizes commands a.port.rank v.rank (with_moment s.past (took a.process.rank (packet_of p))) →
+    ActorInvariant commands last (record { process = v; port = port; ring = a.ring; places = tt })
+take_on law commands last f a v port p s rank polls work on =
     let now = with_moment s.past (took a.process.rank (packet_of p)) in
-    stands_of a.process.rank.sizes lines f r
-    (record { process = v; script = a.script; port = port; ring = a.ring; places = tt }) now work.work.sizes
+    stands_of a.process.rank.sizes commands last
+    (record { process = v; port = port; ring = a.ring; places = tt }) now work.sizes
     (record {
       work = work;
-      stands = subst (λ (k : ℕ). IsOf a.process.rank.sizes (commands_of k lines) k v.rank now) (sym keeps.rank) on;
-      in_range = s.is.in_range;
-      cells = keeps.owns;
-      rings = s.is.rings;
-      rank = s.is.rank ∙ sym keeps.rank;
-      ranks = s.is.ranks;
-      hands = let few = keeps.few in let none = s.is.hands in omega (arith, few, none);
-      rest = rest;
+      stands = subst (λ (k : ℕ). IsOf a.process.rank.sizes commands k v.rank now) (sym rank) on;
       sent = λ to within. sent_same (knows a.port) (knows port) to (s.past.left to).packets
           (record {
             box = ap (λ (e : Entry Packet). e.put_box) polls.same;
@@ -233,33 +266,24 @@ take_on law lines f r a v port p s keeps rest polls work on =
           (pulled_still i s.past.log (took a.process.rank (packet_of p)) refl) ∙ s.is.pulled i within;
     })
 
-pub pull_on : (lines : List Line) (f : Fabric Packet) (r : Rings) (a : Actor) (v : ProcessView)
-    (port : RingPort) (sender : ℕ) (q : Piece) (s : ActorInvariant lines f r a) → KeepsRingPort r a.ring port →
-    sender < r.ranks → Pulls sender q a.ring port →
-    IsAtWork a.process.rank.sizes lines a.script v →
-    IsOf a.process.rank.sizes (commands_of a.port.rank lines) a.port.rank v.rank (with_moment s.past (drew a.process.rank q)) →
-    ActorInvariant lines f r (record { process = v; script = a.script; port = a.port; ring = port; places = tt })
-pull_on lines f r a v port sender q s keeps within pulls work on =
+pub pull_on : (commands : List Numbered) (last : ℕ) (a : Actor) (v : ProcessView) (port : RingPort) (sender : ℕ)
+    (q : Piece) (s : ActorInvariant commands last a) → sender < length (ring.knows a.ring).lanes →
+    Pulls sender q a.ring port → IsWorking a.process.rank.sizes commands (last + 1) v →
+    IsOf a.process.rank.sizes commands a.port.rank v.rank (with_moment s.past (drew a.process.rank q)) →
+    ActorInvariant commands last (record { process = v; port = a.port; ring = port; places = tt })
+pull_on commands last a v port sender q s within pulls work on =
     let now = with_moment s.past (drew a.process.rank q) in
-    let wide = s.is.rings.1.2 in
-    stands_of a.process.rank.sizes lines f r
-    (record { process = v; script = a.script; port = a.port; ring = port; places = tt }) now work.work.sizes
+    stands_of a.process.rank.sizes commands last
+    (record { process = v; port = a.port; ring = port; places = tt }) now work.sizes
     (record {
       work = work;
       stands = on;
-      in_range = s.is.in_range;
-      cells = s.is.cells;
-      rings = keeps.owns;
-      rank = keeps.rank ∙ s.is.rank;
-      ranks = s.is.ranks;
-      hands = s.is.hands;
-      rest = s.is.rest;
       sent = s.is.sent;
       taken = λ i low. subst (λ (ts : List Taken). HasPassed packet_of (knows a.port) (taken_by a.port i) i
           (map (λ t. t.packet) ts)) (sym (taken_still i s.past.log (drew a.process.rank q) refl))
           (s.is.taken i low);
       pushed = λ to low. s.is.pushed to low ∙ sym (ap (λ (e : ring_entry.Entry). (lane e to).pushed) pulls.knew
-          ∙ still to (omega (arith, within, wide)));
+          ∙ still to within);
       pulled = λ i low. drew_list s.past.log a.process.rank q i ∙ by i low (q.from == i) refl;
     }) where
       still : (to : ℕ) → sender < length (ring.knows a.ring).lanes →
@@ -279,20 +303,12 @@ pull_on lines f r a v port sender q s keeps within pulls work on =
           (map (λ (d : Pulled). d.piece) (pulled_from i s.past.log)) ≡ ring.pulled_from port i
       by i low true e =
           let here : sender ≡ i = sym pulls.from ∙ same_number q.from i e in
-          let wide = s.is.rings.1.2 in
           ap (λ (qs : List Piece). qs ++ q ∷ []) (s.is.pulled i low)
           ∙ sym (ap (λ (x : ring_entry.Entry). (lane x i).pulled) pulls.knew
           ∙ subst (λ (k : ℕ). (lane (with_lane (one_pulled q) sender (ring.knows a.ring)) k).pulled
           ≡ (lane (ring.knows a.ring) k).pulled ++ q ∷ []) here
-          (ap (λ (l : Lane). l.pulled) (lane_here (ring.knows a.ring) sender (one_pulled q)
-          (omega (arith, within, wide)))))
+          (ap (λ (l : Lane). l.pulled) (lane_here (ring.knows a.ring) sender (one_pulled q) within)))
       by i low false e =
           let other : i ≢ sender = λ same. differ q.from i e (same ∙ sym pulls.from) in
           s.is.pulled i low ∙ sym (ap (λ (x : ring_entry.Entry). (lane x i).pulled) pulls.knew
           ∙ ap (λ (l : Lane). l.pulled) (lane_else (ring.knows a.ring) sender i (one_pulled q) other))
-
--- whose actor it is
-pub seat_is : (a : Actor) (v : ProcessView) (rank : ℕ) → rank ≡ a.port.rank →
-    v.rank.sizes ≡ a.process.rank.sizes → ◌≡◌ {A = Seat} (record { rank = rank; sizes = v.rank.sizes }) (seat_of a)
-seat_is a v rank one two = ap (λ (k : ℕ). record { rank = k; sizes = v.rank.sizes }) one
-    ∙ ap (λ (s : Sizes). record { rank = a.port.rank; sizes = s }) two

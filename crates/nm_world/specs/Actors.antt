@@ -1,9 +1,6 @@
 -- How an actor stands: its process, its ports, and what was.
-use Rattle.std.specs.Prelude.{◌≡◌, ℕ, ◌+◌, ◌<◌, ◌≤◌, Bool, nat_lt, List, [], ◌∷◌, ◌++◌}
-use Rattle.std.specs.Prelude.{length, map, slice_index, Some}
-use Rattle.std.specs.List.{AllZip, slice_get}
-use Rattle.nm_types.specs.declared.scripts.Line.{Line}
-use Rattle.nm_types.specs.Commands.{commands_of}
+use Rattle.std.specs.Prelude.{◌≡◌, ℕ, ◌+◌, ◌<◌, ◌≤◌, Bool, nat_lt, List, ◌++◌, length, map, slice_index}
+use Rattle.nm_types.specs.Commands.{Numbered}
 use Rattle.nm_types.specs.Sizes.{Sizes}
 use Rattle.nm_channels.specs.Moments.{pulled_from as pulled_in, taken_from as taken_in}
 use Rattle.nm_history.specs.declared.events.Event.{Event}
@@ -22,26 +19,19 @@ use Rattle.nm_copyring.specs.Rule.{lane}
 use Rattle.nm_copyring.specs.Ports as ring
 use Rattle.nm_port.specs.CarriedPackets.{HasPassed, HasSent}
 use Rattle.nm_global.specs.ProcessInvariant.{IsOf, GhostHistory}
-use Rattle.nm_process.specs.Lines.{AreLines}
-use Rattle.nm_process.specs.Places.{IsAtWork}
+use Rattle.nm_process.specs.Work.{IsWorking}
 use Rattle.nm_world.specs.Parcels.{packet_of}
 use Rattle.nm_world.specs.declared.actors.Actor.{Actor}
 use Rattle.nm_types.specs.declared.packets.Packet.{Packet}
 
--- An actor's process stands at its place in a run of these lines, and its ports carried what was: the packets that left are
--- those that its port sent, by number, those that its port passed on are those that it took, and so
--- it is with the pieces.
-pub record IsActor (shape : Sizes) (lines : List Line) (f : Fabric Packet) (r : Rings) (a : Actor)
-    (past : GhostHistory) : Type 0 where
-  pub work : IsAtWork shape lines a.script a.process
-  pub stands : IsOf shape (commands_of a.port.rank lines) a.port.rank a.process.rank past
-  pub in_range : AreLines shape.ranks lines
-  pub cells : Owns f a.port
-  pub rings : ring.Owns r a.ring
-  pub rank : a.ring.rank ≡ a.port.rank
-  pub ranks : (f.ranks ≡ shape.ranks) × (r.ranks ≡ shape.ranks)
-  pub hands : a.port.hands ≡ 0
-  pub rest : HoldsTheRest a.port
+-- An actor's process is at work on these commands, none of those that ran has a line past `last`, and it
+-- stands at its place in a run of them, where its ports carried what was: the packets that left are those
+-- that its port sent, by number, those that its port passed on are those that it took, and so it is with
+-- the pieces.
+pub record IsActor (shape : Sizes) (commands : List Numbered) (last : ℕ) (a : Actor) (past : GhostHistory)
+    : Type 0 where
+  pub work : IsWorking shape commands (last + 1) a.process
+  pub stands : IsOf shape commands a.port.rank a.process.rank past
   pub sent : (to : ℕ) → to < shape.ranks → HasSent packet_of (knows a.port) to (past.left to).packets
   pub taken :
       (from : ℕ) → from < shape.ranks →
@@ -52,6 +42,27 @@ pub record IsActor (shape : Sizes) (lines : List Line) (f : Fabric Packet) (r : 
   pub pulled :
       (from : ℕ) → from < shape.ranks →
       map (λ d. d.piece) (pulled_in from past.log) ≡ ring.pulled_from a.ring from
+
+-- there is what was
+pub record ActorInvariant (commands : List Numbered) (last : ℕ) (a : Actor) : Type 0 where
+  pub past : GhostHistory
+  pub is : IsActor a.process.rank.sizes commands last a past
+
+-- it stands so at some commands
+pub record StandsSome (a : Actor) : Type 0 where
+  pub commands : List Numbered
+  pub last : ℕ
+  pub stands : ActorInvariant commands last a
+
+-- an actor's ports are those of its rank in this fabric and these rings
+pub record HasPorts (f : Fabric Packet) (r : Rings) (a : Actor) : Type 0 where
+  pub some : StandsSome a
+  pub cells : Owns f a.port
+  pub rings : ring.Owns r a.ring
+  pub rank : a.ring.rank ≡ a.port.rank
+  pub ranks : (f.ranks ≡ a.process.rank.sizes.ranks) × (r.ranks ≡ a.process.rank.sizes.ranks)
+  pub hands : a.port.hands ≡ 0
+  pub rest : HoldsTheRest a.port
 
 -- no count of the misses of a queue falls
 pub record MissesGrow (x y : Misses) : Type 0 where
@@ -83,11 +94,6 @@ pub record Grows (a b : Actor) : Type 0 where
   pub port : PortGrows a.port b.port
   pub ring : RingGrows a.ring b.ring
 
--- there is what was
-pub record ActorInvariant (lines : List Line) (f : Fabric Packet) (r : Rings) (a : Actor) : Type 0 where
-  pub past : GhostHistory
-  pub is : IsActor a.process.rank.sizes lines f r a past
-
 -- whose actor it is, and in a run of which sizes
 pub record Seat : Type 0 where
   pub rank : ℕ
@@ -97,21 +103,18 @@ pub record Seat : Type 0 where
 abbrev pub seat_of : Actor → Seat
 seat_of a = record { rank = a.port.rank; sizes = a.process.rank.sizes }
 
--- what an actor stands in: the lines, the fabric and the rings of its run
+-- what an actor stands in: the fabric and the rings of its run
 pub record Environment : Type 0 where
-  pub lines : List Line
   pub fabric : Fabric Packet
   pub rings : Rings
 
--- it is the same actor, it stands, and it goes on from where it was
-pub record Continues (lines : List Line) (f : Fabric Packet) (r : Rings) (a b : Actor) : Type 0 where
-  pub stands : ActorInvariant lines f r b
+-- it is the same actor, it goes on from where it was, and whatever commands it stood at, it does still
+pub record Continues (f : Fabric Packet) (r : Rings) (a b : Actor) : Type 0 where
+  pub ports : HasPorts f r b
+  pub stands :
+      (commands : List Numbered) (last : ℕ) → ActorInvariant commands last a → ActorInvariant commands last b
   pub seat : seat_of b ≡ seat_of a
   pub grows : Grows a b
-
--- so it is with each of a list
-abbrev pub AllContinue : List Line → Fabric Packet → Rings → List Actor → List Actor → Type 0
-AllContinue lines f r = AllZip (Continues lines f r)
 
 -- how much an actor has done among n ranks: its events, and what its ports sent, passed on,
 -- pushed and pulled
@@ -135,21 +138,3 @@ pub data Grew (n : ℕ) (a b : Actor) : Type 0 where
   pulled :
       (i : ℕ) → i < n → length (ring.pulled_from a.ring i) < length (ring.pulled_from b.ring i) →
       Grew n a b
-
--- something grew of one of these actors
-pub record SomeGrew (n : ℕ) (old new : List Actor) : Type 0 where
-  pub place : ℕ
-  pub before : Actor
-  pub after : Actor
-  pub was : slice_get old place ≡ Some before
-  pub is : slice_get new place ≡ Some after
-  pub grew : Grew n before after
-
--- how much these actors have done
-abbrev pub done_of : ℕ → List Actor → ℕ
-done_of n [] = 0
-done_of n (a ∷ actors) = done_by n a + done_of n actors
-
--- whether one of them did something between two moments
-abbrev pub did_any : ℕ → List Actor → List Actor → Bool
-did_any n old new = nat_lt (done_of n old) (done_of n new)

@@ -1,8 +1,7 @@
 -- Why an actor moved nothing.
 use Rattle.std.specs.Prelude.{◌≡◌, ◌⊎◌, ℕ, ◌<◌, ◌≤◌, Bool, false, IfSome, List, length, slice_index}
 use Rattle.std.specs.List.{AllZip, slice_get}
-use Rattle.nm_types.specs.declared.scripts.Line.{Line}
-use Rattle.nm_types.specs.Commands.{commands_of}
+use Rattle.nm_types.specs.Commands.{Numbered}
 use Rattle.nm_history.specs.Pieces.{due_pieces}
 use Rattle.nm_sending.specs.Letters.{Letter}
 use Rattle.nm_rndv.specs.Offers.{next_offered}
@@ -15,6 +14,7 @@ use Rattle.nm_cells.specs.Ports.{knows}
 use Rattle.nm_copyring.specs.Ports.{empty_from, full_to}
 use Rattle.nm_process.specs.Steps.{goes_on}
 use Rattle.nm_world.specs.declared.actors.Actor.{Actor}
+use Rattle.nm_world.specs.declared.players.Player.{Player}
 use Rattle.nm_world.specs.Actors.{Continues, Environment, did}
 use Rattle.nm_types.specs.declared.packets.Packet.{Packet}
 
@@ -60,19 +60,29 @@ IsDue v i = drawn_from v.receiving i < length (due_pieces v.events i)
 abbrev pub NoPiece : Actor → Actor → ℕ → Type 0
 NoPiece a b i = IsDue a.process.rank i → empty_from a.ring i < empty_from b.ring i
 
--- Nothing moved, since nothing could: the process is as it was, no command left can go on, `poll` gave
--- none, and what was to be sent, pushed and pulled was not.
-pub record Idle (lines : List Line) (a b : Actor) : Type 0 where
+-- Nothing moved, since nothing could: the process is as it was, `poll` gave none, and what was to be sent,
+-- pushed and pulled was not.
+pub record Idle (a b : Actor) : Type 0 where
   pub process : b.process ≡ a.process
-  pub stuck : goes_on (commands_of a.process.rank.me lines) a.process ≡ false
   pub polled : GaveNone a.process.rank.sizes.ranks a.port b.port
   pub letter : FirstNotSent a b
   pub piece : NextNotPushed a b
   pub pieces : (i : ℕ) → i < a.process.rank.sizes.ranks → NoPiece a b i
 
+-- whatever commands its source goes on to give, none that is left can go on
+abbrev pub IsStuck : {S : Type 0} → (S → List Numbered → ℕ → Type 0) → Player S → Type 0
+IsStuck gives x =
+    (commands : List Numbered) (last : ℕ) → gives x.source commands last →
+    goes_on commands x.actor.process ≡ false
+
+-- nothing moved, since nothing could, and no command that is left can go on
+pub record Rests {S : Type 0} (gives : S → List Numbered → ℕ → Type 0) (x y : Player S) : Type 0 where
+  pub idle : Idle x.actor y.actor
+  pub stuck : IsStuck gives x
+
 -- so it is with each of a list whose rank is not worn
-abbrev pub AllIdle : List Line → List Actor → List Actor → Type 0
-AllIdle lines = AllZip (λ a b. IsFresh a.process.rank → Idle lines a b)
+abbrev pub AllRest : {S : Type 0} → (S → List Numbered → ℕ → Type 0) → List (Player S) → List (Player S) → Type 0
+AllRest gives = AllZip (λ x y. IsFresh x.actor.process.rank → Rests gives x y)
 
 -- One step, or several of a kind, of which none is a command: where it moved nothing the process is as
 -- it was, and a worn rank makes none.
@@ -84,6 +94,6 @@ pub record Stepped (moved : Bool) (a b : Actor) : Type 0 where
 -- One step, or several of a kind, of which none is a command: the actor stands, goes on from where it
 -- was, and `some` tells whether it did something.
 pub record Moves (here : Environment) (some : Bool) (a b : Actor) : Type 0 where
-  pub kept : Continues here.lines here.fabric here.rings a b
+  pub kept : Continues here.fabric here.rings a b
   pub moved : some ≡ did here.fabric.ranks a b
   pub stepped : Stepped some a b

@@ -1,6 +1,7 @@
 pub mod Actors
 pub mod Idle
 pub mod Looks
+pub mod Players
 pub mod Records
 pub mod Rest
 pub mod Runs

@@ -3,8 +3,7 @@ use Rattle.std.specs.Prelude.{◌≡◌, ◌⊎◌, ℕ, ◌+◌, ◌<◌, ◌�
 use Rattle.std.specs.Prelude.{if◌then◌else◌}
 use Rattle.std.specs.Option.{option_map_or}
 use Rattle.nm_types.specs.declared.scripts.Command.{Command}
-use Rattle.nm_types.specs.declared.scripts.Line.{Line}
-use Rattle.nm_types.specs.Commands.{Numbered, command_at, commands_of}
+use Rattle.nm_types.specs.Commands.{Numbered, command_at}
 use Rattle.nm_history.specs.declared.events.Event.{Event}
 use Rattle.nm_history.specs.RankRun.{ran_lines}
 use Rattle.nm_cells.specs.declared.port.Port.{Port}
@@ -47,10 +46,9 @@ abbrev pub PolledUnlessWorn : ℕ → ℕ → Actor → Actor → Type 0
 PolledUnlessWorn n times a b =
     Polled n times a.port b.port ⊎ ((¬ IsFresh a.process.rank) × (b ≡ a))
 
--- 1 where the next command looks at what came, else 0
-abbrev pub looks_next : List Line → ProcessView → ℕ
-looks_next lines v =
-    if looks_on (commands_of v.rank.me lines) v then 1 else 0
+-- 1 where the next of these commands looks at what came, else 0
+abbrev pub looks_next : List Numbered → ProcessView → ℕ
+looks_next commands v = if looks_on commands v then 1 else 0
 
 -- it ran the next of these commands
 pub record RanNext (commands : List Numbered) (a b : ProcessView) : Type 0 where
@@ -60,18 +58,17 @@ pub record RanNext (commands : List Numbered) (a b : ProcessView) : Type 0 where
   pub next : IsNext commands a.at bound line command
   pub ran : HasRun command line a b
 
--- the actor polled at least once for each command that ran and looks at what came
-abbrev pub PolledBefore : List Line → Actor → Actor → Type 0
-PolledBefore lines a b =
-    let commands = commands_of a.process.rank.me lines in
+-- the actor polled at least once for each of these commands that ran and looks at what came
+abbrev pub PolledBefore : List Numbered → Actor → Actor → Type 0
+PolledBefore commands a b =
     (looks : ℕ) →
     looks_in commands b.process.rank.events ≡ looks_in commands a.process.rank.events + looks →
     Polled a.process.rank.sizes.ranks looks a.port b.port
 
 -- Of a turn in which commands ran that look at what came: the actor polled before each of them, and
 -- once before all.
-abbrev pub LookedAround : List Line → Actor → Actor → Type 0
-LookedAround lines a b =
+abbrev pub LookedAround : List Numbered → Actor → Actor → Type 0
+LookedAround commands a b =
     (more : List Event) → b.process.rank.events ≡ a.process.rank.events ++ more →
-    let looks = looks_in (commands_of a.process.rank.me lines) more in
+    let looks = looks_in commands more in
     0 < looks → Polled a.process.rank.sizes.ranks (looks + 1) a.port b.port

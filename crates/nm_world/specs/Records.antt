@@ -1,22 +1,22 @@
 -- What there is to tell of actors at rest.
-use Rattle.std.specs.Prelude.{◌≡◌, ℕ, nat_lt, option_map, List, [], ◌∷◌, ◌++◌, map, filter, slice_get}
+use Rattle.std.specs.Prelude.{◌≡◌, ℕ, ◌+◌, nat_lt, Some, option_map, List, [], ◌∷◌, ◌++◌, map, filter, slice_get}
 use Rattle.std.specs.List.{range_with_len}
-use Rattle.nm_types.specs.declared.scripts.Line.{Line}
-use Rattle.nm_types.specs.Commands.{commands_of}
+use Rattle.nm_types.specs.Commands.{Numbered}
 use Rattle.nm_history.specs.Quiescence.{Ended, Packets}
 use Rattle.nm_cells.specs.declared.port.Port.{Port}
 use Rattle.nm_cells.specs.Ports.{knows, sent_by}
 use Rattle.nm_process.specs.Processes.{ProcessView}
-use Rattle.nm_process.specs.Places.{IsAtWork}
-use Rattle.nm_world.specs.declared.actors.Actor.{Actor}
+use Rattle.nm_process.specs.Sources.{SourceView}
+use Rattle.nm_world.specs.declared.players.Player.{Player}
+use Rattle.nm_world.specs.Players.{IsAtWork}
 use Rattle.nm_types.specs.declared.packets.Packet.{Packet}
 
--- a process at the end of its run: the command at which it waits is its next one
-abbrev pub ended_of : List Line → ProcessView → Ended
-ended_of lines v =
+-- a process at the end of its run: the command at which it waits is the next of these
+abbrev pub ended_of : List Numbered → ProcessView → Ended
+ended_of commands v =
     record {
       at = v.at;
-      waits = option_map (λ c. c.line) (slice_get (commands_of v.rank.me lines) v.at);
+      waits = option_map (λ c. c.line) (slice_get commands v.at);
       events = v.rank.events;
     }
 
@@ -26,14 +26,24 @@ counts_to n p =
     filter (λ x. nat_lt 0 x.count)
     (map (λ to. record { from = p.rank; to = to; count = sent_by p to }) (range_with_len 0 n))
 
--- so it is with the ports of these actors
-abbrev pub counts_of : ℕ → List Actor → List Packets
+-- so it is with the ports of these players
+abbrev pub counts_of : {S : Type 0} → ℕ → List (Player S) → List Packets
 counts_of n [] = []
-counts_of n (a ∷ actors) = counts_to n a.port ++ counts_of n actors
+counts_of n (x ∷ players) = counts_to n x.actor.port ++ counts_of n players
 
--- these actors are at work, and their ports know of n ranks
-abbrev pub AreToTell : ℕ → List Line → List Actor → Type 0
-AreToTell n lines [] = Unit {0}
-AreToTell n lines (a ∷ actors) =
-    IsAtWork a.process.rank.sizes lines a.script a.process × ((knows a.port).ranks ≡ n)
-    × AreToTell n lines actors
+-- the source of each of these players gives the commands of its rank, from the rank k on
+abbrev pub AreAtWork :
+    {S : Type 0} → (S → SourceView) → (S → List Numbered → ℕ → Type 0) → (ℕ → List Numbered) → ℕ → List (Player S) →
+    Type 0
+AreAtWork shows gives commands k [] = Unit {0}
+AreAtWork shows gives commands k (x ∷ players) =
+    IsAtWork shows gives x (commands k) × AreAtWork shows gives commands (k + 1) players
+
+-- the processes of these players at the end, by the commands of the ranks from k on
+abbrev pub ended_from : {S : Type 0} → (ℕ → List Numbered) → ℕ → List (Player S) → List Ended
+ended_from commands k [] = []
+ended_from commands k (x ∷ players) = ended_of (commands k) x.actor.process ∷ ended_from commands (k + 1) players
+
+-- the ports of these players know of n ranks
+abbrev pub AreKnown : {S : Type 0} → ℕ → List (Player S) → Type 0
+AreKnown {S} n players = (k : ℕ) (x : Player S) → slice_get players k ≡ Some x → (knows x.actor.port).ranks ≡ n

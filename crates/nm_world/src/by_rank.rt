@@ -1,10 +1,12 @@
 //! Where the commands of each rank stand in a script.
 
 ghost use Rattle.std.specs.Prelude.{◌≡◌, ◌<◌, [], IfOk, OnOk, length};
+ghost use Rattle.nm_process.specs.Lines.{AreLines};
 ghost use Rattle.nm_types.specs.Limits.{IsScript};
-ghost use Rattle.nm_world.specs.ByRank.{AreByRank, Notes};
+ghost use Rattle.nm_world.specs.ByRank.{AreByRank, AreScripts, Notes};
 
 use crate::records::add;
+use nm_process::scripted::Scripted;
 use nm_types::{Line, Memory};
 use std::alloc::Global;
 
@@ -41,4 +43,23 @@ pub fn places_by_rank(alloc: Global, ranks: u8, lines: &[Line]) -> Result<Vec<Ve
         note(&mut all, line.rank, place as u32)?;
     }
     Ok(all)
+}
+
+/// What gives each of so many ranks its commands in a script.
+pub fn scripts_by_rank<'a>(
+    alloc: Global,
+    ranks: u8,
+    lines: &'a [Line],
+) -> Result<Vec<Scripted<'a>>, Memory>
+    requires script { IsScript ranks lines.now }
+    requires lines { AreLines ranks lines.now }
+    ensures many { IfOk result (λ all. length all.items ≡ ranks) }
+    ensures scripts { IfOk result (λ all. AreScripts ranks lines.now 0 all.items) }
+{
+    let mut scripts = Vec::new(alloc);
+    for own in places_by_rank(alloc, ranks, lines)? {
+        let me = scripts.len() as u8;
+        add(&mut scripts, Scripted::new(me, ranks, lines, own))?;
+    }
+    Ok(scripts)
 }

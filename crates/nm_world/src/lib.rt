@@ -1,21 +1,23 @@
 //! Ranks with their ports, and the run of all of them.
 //!
-//! An `Actor` is one rank: its process, its port to the fabric and its port to the copy rings. A turn
-//! of it sends and pushes what there is, takes what came, and runs commands. A round makes turns of all
-//! actors in crews, one for each processor, until none has anything to do, and `run` makes rounds until
-//! all are at rest.
+//! An `Actor` is a process with its port to the fabric and its port to the copy rings. A `Player` is an actor
+//! with what gives it its commands, whatever that is (`nm_process::Source`). A turn of it sends and pushes
+//! what there is, takes what came, and runs commands. A round makes turns of all players in crews, one for
+//! each processor, until none has anything to do, and `run_sources` makes rounds until all are at rest. `run`
+//! of a script is one call of it.
 //!
 //! # What a contract sees
-//! The process and the ports of each actor. The bells of the crews are not seen.
+//! The process and the ports of each actor, and its source. The bells of the crews are not seen.
 //! # What is proved
-//! - Each turn keeps how the actor stands, and loses nothing (`turn`: `kept`). It answers `true` exactly
+//! - Each turn keeps how the player stands, and loses nothing (`turn`: `kept`). It answers `true` exactly
 //!   where something was sent, taken or run, and `false` only where nothing could be (`moved`, `grew`,
-//!   `idle`); so it is with a round and all actors.
+//!   `idle`); so it is with a round and all players. It is said of all commands that the source may go on to
+//!   give.
 //! - A port polls before each command that looks at what came (`turn`: `looked`).
 //! - A turn takes at most 140 word steps for each rank, and 2,048, whatever the others do (`turn`:
 //!   `bound`).
-//! - `run` answers the record of a run of the script, and what the closed ports carried is what its
-//!   histories call for (`run`: `run`, `home`, `done`).
+//! - `run_sources` answers the record of a run of the commands that its sources gave, and what the closed
+//!   ports carried is what its histories call for (`run`, `home`, `done`). So it is with `run` and a script.
 //! # What is only tested
 //! That a probe sees the packet that came last (`nm_rows::world`), that two ranks are at work at the same
 //! time (`nm_rows::cli`), and that no crew sleeps for good (`.ci/small`). Why it doesn't stands in
@@ -26,11 +28,13 @@ mod actors;
 mod by_rank;
 pub mod laws;
 mod places;
+mod players;
 mod records;
 mod rounds;
 mod whole;
 
 pub use actors::Actor;
-pub use by_rank::places_by_rank;
+pub use by_rank::{places_by_rank, scripts_by_rank};
+pub use players::Player;
 pub use rounds::round;
-pub use whole::{Ways, run};
+pub use whole::{Left, Ways, run, run_sources};

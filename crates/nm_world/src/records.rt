@@ -1,42 +1,52 @@
-//! What there is to tell of actors at rest.
+//! What there is to tell of players at rest.
 
-ghost use Rattle.std.specs.Prelude.{◌≡◌, ◌<◌, ◌≤◌, [], ◌∷◌, ◌++◌, length, map, IfOk, OnOk};
-ghost use Rattle.nm_types.specs.declared.limits.TheConstants.{MAX_LINES};
-ghost use Rattle.nm_types.specs.Sizes.{Sizes};
+ghost use Rattle.std.specs.Prelude.{◌≡◌, ◌<◌, ◌≤◌, [], ◌∷◌, ◌++◌, ◌+◌, ℕ, List, length, map, option_map, slice_get, IfOk, OnOk};
+ghost use Rattle.nm_types.specs.Commands.{Numbered};
 ghost use Rattle.nm_cells.specs.Ports.{knows};
-ghost use Rattle.nm_process.specs.Places.{IsAtWork};
 ghost use Rattle.nm_report.specs.Ends.{are_done, ends_of, packets_of};
-ghost use Rattle.nm_world.specs.Records.{AreToTell, counts_of, counts_to, ended_of};
+ghost use Rattle.nm_world.specs.Players.{IsAtWork};
+ghost use Rattle.nm_world.specs.Records.{AreAtWork, AreKnown, counts_of, counts_to, ended_from, ended_of};
 
-use crate::Actor;
+use crate::{Actor, Player};
 use nm_copyring::RingPort;
 use nm_port::Port;
-use nm_process::scripted::Scripted;
-use nm_process::{Leavings, Process};
+use nm_process::{Leavings, Process, Source};
 use nm_report::{Accounts, PairCount, Pairs, RankAccount};
-use nm_types::{Line, Memory, Packet};
+use nm_types::{Memory, Packet};
 use std::alloc::Global;
 
-/// The ports of the actors of a run, what there is to tell of them, and what their processes kept beside
-/// that.
+/// The ports of the players of a run, what gave them their commands, what there is to tell of them, and what
+/// their processes kept beside that.
 #[derive(Drop)]
-pub(crate) struct Parts {
+pub(crate) struct Parts<S> {
     pub ports: Vec<Port<Packet>>,
     pub rings: Vec<RingPort>,
+    pub sources: Vec<S>,
     pub ranks: Accounts,
     pub pairs: Pairs,
     pub left: Vec<Leavings>,
     pub done: bool,
 }
 
+// The line of the next command, if there is one.
+fn next_line<S: Source>(source: &S) -> Option<u32>
+    ensures { (commands : List Numbered) (last : ℕ) → S.gives source.now commands last →
+        result ≡ option_map (λ c. c.line) (slice_get commands (S.shows source.now).at) }
+{
+    match source.next() {
+        Some((line, _)) => Some(line),
+        None => None,
+    }
+}
+
 // What became of a rank, and what its process kept beside that.
-fn account(process: Process, script: Scripted, lines: &[Line]) -> (RankAccount, Leavings)
-    requires { length lines.now < MAX_LINES }
-    ensures { (shape : Sizes) → IsAtWork shape lines.now script process →
-        ends_of (result.0 ∷ []) ≡ ended_of lines.now process ∷ [] }
+fn account<S: Source>(process: Process, source: &S) -> (RankAccount, Leavings)
+    ensures { (commands : List Numbered) (last : ℕ) → S.gives source.now commands last →
+        (S.shows source.now).at ≡ process.at →
+        ends_of (result.0 ∷ []) ≡ ended_of commands process ∷ [] }
 {
     let at = process.at();
-    let waits = script.next_line(process.me(), lines);
+    let waits = next_line(source);
     let (history, left) = process.into_parts();
     let account = RankAccount { at, history, waits };
     (account, left)
@@ -68,65 +78,70 @@ pub(crate) fn add<T: Drop>(list: &mut Vec<T>, x: T) -> Result<(), Memory>
     }
 }
 
-// The parts of one actor more. Its process goes first, so that a way out has little to let go.
-fn tell(parts: &mut Parts, actor: Actor, lines: &[Line], ranks: u8) -> Result<(), Memory>
-    requires few { length lines.now < MAX_LINES }
-    requires known { ranks ≤ (knows actor.port).ranks }
+// The parts of one player more. Its process goes first, so that a way out has little to let go.
+fn tell<S: Source>(parts: &mut Parts<S>, player: Player<S>, ranks: u8) -> Result<(), Memory>
+    requires known { ranks ≤ (knows player.actor.port).ranks }
     ensures ports { OnOk result
-        (parts.new.ports.items ≡ parts.old.ports.items ++ actor.port ∷ []) }
+        (parts.new.ports.items ≡ parts.old.ports.items ++ player.actor.port ∷ []) }
     ensures rings { OnOk result
-        (parts.new.rings.items ≡ parts.old.rings.items ++ actor.ring ∷ []) }
-    ensures ends { OnOk result ((shape : Sizes) → IsAtWork shape lines.now actor.script actor.process →
+        (parts.new.rings.items ≡ parts.old.rings.items ++ player.actor.ring ∷ []) }
+    ensures sources { OnOk result
+        (parts.new.sources.items ≡ parts.old.sources.items ++ player.source ∷ []) }
+    ensures many { OnOk result (length parts.new.ranks ≡ length parts.old.ranks + 1) }
+    ensures ends { OnOk result ((commands : List Numbered) →
+        IsAtWork S.shows S.gives player commands →
         ends_of parts.new.ranks
-        ≡ ends_of parts.old.ranks ++ ended_of lines.now actor.process ∷ []) }
+        ≡ ends_of parts.old.ranks ++ ended_of commands player.actor.process ∷ []) }
     ensures packets { OnOk result (packets_of parts.new.pairs
-        ≡ packets_of parts.old.pairs ++ counts_to ranks actor.port) }
+        ≡ packets_of parts.old.pairs ++ counts_to ranks player.actor.port) }
     ensures done { OnOk result (parts.old.done ≡ are_done (ends_of parts.old.ranks) →
         parts.new.done ≡ are_done (ends_of parts.new.ranks)) }
 {
-    push_counts(&mut parts.pairs, ranks, &actor.port)?;
+    push_counts(&mut parts.pairs, ranks, &player.actor.port)?;
+    let Player { actor, source } = player;
     let Actor {
         process,
-        script,
         port,
         ring,
         places: _,
     } = actor;
-    let (account, left) = account(process, script, lines);
+    let (account, left) = account(process, &source);
     parts.done = parts.done & account.waits.is_none();
     add(&mut parts.left, left)?;
     add(&mut parts.ports, port)?;
     add(&mut parts.rings, ring)?;
+    add(&mut parts.sources, source)?;
     parts.ranks.push(account)?;
     Ok(())
 }
 
-/// The parts of actors.
-pub(crate) fn parts_of(
+/// The parts of players.
+pub(crate) fn parts_of<S: Source>(
     alloc: Global,
-    actors: Vec<Actor>,
-    lines: &[Line],
+    players: Vec<Player<S>>,
     ranks: u8,
-) -> Result<Parts, Memory>
-    requires few { length lines.now < MAX_LINES }
-    requires each { AreToTell ranks lines.now actors.items }
-    ensures ports { IfOk result (λ x. x.ports.items ≡ map (λ a. a.port) actors.items) }
-    ensures rings { IfOk result (λ x. x.rings.items ≡ map (λ a. a.ring) actors.items) }
-    ensures ends { IfOk result (λ x. ends_of x.ranks
-        ≡ map (λ a. ended_of lines.now a.process) actors.items) }
-    ensures packets { IfOk result (λ x. packets_of x.pairs ≡ counts_of ranks actors.items) }
+) -> Result<Parts<S>, Memory>
+    requires known { AreKnown ranks players.items }
+    ensures ports { IfOk result (λ x. x.ports.items ≡ map (λ p. p.actor.port) players.items) }
+    ensures rings { IfOk result (λ x. x.rings.items ≡ map (λ p. p.actor.ring) players.items) }
+    ensures sources { IfOk result (λ x. x.sources.items ≡ map (λ p. p.source) players.items) }
+    ensures ends { IfOk result (λ x. (commands : ℕ → List Numbered) →
+        AreAtWork S.shows S.gives commands 0 players.items →
+        ends_of x.ranks ≡ ended_from commands 0 players.items) }
+    ensures packets { IfOk result (λ x. packets_of x.pairs ≡ counts_of ranks players.items) }
     ensures done { IfOk result (λ x. x.done ≡ are_done (ends_of x.ranks)) }
 {
     let mut parts = Parts {
         ports: Vec::new(alloc),
         rings: Vec::new(alloc),
+        sources: Vec::new(alloc),
         ranks: Accounts::new(alloc),
         pairs: Pairs::new(alloc),
         left: Vec::new(alloc),
         done: true,
     };
-    for actor in actors {
-        tell(&mut parts, actor, lines, ranks)?;
+    for player in players {
+        tell(&mut parts, player, ranks)?;
     }
     Ok(parts)
 }

@@ -1,37 +1,34 @@
 //! A run of all ranks, to rest.
 
 ghost use Rattle.nm_types.specs.declared.packets.Packet.{Packet};
-ghost use Rattle.std.specs.Prelude.{◌≡◌, ◌↔◌, ◌<◌, ℕ, true, false, List, length, IfOk};
+ghost use Rattle.std.specs.Prelude.{◌≡◌, ◌↔◌, ◌<◌, ℕ, true, false, List, length, map, IfOk};
 ghost use Rattle.std.specs.List.{All, AllZip};
+ghost use Rattle.nm_types.specs.Commands.{Numbered};
 ghost use Rattle.nm_types.specs.Limits.{IsScript};
-ghost use Rattle.nm_types.specs.declared.scripts.Line.{Line};
+ghost use Rattle.nm_channels.specs.Finished.{AreInRange};
 ghost use Rattle.nm_report.specs.Cells.{AllCellsFree};
 ghost use Rattle.nm_report.specs.Ends.{are_done, ends_of};
 ghost use Rattle.nm_cells.specs.declared.port.Fabric.{Fabric};
-ghost use Rattle.nm_cells.specs.declared.port.Port.{Port};
 ghost use Rattle.nm_cells.specs.Ports.{knows};
-ghost use Rattle.nm_copyring.specs.declared.port.RingPort.{RingPort};
 ghost use Rattle.nm_copyring.specs.declared.port.Rings.{Rings};
 ghost use Rattle.nm_copyring.specs.Ports as ring_port;
 ghost use Rattle.nm_process.specs.Lines.{AreLines};
-ghost use Rattle.nm_process.specs.Places.{ArePlaces};
-ghost use Rattle.nm_world.specs.Actors.{AllContinue, ActorInvariant, seat_of};
-ghost use Rattle.nm_world.specs.Rest.{EachActor};
-ghost use Rattle.nm_world.specs.declared.actors.Actor.{Actor};
+ghost use Rattle.nm_world.specs.Players.{AllPlayOn, AreGiven, BeginsAt, GivesLess, PlayerInvariant};
+ghost use Rattle.nm_world.specs.Rest.{Each};
 ghost use Rattle.nm_world.specs.Runs.{AllAgree, AreRanked, InPlace};
-ghost use Rattle.nm_world.specs.Runs.{IsStillAt, IsWhole, NewInOrder, PairAgrees, RowAgrees, SomeMoves};
+ghost use Rattle.nm_world.specs.Runs.{IsStillAt, IsWhole, IsWholeBy, NewInOrder, PairAgrees, RowAgrees, SomeMoves};
 
-use crate::Actor;
-use crate::by_rank::places_by_rank;
+use crate::by_rank::scripts_by_rank;
 use crate::laws::{a_still_actor_ends, actors_at_rest_make_a_run};
 use crate::records::{Parts, add, parts_of};
 use crate::rounds::{crews_for, round_in};
+use crate::{Actor, Player};
 use nm_copyring::{RingAccount, RingPort, Rings};
 use nm_crews::bells::Crews;
 use nm_crews::blocks::ask_for_run;
 use nm_outside::Gate;
 use nm_port::{Closed, Fabric, Port};
-use nm_process::Leavings;
+use nm_process::{Leavings, Source};
 use nm_report::RunRecord;
 use nm_types::{Line, Memory, Packet, Script, Shape};
 use std::alloc::Global;
@@ -56,17 +53,25 @@ impl Drop for Ways {
     }
 }
 
-// How many turns each actor of a round makes at most.
+/// What is left of a run: what gave the commands, the record, and what the closed ways keep.
+#[derive(Drop)]
+pub struct Left<S> {
+    pub sources: Vec<S>,
+    pub record: RunRecord,
+    pub ways: Ways,
+}
+
+// How many turns each player of a round makes at most.
 const TURNS: u32 = 1000000;
 
-// Whether no actor can move.
-fn are_still(actors: &[Actor], lines: &[Line]) -> bool
-    ensures still { result ≡ true → EachActor (λ i a. IsStillAt lines.now a) actors.now }
-    ensures moves { result ≡ false → SomeMoves lines.now actors.now }
+// Whether no player can move.
+fn are_still<S: Source>(players: &[Player<S>]) -> bool
+    ensures still { result ≡ true → Each (λ i x. IsStillAt S.shows S.gives x) players.now }
+    ensures moves { result ≡ false → SomeMoves S.shows S.gives players.now }
 {
     let mut all = true;
-    for i in 0..actors.len() {
-        let moves = actors[i].can_move(lines);
+    for i in 0..players.len() {
+        let moves = players[i].can_move();
         all = all & !moves;
     }
     all
@@ -81,54 +86,54 @@ fn pair_agrees(a: &Actor, b: &Actor, i: u8, j: u8) -> bool
     a.port.sent(j) == b.port.taken(i) && a.ring.pushed(j) == b.ring.pulled(i)
 }
 
-// Whether what the actor of rank i sent to each was taken there.
-fn row_agrees(actors: &[Actor], f: &Fabric<Packet>, i: u8) -> bool
-    requires many { (length actors.now ≡ f.now.ranks) × (i < f.now.ranks) }
-    requires ranked { AreRanked f.now.ranks actors.now }
-    ensures { (result ≡ true) ↔ RowAgrees i actors.now }
+// Whether what the player of rank i sent to each was taken there.
+fn row_agrees<S: Source>(players: &[Player<S>], f: &Fabric<Packet>, i: u8) -> bool
+    requires many { (length players.now ≡ f.now.ranks) × (i < f.now.ranks) }
+    requires ranked { AreRanked f.now.ranks players.now }
+    ensures { (result ≡ true) ↔ RowAgrees i players.now }
 {
     let mut all = true;
     for j in 0..f.ranks() {
-        let one = pair_agrees(&actors[i as usize], &actors[j as usize], i, j);
+        let one = pair_agrees(&players[i as usize].actor, &players[j as usize].actor, i, j);
         all = all & one;
     }
     all
 }
 
-// Whether what each actor sent to each was taken there.
-fn all_agree(actors: &[Actor], f: &Fabric<Packet>) -> bool
-    requires many { length actors.now ≡ f.now.ranks }
-    requires ranked { AreRanked f.now.ranks actors.now }
-    ensures { (result ≡ true) ↔ AllAgree actors.now }
+// Whether what each player sent to each was taken there.
+fn all_agree<S: Source>(players: &[Player<S>], f: &Fabric<Packet>) -> bool
+    requires many { length players.now ≡ f.now.ranks }
+    requires ranked { AreRanked f.now.ranks players.now }
+    ensures { (result ≡ true) ↔ AllAgree players.now }
 {
     let mut all = true;
     for i in 0..f.ranks() {
-        let one = row_agrees(actors, f, i);
+        let one = row_agrees(players, f, i);
         all = all & one;
     }
     all
 }
 
 // Rounds until rest.
-fn settle<R: Threads + Wait + Sync, G: Gate + Sync>(
+fn settle<R: Threads + Wait + Sync, S: Source + Send, G: Gate + Sync>(
     rt: &R,
-    actors: &mut [Actor],
-    lines: &[Line],
+    players: &mut [Player<S>],
     f: &Fabric<Packet>,
     r: &Rings,
     gate: &G,
 ) -> Result<(), Memory>
-    requires stands { All (ActorInvariant lines.now f.now r.now) actors.old }
-    requires many { length actors.old ≡ f.now.ranks }
-    ensures kept { IfOk result (λ _. AllContinue lines.now f.now r.now actors.old actors.new) }
-    ensures still { IfOk result (λ _. EachActor (λ i a. IsStillAt lines.now a) actors.new) }
-    ensures agree { IfOk result (λ _. AllAgree actors.new) }
+    requires stands { All (PlayerInvariant S.shows S.gives f.now r.now) players.old }
+    requires many { length players.old ≡ f.now.ranks }
+    ensures kept { IfOk result (λ _.
+        AllPlayOn S.shows S.gives f.now r.now players.old players.new) }
+    ensures still { IfOk result (λ _. Each (λ i x. IsStillAt S.shows S.gives x) players.new) }
+    ensures agree { IfOk result (λ _. AllAgree players.new) }
 {
-    let mut crews = Crews::new(crews_for(rt, actors.len()));
+    let mut crews = Crews::new(crews_for(rt, players.len()));
     for _ in rt.forever() {
-        round_in(rt, actors, lines, f, r, gate, TURNS, &mut crews)?;
-        let still = are_still(actors, lines);
-        let agree = all_agree(actors, f);
+        round_in(rt, players, f, r, gate, TURNS, &mut crews)?;
+        let still = are_still(players);
+        let agree = all_agree(players, f);
         if still & agree {
             return Ok(());
         }
@@ -136,58 +141,122 @@ fn settle<R: Threads + Wait + Sync, G: Gate + Sync>(
     unreachable!()
 }
 
-// The same of a list of actors.
-fn settle_all<R: Threads + Wait + Sync, G: Gate + Sync>(
+// The same of a list of players.
+fn settle_all<R: Threads + Wait + Sync, S: Source + Send, G: Gate + Sync>(
     rt: &R,
-    actors: &mut Vec<Actor>,
-    lines: &[Line],
+    players: &mut Vec<Player<S>>,
     f: &Fabric<Packet>,
     r: &Rings,
     gate: &G,
 ) -> Result<(), Memory>
-    requires stands { All (ActorInvariant lines.now f.now r.now) actors.old.items }
-    requires many { length actors.old.items ≡ f.now.ranks }
+    requires stands { All (PlayerInvariant S.shows S.gives f.now r.now) players.old.items }
+    requires many { length players.old.items ≡ f.now.ranks }
     ensures kept { IfOk result (λ _.
-        AllContinue lines.now f.now r.now actors.old.items actors.new.items) }
-    ensures still { IfOk result (λ _. EachActor (λ i a. IsStillAt lines.now a) actors.new.items) }
-    ensures agree { IfOk result (λ _. AllAgree actors.new.items) }
+        AllPlayOn S.shows S.gives f.now r.now players.old.items players.new.items) }
+    ensures still { IfOk result (λ _.
+        Each (λ i x. IsStillAt S.shows S.gives x) players.new.items) }
+    ensures agree { IfOk result (λ _. AllAgree players.new.items) }
 {
-    settle(rt, actors.as_mut_slice(), lines, f, r, gate)?;
+    settle(rt, players.as_mut_slice(), f, r, gate)?;
     Ok(())
 }
 
-// An actor for each rank.
-fn cast(
+// A player for each rank.
+fn cast<S: Source>(
     alloc: Global,
     shape: Shape,
     ports: Vec<Port<Packet>>,
     rings: Vec<RingPort>,
-    places: Vec<Vec<u32>>,
-    lines: &[Line],
-) -> Result<Vec<Actor>, Memory>
+    sources: Vec<S>,
+) -> Result<Vec<Player<S>>, Memory>
     requires ranks { All (λ p. p.rank < shape.ranks) ports.items }
     requires pairs { length rings.items ≡ length ports.items }
-    requires owns { length places.items ≡ length ports.items }
-    requires places { AllZip (λ p own. ArePlaces lines.now p.rank own.items) ports.items places.items }
+    requires owns { length sources.items ≡ length ports.items }
+    requires begins { All (BeginsAt S.shows S.gives shape.ranks) sources.items }
     ensures place { IfOk result (λ v. (f : Fabric Packet) (r : Rings) →
-        AreLines shape.ranks lines.now → (f.ranks ≡ shape.ranks) × (r.ranks ≡ shape.ranks) →
-        NewInOrder f r 0 ports.items rings.items → InPlace shape lines.now f r 0 v.items) }
+        (f.ranks ≡ shape.ranks) × (r.ranks ≡ shape.ranks) →
+        NewInOrder f r 0 ports.items rings.items →
+        InPlace S.shows S.gives shape f r 0 v.items) }
     ensures many { IfOk result (λ v. length v.items ≡ length ports.items) }
+    ensures sources { IfOk result (λ v. map (λ x. x.source) v.items ≡ sources.items) }
 {
-    let mut actors = Vec::new(alloc);
+    let mut players = Vec::new(alloc);
     let mut rings = rings.into_iter();
-    let mut places = places.into_iter();
+    let mut sources = sources.into_iter();
     for port in ports {
         let Some(ring) = rings.next() else {
             unreachable!()
         };
-        let Some(own) = places.next() else {
+        let Some(source) = sources.next() else {
             unreachable!()
         };
-        let actor = Actor::new(alloc, shape, port, ring, own, lines)?;
-        add(&mut actors, actor)?;
+        let player = Player::new(alloc, shape, port, ring, source)?;
+        add(&mut players, player)?;
     }
-    Ok(actors)
+    Ok(players)
+}
+
+/// Runs what these sources give, one for each rank, in as many threads as there are processors where they
+/// can be had, until it is at rest.
+///
+/// It calls `gate.turn(rank)` before each turn of a rank. Whatever commands the sources are left with, the
+/// record tells a lawful run of them that is at rest, what went from rank to rank is what its histories
+/// call for, all cells are home, and `done` tells whether no rank waits.
+pub fn run_sources<R: Threads + Wait + Sync, S: Source + Send, G: Gate + Sync>(
+    rt: &R,
+    alloc: Global,
+    shape: Shape,
+    sources: Vec<S>,
+    gate: &G,
+) -> Result<Left<S>, Memory>
+    requires many { length sources.items ≡ shape.ranks }
+    requires begins { All (BeginsAt S.shows S.gives shape.ranks) sources.items }
+    ensures shaped { IfOk result (λ x. x.record.shape ≡ shape) }
+    ensures run { IfOk result (λ x. (commands : ℕ → List Numbered) →
+        AreInRange shape.ranks commands → AreGiven S.gives commands 0 x.sources.items →
+        IsWholeBy shape commands x.record x.ways.cells x.ways.rings) }
+    ensures gave { IfOk result (λ x. AllZip (GivesLess S.gives) sources.items x.sources.items) }
+    ensures home { IfOk result (λ x. AllCellsFree x.record) }
+    ensures account { IfOk result (λ x. x.record.cells ≡ x.ways.cells.cells) }
+    ensures done { IfOk result (λ x. x.record.done ≡ are_done (ends_of x.record.ranks)) }
+{
+    let (fabric, ports) = Fabric::<Packet>::build(alloc, shape)?;
+    let (rings, ring_ports) = Rings::build(alloc, shape)?;
+    let mut players = cast(alloc, shape, ports, ring_ports, sources)?;
+    settle_all(rt, &mut players, &fabric, &rings, gate)?;
+    let parts = parts_of(alloc, players, fabric.ranks())?;
+    let Parts {
+        ports,
+        rings: ring_ports,
+        sources,
+        ranks,
+        pairs,
+        left,
+        done,
+    } = parts;
+    // no step: the laws of the end of a run
+    a_still_actor_ends();
+    actors_at_rest_make_a_run();
+    let closed = fabric.close(ports);
+    let rings = rings.close(ring_ports);
+    let cells = closed.account();
+    let record = RunRecord {
+        shape,
+        ranks,
+        pairs,
+        cells,
+        done,
+    };
+    let ways = Ways {
+        cells: closed,
+        rings,
+        left,
+    };
+    Ok(Left {
+        sources,
+        record,
+        ways,
+    })
 }
 
 // Runs lines.
@@ -207,42 +276,9 @@ fn run_lines<R: Threads + Wait + Sync, G: Gate + Sync>(
     ensures done { IfOk result (λ x. x.0.done ≡ are_done (ends_of x.0.ranks)) }
 {
     ask_for_run(alloc);
-    let ranks = shape.ranks();
-    let places = places_by_rank(alloc, ranks, lines)?;
-    let (fabric, ports) = Fabric::<Packet>::build(alloc, shape)?;
-    let (rings, ring_ports) = Rings::build(alloc, shape)?;
-    let mut actors = cast(alloc, shape, ports, ring_ports, places, lines)?;
-    settle_all(rt, &mut actors, lines, &fabric, &rings, gate)?;
-    let parts = parts_of(alloc, actors, lines, fabric.ranks())?;
-    let Parts {
-        ports,
-        rings: ring_ports,
-        ranks,
-        pairs,
-        left,
-        done,
-    } = parts;
-    // no step: the laws of the end of a run
-    a_still_actor_ends();
-    actors_at_rest_make_a_run();
-    let closed = fabric.close(ports);
-    let rings = rings.close(ring_ports);
-    let cells = closed.account();
-    let record = RunRecord {
-        shape,
-        ranks,
-        pairs,
-        cells,
-        done,
-    };
-    Ok((
-        record,
-        Ways {
-            cells: closed,
-            rings,
-            left,
-        },
-    ))
+    let scripts = scripts_by_rank(alloc, shape.ranks(), lines)?;
+    let left = run_sources(rt, alloc, shape, scripts, gate)?;
+    Ok((left.record, left.ways))
 }
 
 /// Runs a script, in as many threads as there are processors where they can be had, until it is at rest.

@@ -1,22 +1,23 @@
 ghost use Rattle.nm_types.specs.declared.packets.Packet.{Packet};
 ghost use Rattle.std.specs.Prelude.{◌≡◌, ◌<◌, ℕ, Some, length, slice_get};
+ghost use Rattle.std.specs.List.{All};
 ghost use Rattle.nm_copyring.specs.declared.port.RingPort.{RingPort};
 ghost use Rattle.nm_cells.specs.declared.port.Port.{Port};
 ghost use Rattle.nm_cells.specs.Ports.{IsNew};
 ghost use Rattle.nm_copyring.specs.Ports as ring_port;
 ghost use Rattle.nm_types.specs.Limits.{IsScript};
 ghost use Rattle.nm_process.specs.Lines.{AreLines};
-ghost use Rattle.nm_process.specs.Places.{ArePlaces};
-ghost use Rattle.nm_world.specs.Actors.{ActorInvariant};
-ghost use Rattle.nm_world.specs.ByRank.{AreByRank};
+ghost use Rattle.nm_process.specs.Places.{gives_lines, shown};
+ghost use Rattle.nm_world.specs.Players.{BeginsAt, PlayerInvariant};
 
 use nm_chain::seats::Steps;
 use nm_copyring::{RingPort, Rings};
 use nm_history::{Event, Happened, History};
 use nm_outside::OpenGate;
 use nm_port::{Fabric, Port};
+use nm_process::scripted::Scripted;
 use nm_types::{Answer, Line, Memory, Packet, Script, Seen, Shape};
-use nm_world::{Actor, places_by_rank};
+use nm_world::{Player, scripts_by_rank};
 use std::alloc::{AllocError, Global};
 use std::marker::Brand;
 use std::sync::ledger::{Blank, Ledger};
@@ -44,19 +45,18 @@ fn both<T: Drop>(mut list: Vec<T>) -> (T, T)
 // Three turns of the sender. It runs 64 commands, sends 64 packets and runs the last command, and
 // sends the last packet.
 fn three_turns<L: Ledger>(
-    sender: &mut Actor,
-    lines: &[Line],
+    sender: &mut Player<Scripted<'_>>,
     f: &Fabric<Packet>,
     r: &Rings,
     blank: Blank,
 ) -> Result<[bool; 3], Memory>
     requires blank { (blank.name ≡ L.name) × (blank.parts ≡ L.parts) × (0 < L.parts) }
-    requires stands { ActorInvariant lines.now f.now r.now sender.old }
+    requires stands { PlayerInvariant shown gives_lines f.now r.now sender.old }
 {
     let mut steps = Steps::<L>::new(blank);
-    let first = sender.turn(lines, f, r, &OpenGate, &mut steps)?;
-    let second = sender.turn(lines, f, r, &OpenGate, &mut steps)?;
-    let third = sender.turn(lines, f, r, &OpenGate, &mut steps)?;
+    let first = sender.turn(f, r, &OpenGate, &mut steps)?;
+    let second = sender.turn(f, r, &OpenGate, &mut steps)?;
+    let third = sender.turn(f, r, &OpenGate, &mut steps)?;
     Ok([first, second, third])
 }
 
@@ -84,17 +84,16 @@ fn saw_the_last(history: &History) -> bool {
 
 // One turn of the receiver. It takes 64 packets, and polls once more before its probe.
 fn one_turn<L: Ledger>(
-    receiver: &mut Actor,
-    lines: &[Line],
+    receiver: &mut Player<Scripted<'_>>,
     f: &Fabric<Packet>,
     r: &Rings,
     blank: Blank,
 ) -> Result<bool, Memory>
     requires blank { (blank.name ≡ L.name) × (blank.parts ≡ L.parts) × (0 < L.parts) }
-    requires stands { ActorInvariant lines.now f.now r.now receiver.old }
+    requires stands { PlayerInvariant shown gives_lines f.now r.now receiver.old }
 {
     let mut steps = Steps::<L>::new(blank);
-    let moved = receiver.turn(lines, f, r, &OpenGate, &mut steps)?;
+    let moved = receiver.turn(f, r, &OpenGate, &mut steps)?;
     Ok(moved && saw_the_last(receiver.history()))
 }
 
@@ -102,70 +101,64 @@ fn one_turn<L: Ledger>(
 fn sender_at(
     alloc: Global,
     shape: Shape,
-    lines: &[Line],
     f: &Fabric<Packet>,
     r: &Rings,
     port: Port<Packet>,
     ring: RingPort,
-    own: Vec<u32>,
+    script: Scripted<'_>,
 ) -> Result<[bool; 3], Memory>
-    requires lines { AreLines shape.ranks lines.now }
-    requires places { ArePlaces lines.now 0 own.items }
+    requires script { BeginsAt shown gives_lines shape.ranks script }
     requires ranks { (f.now.ranks ≡ shape.ranks) × (r.now.ranks ≡ shape.ranks) }
     requires two { shape.ranks ≡ 2 }
     requires new { IsNew f.now port 0 × ring_port.IsNew r.now ring 0 }
 {
-    let mut sender = Actor::new(alloc, shape, port, ring, own, lines)?;
-    three_turns::<Brand>(&mut sender, lines, f, r, Blank::new(1))
+    let mut sender = Player::new(alloc, shape, port, ring, script)?;
+    three_turns::<Brand>(&mut sender, f, r, Blank::new(1))
 }
 
 // The turn of a receiver at these ports.
 fn receiver_at(
     alloc: Global,
     shape: Shape,
-    lines: &[Line],
     f: &Fabric<Packet>,
     r: &Rings,
     port: Port<Packet>,
     ring: RingPort,
-    own: Vec<u32>,
+    script: Scripted<'_>,
 ) -> Result<bool, Memory>
-    requires lines { AreLines shape.ranks lines.now }
-    requires places { ArePlaces lines.now 1 own.items }
+    requires script { BeginsAt shown gives_lines shape.ranks script }
     requires ranks { (f.now.ranks ≡ shape.ranks) × (r.now.ranks ≡ shape.ranks) }
     requires two { shape.ranks ≡ 2 }
     requires new { IsNew f.now port 1 × ring_port.IsNew r.now ring 1 }
 {
-    let mut receiver = Actor::new(alloc, shape, port, ring, own, lines)?;
-    one_turn::<Brand>(&mut receiver, lines, f, r, Blank::new(1))
+    let mut receiver = Player::new(alloc, shape, port, ring, script)?;
+    one_turn::<Brand>(&mut receiver, f, r, Blank::new(1))
 }
 
 // The turns of both ranks at these ports, the sender's before the receiver's.
 fn turns_at(
     alloc: Global,
     shape: Shape,
-    lines: &[Line],
     f: &Fabric<Packet>,
     r: &Rings,
     ports: Vec<Port<Packet>>,
     rings: Vec<RingPort>,
-    places: Vec<Vec<u32>>,
+    scripts: Vec<Scripted<'_>>,
 ) -> Result<Turns, Memory>
-    requires lines { AreLines shape.ranks lines.now }
     requires ranks { (f.now.ranks ≡ shape.ranks) × (r.now.ranks ≡ shape.ranks) }
     requires two { shape.ranks ≡ 2 }
     requires count { (length ports.items ≡ 2) × (length rings.items ≡ 2)
-        × (length places.items ≡ 2) }
-    requires places { AreByRank lines.now places.items }
+        × (length scripts.items ≡ 2) }
+    requires scripts { All (BeginsAt shown gives_lines shape.ranks) scripts.items }
     requires ports { (k : ℕ) (p : Port Packet) → slice_get ports.items k ≡ Some p → IsNew f.now p k }
     requires rings { (k : ℕ) (p : RingPort) →
         slice_get rings.items k ≡ Some p → ring_port.IsNew r.now p k }
 {
     let (port, other_port) = both(ports);
     let (ring, other_ring) = both(rings);
-    let (own, other_own) = both(places);
-    let sent = sender_at(alloc, shape, lines, f, r, port, ring, own);
-    let seen = receiver_at(alloc, shape, lines, f, r, other_port, other_ring, other_own);
+    let (script, other_script) = both(scripts);
+    let sent = sender_at(alloc, shape, f, r, port, ring, script);
+    let seen = receiver_at(alloc, shape, f, r, other_port, other_ring, other_script);
     Ok(Turns {
         sent: sent?,
         seen: seen?,
@@ -176,20 +169,18 @@ fn turns_at(
 fn turns_in(
     alloc: Global,
     shape: Shape,
-    lines: &[Line],
     f: &Fabric<Packet>,
     ports: Vec<Port<Packet>>,
-    places: Vec<Vec<u32>>,
+    scripts: Vec<Scripted<'_>>,
 ) -> Result<Turns, Memory>
-    requires lines { AreLines shape.ranks lines.now }
     requires ranks { f.now.ranks ≡ shape.ranks }
     requires two { shape.ranks ≡ 2 }
-    requires count { (length ports.items ≡ 2) × (length places.items ≡ 2) }
-    requires places { AreByRank lines.now places.items }
+    requires count { (length ports.items ≡ 2) × (length scripts.items ≡ 2) }
+    requires scripts { All (BeginsAt shown gives_lines shape.ranks) scripts.items }
     requires ports { (k : ℕ) (p : Port Packet) → slice_get ports.items k ≡ Some p → IsNew f.now p k }
 {
     let (rings, ring_ports) = Rings::build(alloc, shape)?;
-    turns_at(alloc, shape, lines, f, &rings, ports, ring_ports, places)
+    turns_at(alloc, shape, f, &rings, ports, ring_ports, scripts)
 }
 
 // The turns of two ranks with 64 cells each, and an eager limit of 1,024 bytes.
@@ -198,9 +189,9 @@ fn turns_of(alloc: Global, lines: &[Line]) -> Result<Turns, Memory>
     requires script { IsScript 2 lines.now }
 {
     let shape = Shape::new(2, 64, 1024).unwrap();
-    let places = places_by_rank(alloc, 2, lines)?;
+    let scripts = scripts_by_rank(alloc, 2, lines)?;
     let (fabric, ports) = Fabric::<Packet>::build(alloc, shape)?;
-    turns_in(alloc, shape, lines, &fabric, ports, places)
+    turns_in(alloc, shape, &fabric, ports, scripts)
 }
 
 // A text of 65 sends of rank 0, and one probe of rank 1 for the last of them.

@@ -1,12 +1,11 @@
 -- By what is left to it.
-use Rattle.std.proofs.Common.{◌≡◌, ℕ, false, Option, Some, None, List, refl, subst}
+use Rattle.std.proofs.Common.{◌≡◌, false, Option, Some, None, List, refl}
 use Rattle.std.specs.Prelude.{MatchOption, option_map}
 use Rattle.std.specs.List.{slice_get}
 use Rattle.std.specs.Option.{option_map_or}
-use Rattle.nm_types.specs.Commands.{Numbered, commands_of}
+use Rattle.nm_types.specs.Commands.{Numbered}
 use Rattle.nm_history.specs.declared.events.Event.{Event}
 use Rattle.nm_history.specs.Answers.{can_go_on}
-use Rattle.nm_process.specs.Steps.{goes_on}
 use Rattle.nm_world.proofs.laws.a_still_actor_ends.Goals as goal
 
 stands_at : (commands : List Numbered) (h : List Event) (o : Option Numbered) →
@@ -17,11 +16,10 @@ stands_at commands h None stuck = refl
 stands_at commands h (Some c) stuck = (refl, stuck)
 
 pub returns : goal.returns
-returns c lines f r a s still =
-    let me = s.is.stands.me in
+returns c commands last a s still =
     let v = a.process in
-    let stuck = subst (λ (k : ℕ). goes_on (commands_of k lines) v ≡ false) me still.stuck in
     record {
+      last = last;
       past = s.past;
       is = s.is;
       me = refl;
@@ -35,7 +33,6 @@ returns c lines f r a s still =
         empty = still.empty;
         early = still.fresh.clock;
       };
-      waits = option_map (λ (c : Numbered). c.line) (slice_get (commands_of a.port.rank lines) v.at);
-      stands = stands_at (commands_of a.port.rank lines) v.rank.events
-          (slice_get (commands_of a.port.rank lines) v.at) stuck;
+      waits = option_map (λ (c : Numbered). c.line) (slice_get commands v.at);
+      stands = stands_at commands v.rank.events (slice_get commands v.at) still.stuck;
     }

@@ -4,9 +4,8 @@ use Rattle.std.proofs.Common.{length, map, refl, sym, ap, ◌∙◌, subst, arit
 use Rattle.std.specs.Prelude.{IfSome}
 use Rattle.std.specs.List.{slice_get}
 use Rattle.nm_types.specs.declared.packets.Piece.{Piece}
-use Rattle.nm_types.specs.Commands.{commands_of}
 use Rattle.nm_history.specs.Outgoing.{AreCalled, AreCalledPieces, outgoing, ring}
-use Rattle.nm_history.specs.Quiescence.{Ended, IsStopped as StandsAt, commands_by_rank, packets_of}
+use Rattle.nm_history.specs.Quiescence.{Ended, IsStopped as StandsAt, packets_of_by}
 use Rattle.nm_history.specs.Sends.{sent_body}
 use Rattle.nm_channels.specs.Moments.{taken_from}
 use Rattle.nm_cells.specs.ClosedLists.{sent_list, taken_list}
@@ -18,8 +17,6 @@ use Rattle.nm_copyring.specs.Ports as ring_port
 use Rattle.nm_copyring.specs.Rule.{lane}
 use Rattle.nm_global.specs.Ranks.{AreAtRest, Each, HasNothingToSend, IsPassed, RankInvariant, OneRank, recorded_of}
 use Rattle.nm_global.specs.ProcessInvariant.{IsOf}
-use Rattle.nm_process.specs.Work.{IsWorking}
-use Rattle.nm_channels.proofs.Run.{in_range_from}
 use Rattle.nm_world.specs.declared.actors.Actor.{Actor}
 use Rattle.nm_world.specs.Rest.{EndsAt, HasRun, IsCarried}
 use Rattle.nm_world.proofs.Chosen.{chosen, chosen_each, chosen_length, chosen_map, each_map, for_each}
@@ -45,9 +42,9 @@ whole front left all is many =
       none (x ∷ l) e = absurd (omega (arith, e))
 
 pub returns : goal.returns
-returns c shape lines f r actors closed q script many each cells rings all_taken = (ends, has_run) where
+returns c shape commands actors closed q in_range many each cells rings all_taken = (ends, has_run) where
   P : ℕ → Actor → Type 0
-  P i a = (slice_get actors i ≡ Some a) × EndsAt shape lines f r i a
+  P i a = (slice_get actors i ≡ Some a) × EndsAt shape (commands i) i a
 
   one : (i : ℕ) (a : Actor) → P i a → OneRank
   one i a p =
@@ -61,7 +58,7 @@ returns c shape lines f r actors closed q script many each cells rings all_taken
       }
 
   h : (i : ℕ) → IfSome (slice_get actors i) (P i)
-  h = placed (EndsAt shape lines f r) actors each
+  h = placed (λ i a. EndsAt shape (commands i) i a) actors each
 
   ones : List OneRank
   ones = chosen P one actors h
@@ -72,15 +69,12 @@ returns c shape lines f r actors closed q script many each cells rings all_taken
   below : (i : ℕ) (a : Actor) → slice_get actors i ≡ Some a → i < shape.ranks
   below i a is = let low = place_below actors i a is in omega (arith, low, many)
 
-  stands_at : (i : ℕ) (a : Actor) (p : P i a) → RankInvariant shape (commands_of i lines) i (one i a p)
+  stands_at : (i : ℕ) (a : Actor) (p : P i a) → RankInvariant shape (commands i) i (one i a p)
   stands_at i a p =
       let e = p.1 in
-      let bound = a.script.next + 2 in
-      let commands = commands_of i lines in
-      let stands = subst (λ (k : ℕ). IsOf shape (commands_of k lines) k a.process.rank e.past) e.me e.is.stands in
-      let work = subst (λ (k : ℕ). IsWorking shape (commands_of k lines) bound a.process) stands.me e.is.work.work in
-      let s = c.a_process_is_a_rank.ensures shape commands bound i a.process e.past
-      (record { work = work; rank = stands }) e.right e.stamped in
+      let stands = subst (λ (k : ℕ). IsOf shape (commands i) k a.process.rank e.past) e.me e.is.stands in
+      let s = c.a_process_is_a_rank.ensures shape (commands i) (e.last + 1) i a.process e.past
+      (record { work = e.is.work; rank = stands }) e.right e.stamped in
       record { me = s.me; sizes = s.sizes; run = s.run; logged = s.logged; left = s.left }
 
   -- the lists of the closed ports
@@ -141,11 +135,11 @@ returns c shape lines f r actors closed q script many each cells rings all_taken
             ∙ sym (p.1.is.pushed j (below j b o.0));
       }
 
-  at_rest : AreAtRest shape (commands_by_rank lines) ones
+  at_rest : AreAtRest shape commands ones
   at_rest =
       record {
         many = chosen_length P one actors h ∙ many;
-        standing = chosen_each P one actors h (λ i x. RankInvariant shape (commands_of i lines) i x) stands_at;
+        standing = chosen_each P one actors h (λ i x. RankInvariant shape (commands i) i x) stands_at;
         passed = chosen_each P one actors h (λ i x. Each (λ j y. IsPassed i j x y) ones)
             (λ i a p. chosen_each P one actors h (λ j y. IsPassed i j (one i a p) y)
             (λ j b o. passed i j a b p o));
@@ -163,17 +157,17 @@ returns c shape lines f r actors closed q script many each cells rings all_taken
 
   shown : (i : ℕ) (x : Actor) (p : P i x) (a : Actor) → slice_get actors i ≡ Some a →
       (x.process.at ≡ a.process.at) × (x.process.rank.events ≡ a.process.rank.events)
-      × StandsAt (commands_of i lines) (recorded_of (one i x p))
+      × StandsAt (commands i) (recorded_of (one i x p))
   shown i x p a is =
       let same : x ≡ a = same_there x a p.0 is in
       (ap (λ (a : Actor). a.process.at) same, ap (λ (a : Actor). a.process.rank.events) same, p.1.stands)
 
   carried : (i j : ℕ) (a : Actor) (p : P i a) → j < shape.ranks →
-      IsCarried lines closed q i j (recorded_of (one i a p))
+      IsCarried (commands i) closed q i j (recorded_of (one i a p))
   carried i j a p within =
       let s = stands_at i a p in
       let b = get_some actors j (omega (arith, within, many)) in
-      let bodies = sent_body (commands_of i lines) in
+      let bodies = sent_body (commands i) in
       record {
         packets = subst (λ ps. AreCalled i 0 (outgoing bodies a.process.rank.events j) ps)
             (sym (sent_is i j a p within))
@@ -189,29 +183,28 @@ returns c shape lines f r actors closed q script many each cells rings all_taken
         pulled = all_pulled i j a b.0 p.0 b.1;
       }
 
-  has_run : HasRun shape lines actors closed q ends
+  has_run : HasRun shape commands actors closed q ends
   has_run =
       record {
         are = λ i a is. for_each (slice_get ends i) (λ a. slice_get actors i ≡ Some a)
             (λ e a. (e.at ≡ a.process.at) × (e.events ≡ a.process.rank.events)
-            × StandsAt (commands_of i lines) e)
+            × StandsAt (commands i) e)
             (each_map recorded_of ones (λ i e. (a : Actor) → slice_get actors i ≡ Some a →
             (e.at ≡ a.process.at) × (e.events ≡ a.process.rank.events)
-            × StandsAt (commands_of i lines) e)
+            × StandsAt (commands i) e)
             (chosen_each P one actors h (λ i x. (a : Actor) → slice_get actors i ≡ Some a →
             (x.at ≡ a.process.at) × (x.view.events ≡ a.process.rank.events)
-            × StandsAt (commands_of i lines) (recorded_of x)) shown) i)
+            × StandsAt (commands i) (recorded_of x)) shown) i)
             a is;
         events = map_twice (λ (e : Ended). e.events) recorded_of ones
             ∙ chosen_map P one actors h (λ (x : OneRank). x.view.events)
             (λ (a : Actor). a.process.rank.events) (λ i a p. refl);
-        run = c.ranks_at_rest_make_a_run.ensures shape (commands_by_rank lines) ones (packets_of lines ends)
-            (λ i. in_range_from shape.ranks i 2 lines script.lines_in_range) at_rest
-            (each_map recorded_of ones (λ i e. StandsAt (commands_of i lines) e)
-            (chosen_each P one actors h (λ i x. StandsAt (commands_of i lines) (recorded_of x))
+        run = c.ranks_at_rest_make_a_run.ensures shape commands ones (packets_of_by commands ends) in_range at_rest
+            (each_map recorded_of ones (λ i e. StandsAt (commands i) e)
+            (chosen_each P one actors h (λ i x. StandsAt (commands i) (recorded_of x))
             (λ i a p. p.1.stands)))
             refl;
-        carried = λ i j within. each_map recorded_of ones (λ i e. IsCarried lines closed q i j e)
-            (chosen_each P one actors h (λ i x. IsCarried lines closed q i j (recorded_of x))
+        carried = λ i j within. each_map recorded_of ones (λ i e. IsCarried (commands i) closed q i j e)
+            (chosen_each P one actors h (λ i x. IsCarried (commands i) closed q i j (recorded_of x))
             (λ i a p. carried i j a p within)) i;
       }

@@ -1,9 +1,8 @@
 -- A rank's account is what its process ended at.
-use Rattle.std.proofs.Common.{◌∙◌, ℕ, Option, List, [], ◌∷◌, ap, subst, sym}
+use Rattle.std.proofs.Common.{◌≡◌, ◌∙◌, ℕ, Option, List, [], ◌∷◌, ap, subst}
 use Rattle.std.specs.Prelude.{option_map}
 use Rattle.std.specs.List.{slice_get}
-use Rattle.nm_types.specs.Commands.{Numbered, commands_of}
-use Rattle.nm_process.specs.Places.{IsPlaced}
+use Rattle.nm_types.specs.Commands.{Numbered}
 use Rattle.nm_history.specs.declared.events.Event.{Event}
 use Rattle.nm_history.specs.Quiescence.{Ended}
 use Rattle.nm_world.proofs.records.account.Goals as goal
@@ -12,12 +11,10 @@ abbrev ended : ℕ → Option ℕ → List Event → List Ended
 ended at waits events = record { at = at; waits = waits; events = events } ∷ []
 
 pub returns : goal.returns
-returns c shape work =
+returns g c commands last given counts =
     ap (λ (at : ℕ). ended at c.next_line-waits.result c.into_parts-history.result.0.events) c.at-at.ensures
     ∙ ap (λ (events : List Event). ended c.args.process.at c.next_line-waits.result events)
     c.into_parts-history.ensures.events
     ∙ ap (λ (waits : Option ℕ). ended c.args.process.at waits c.args.process.rank.events)
-    (c.next_line-waits.ensures c.args.process.at
-    (subst (λ (k : ℕ). IsPlaced c.args.lines.now k c.args.process.at c.args.script) (sym c.me.ensures) work.place)
-    ∙ ap (λ (k : ℕ). option_map (λ (n : Numbered). n.line)
-    (slice_get (commands_of k c.args.lines.now) c.args.process.at)) c.me.ensures)
+    (subst (λ (k : ℕ). c.next_line-waits.result ≡ option_map (λ (n : Numbered). n.line) (slice_get commands k)) counts
+    (c.next_line-waits.ensures commands last given))

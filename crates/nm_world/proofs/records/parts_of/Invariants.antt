@@ -1,20 +1,26 @@
-use Rattle.std.proofs.Common.{◌≡◌, ◌++◌, map}
+use Rattle.std.proofs.Common.{◌≡◌, ◌++◌, ℕ, List, length, map}
 use Rattle.std.specs.Vec.Iter.{into_iter_items}
+use Rattle.nm_types.specs.Commands.{Numbered}
 use Rattle.nm_report.specs.Ends.{are_done, ends_of, packets_of}
-use Rattle.nm_world.specs.declared.actors.Actor.{Actor}
-use Rattle.nm_world.specs.Records.{AreToTell, counts_of, ended_of}
+use Rattle.nm_world.specs.declared.players.Player.{Player}
+use Rattle.nm_world.specs.Records.{AreAtWork, AreKnown, counts_of, ended_from}
 use Rattle.nm_world.proofs.records.parts_of.Given as goal
 
-abbrev pub invariant-loop-actor : goal.invariant-loop-actor
-invariant-loop-actor l = record {
-  ports : l.parts.ports.items ++ map (λ (a : Actor). a.port) (into_iter_items l.actor-iterator)
-      ≡ map (λ (a : Actor). a.port) l.fn.actors.items;
-  rings : l.parts.rings.items ++ map (λ (a : Actor). a.ring) (into_iter_items l.actor-iterator)
-      ≡ map (λ (a : Actor). a.ring) l.fn.actors.items;
-  each : AreToTell l.fn.ranks l.lines (into_iter_items l.actor-iterator);
-  ends : ends_of l.parts.ranks ++ map (λ (a : Actor). ended_of l.lines a.process) (into_iter_items l.actor-iterator)
-      ≡ map (λ (a : Actor). ended_of l.lines a.process) l.fn.actors.items;
-  packets : packets_of l.parts.pairs ++ counts_of l.fn.ranks (into_iter_items l.actor-iterator)
-      ≡ counts_of l.fn.ranks l.fn.actors.items;
+abbrev pub invariant-loop-player : goal.invariant-loop-player
+invariant-loop-player g l = record {
+  ports : l.parts.ports.items ++ map (λ (x : Player _). x.actor.port) (into_iter_items l.player-iterator)
+      ≡ map (λ (x : Player _). x.actor.port) l.fn.players.items;
+  rings : l.parts.rings.items ++ map (λ (x : Player _). x.actor.ring) (into_iter_items l.player-iterator)
+      ≡ map (λ (x : Player _). x.actor.ring) l.fn.players.items;
+  sources : l.parts.sources.items ++ map (λ (x : Player _). x.source) (into_iter_items l.player-iterator)
+      ≡ map (λ (x : Player _). x.source) l.fn.players.items;
+  known : AreKnown l.fn.ranks (into_iter_items l.player-iterator);
+  ends : (commands : ℕ → List Numbered) →
+      AreAtWork g.S.Source.shows g.S.Source.gives commands 0 l.fn.players.items →
+      AreAtWork g.S.Source.shows g.S.Source.gives commands (length l.parts.ranks) (into_iter_items l.player-iterator)
+      × (ends_of l.parts.ranks ++ ended_from commands (length l.parts.ranks) (into_iter_items l.player-iterator)
+      ≡ ended_from commands 0 l.fn.players.items);
+  packets : packets_of l.parts.pairs ++ counts_of l.fn.ranks (into_iter_items l.player-iterator)
+      ≡ counts_of l.fn.ranks l.fn.players.items;
   done : l.parts.done ≡ are_done (ends_of l.parts.ranks);
 }

@@ -1,6 +1,6 @@
 use Rattle.nm_world.proofs.Sweeps.{SweptTo}
 use Rattle.nm_world.proofs.rounds.sweep_on.Given as goal
 
-abbrev pub invariant-loop-actor : goal.invariant-loop-actor
-invariant-loop-actor g l =
-    SweptTo l.f.ranks l.lines l.f l.r l.all l.actor-index l.moved l.initial.actors l.actors
+abbrev pub invariant-loop-player : goal.invariant-loop-player
+invariant-loop-player g l =
+    SweptTo l.f.ranks g.S.Source.shows g.S.Source.gives l.f l.r l.all l.player-index l.moved l.initial.players l.players

@@ -6,21 +6,21 @@ use Rattle.nm_types.proofs.ListLemmas.{place_below}
 use Rattle.nm_types.proofs.TruthLemmas.{both}
 
 pub loop-i-preserved : goal.loop-i-preserved
-loop-i-preserved c =
+loop-i-preserved g c =
     let agrees = c.row_agrees-one.ensures in
     record {
       end = c.loop-i.invariant.end;
-      agree = rows_more c.args.actors.now c.loop-i.i c.loop-i.all c.row_agrees-one.result agrees.0
+      agree = rows_more c.args.players.now c.loop-i.i c.loop-i.all c.row_agrees-one.result agrees.0
           c.loop-i.invariant.agree;
       all = λ agree. both c.loop-i.all c.row_agrees-one.result (c.loop-i.invariant.all agree)
           (agrees.1 (agree.pairs c.loop-i.i));
     }
 
 pub returns : goal.returns
-returns c = (
+returns g c = (
   λ all. record {
     pairs = λ i j a b at to.
-        let below = place_below c.args.actors.now i a at in
+        let below = place_below c.args.players.now i a at in
         c.loop-i.invariant.agree all i j a b
         (omega (arith, below, c.requires.many, c.loop-i.invariant.end, c.loop-i-test.false)) at to;
   },

@@ -1,5 +1,6 @@
 -- One more of the row.
-use Rattle.std.proofs.Common.{length, refl, arith}
+use Rattle.std.proofs.Common.{Some, get_or, length, refl, ap, ◌∙◌, arith}
+use Rattle.nm_world.specs.declared.players.Player.{Player}
 use Rattle.std.proofs.lemmas.Option.{slice_get_read}
 use Rattle.nm_world.proofs.Runs.{row_more}
 use Rattle.nm_world.proofs.whole.row_agrees.Goals as goal
@@ -7,28 +8,32 @@ use Rattle.nm_types.proofs.ListLemmas.{place_below}
 use Rattle.nm_types.proofs.TruthLemmas.{both}
 
 pub loop-j-preserved : goal.loop-j-preserved
-loop-j-preserved c =
-    let actors = c.args.actors.now in
+loop-j-preserved g c =
+    let players = c.args.players.now in
     let many = c.requires.many.0 in
     let end = c.loop-j.invariant.end in
     let low = c.loop-j-test.true in
     let agrees = c.pair_agrees-one.ensures in
-    let here = slice_get_read actors (length actors) c.args.i c.index-actors-i.result refl
-    (omega (arith, c.requires.many.1, many)) c.index-actors-i.is in
-    let there = slice_get_read actors (length actors) c.loop-j.j c.index-actors-j.result refl
-    (omega (arith, low, end, many)) c.index-actors-j.is in
+    let here = slice_get_read players (length players) c.args.i c.index-players-i.result refl
+    (omega (arith, c.requires.many.1, many)) c.index-players-i.is
+    ∙ ap (λ (x : Player _). Some x) c.index-players-i.is in
+    let there = slice_get_read players (length players) c.loop-j.j c.index-players-j.result refl
+    (omega (arith, low, end, many)) c.index-players-j.is
+    ∙ ap (λ (x : Player _). Some x) c.index-players-j.is in
+    let x = get_or players c.args.i c.index-players-i.result in
+    let y = get_or players c.loop-j.j c.index-players-j.result in
     record {
       end = end;
-      agree = row_more actors c.args.i c.loop-j.j c.index-actors-i.result c.index-actors-j.result c.loop-j.all
+      agree = row_more players c.args.i c.loop-j.j x y c.loop-j.all
           c.pair_agrees-one.result here there agrees.0 c.loop-j.invariant.agree;
       all = λ row. both c.loop-j.all c.pair_agrees-one.result (c.loop-j.invariant.all row)
-          (agrees.1 (row c.loop-j.j c.index-actors-i.result c.index-actors-j.result here there));
+          (agrees.1 (row c.loop-j.j x y here there));
     }
 
 pub returns : goal.returns
-returns c = (
+returns g c = (
   λ all j a b at to.
-      let below = place_below c.args.actors.now j b to in
+      let below = place_below c.args.players.now j b to in
       c.loop-j.invariant.agree all j a b
       (omega (arith, below, c.requires.many.0, c.loop-j.invariant.end, c.loop-j-test.false)) at to,
   c.loop-j.invariant.all,

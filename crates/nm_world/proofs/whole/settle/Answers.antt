@@ -1,4 +1,4 @@
--- All actors stand, and go on.
+-- All players stand, and go on.
 use Rattle.std.proofs.Common.{◌∙◌}
 use Rattle.nm_world.proofs.Runs.{all_kept_on, all_kept_same, all_ranked, all_stand, kept_many}
 use Rattle.nm_world.proofs.whole.settle.Goals as goal
@@ -6,34 +6,34 @@ use Rattle.nm_types.proofs.TruthLemmas.{and_left, and_right}
 
 pub loop-init : goal.loop-init
 loop-init g c = record {
-  kept = all_kept_same c.args.lines.now c.args.f.now c.args.r.now c.args.actors.now c.requires.stands;
+  kept = all_kept_same g.S.Source.shows g.S.Source.gives c.args.f.now c.args.r.now c.args.players.now c.requires.stands;
   many = c.requires.many;
 }
 
 pub round_in-requires-clause-stands : goal.round_in-requires-clause-stands
 round_in-requires-clause-stands g c lifetimes outlive =
-    all_stand c.args.lines.now c.args.f.now c.args.r.now c.args.actors.now c.loop.actors c.loop.invariant.kept
+    all_stand g.S.Source.shows g.S.Source.gives c.args.f.now c.args.r.now c.args.players.now c.loop.players c.loop.invariant.kept
 
 pub all_agree-agree-requires-clause-many : goal.all_agree-agree-requires-clause-many
 all_agree-agree-requires-clause-many g c =
-    kept_many c.args.lines.now c.args.f.now c.args.r.now c.loop.actors c.round_in.new.actors
+    kept_many g.S.Source.shows g.S.Source.gives c.args.f.now c.args.r.now c.loop.players c.round_in.new.players
     c.in_ok-round_in.ensures.kept ∙ c.loop.invariant.many
 
 pub all_agree-agree-requires-clause-ranked : goal.all_agree-agree-requires-clause-ranked
 all_agree-agree-requires-clause-ranked g c =
-    all_ranked c.args.lines.now c.args.f.now c.args.r.now c.round_in.new.actors
-    (all_stand c.args.lines.now c.args.f.now c.args.r.now c.loop.actors c.round_in.new.actors c.in_ok-round_in.ensures.kept)
+    all_ranked g.S.Source.shows g.S.Source.gives c.args.f.now c.args.r.now c.round_in.new.players
+    (all_stand g.S.Source.shows g.S.Source.gives c.args.f.now c.args.r.now c.loop.players c.round_in.new.players c.in_ok-round_in.ensures.kept)
 
 pub returns-then-still-agree-clause-kept : goal.returns-then-still-agree-clause-kept
 returns-then-still-agree-clause-kept g c =
-    all_kept_on c.args.lines.now c.args.f.now c.args.r.now c.args.actors.now c.loop.actors c.round_in.new.actors
+    all_kept_on g.S.Source.shows g.S.Source.gives c.args.f.now c.args.r.now c.args.players.now c.loop.players c.round_in.new.players
     c.loop.invariant.kept c.in_ok-round_in.ensures.kept
 
 pub loop-preserved : goal.loop-preserved
 loop-preserved g c = record {
-  kept = all_kept_on c.args.lines.now c.args.f.now c.args.r.now c.args.actors.now c.loop.actors c.round_in.new.actors
+  kept = all_kept_on g.S.Source.shows g.S.Source.gives c.args.f.now c.args.r.now c.args.players.now c.loop.players c.round_in.new.players
       c.loop.invariant.kept c.in_ok-round_in.ensures.kept;
-  many = kept_many c.args.lines.now c.args.f.now c.args.r.now c.loop.actors c.round_in.new.actors
+  many = kept_many g.S.Source.shows g.S.Source.gives c.args.f.now c.args.r.now c.loop.players c.round_in.new.players
       c.in_ok-round_in.ensures.kept ∙ c.loop.invariant.many;
 }
 

@@ -1,17 +1,12 @@
--- A new actor stands at its first command.
+-- A new player can make turns.
 use Rattle.std.proofs.Common.{ℕ, sym, subst}
 use Rattle.nm_cells.specs.Ports.{IsNew}
 use Rattle.nm_copyring.specs.Ports as ring_port
-use Rattle.nm_process.specs.Places.{ArePlaces}
 use Rattle.nm_rows.proofs.world.tests.sender_at.Goals as goal
 
 pub three_turns-requires-clause-stands : goal.three_turns-requires-clause-stands
 three_turns-requires-clause-stands c =
     let own = sym c.requires.new.0.1 in
-    c.in_ok-sender.ensures.stands c.args.f.now c.args.r.now c.requires.lines c.requires.ranks
+    c.in_ok-sender.ensures.stands c.args.f.now c.args.r.now c.requires.ranks
     (subst (λ (n : ℕ). IsNew c.args.f.now c.args.port n) own c.requires.new.0)
     (subst (λ (n : ℕ). ring_port.IsNew c.args.r.now c.args.ring n) own c.requires.new.1)
-
-pub new-requires-clause-places : goal.new-requires-clause-places
-new-requires-clause-places c = subst (λ (n : ℕ). ArePlaces c.args.lines.now n c.args.own.items)
-    (sym c.requires.new.0.1) c.requires.places

@@ -11,7 +11,7 @@ use Rattle.nm_types.proofs.TruthLemmas.{neither}
 pub returns-then-not-is_any_piece_due : goal.returns-then-not-is_any_piece_due
 returns-then-not-is_any_piece_due g c =
     let a = c.args.self.now in
-    let cells = c.requires.1.1.is.ranks.0 in
+    let cells = c.requires.1.1.ranks.0 in
     let ranks = c.requires.1.0 in
     record {
       moves = moves_none (record g.here { rings = c.args.r.now }) a c.requires.1.1;
@@ -32,12 +32,12 @@ loop-sender-init g c = record {
 
 pub pull_some-requires : goal.pull_some-requires
 pull_some-requires g c lifetimes outlive =
-    let s = c.loop-sender.invariant.moves.kept.stands in
+    let s = c.loop-sender.invariant.moves.kept.ports in
     let low = c.loop-sender-test.true in
     let end = c.loop-sender.invariant.end in
     let ranks = c.requires.1.0 in
-    let cells = s.is.ranks.0 in
-    let rings = s.is.ranks.1 in
+    let cells = s.ranks.0 in
+    let rings = s.ranks.1 in
     (outlive, (s, omega (arith, low, end, ranks, cells, rings)))
 
 pub loop-sender-preserved : goal.loop-sender-preserved

@@ -48,7 +48,7 @@ returns-then-not-can_pull g c =
     let s = c.requires.1.0 in
     let a = c.args.self.now in
     let sender = c.requires.1.1 in
-    let wide = s.is.rings.1.2 in
+    let wide = s.rings.1.2 in
     let fresh = (rw c.rank-rank.ensures at c.is_worn.ensures).0 c.if-is_worn.false in
     let done = port_missed (record g.here { rings = c.args.r.now }) a c.can_pull.new.port one_empty c.args.sender
     fresh s
@@ -71,7 +71,7 @@ pull_due-requires g c lifetimes outlive =
     let due = is_below (drawn_from a.process.rank.receiving c.args.sender)
     (length (due_pieces a.process.rank.events c.args.sender))
     (sym (rw c.rank-rank.ensures at c.is_piece_due.ensures) ∙ c.if-not-is_piece_due.false) in
-    (outlive, (looked.kept.stands, (c.requires.1.1, (due, fresh))))
+    (outlive, (looked.kept.ports, (c.requires.1.1, (due, fresh))))
 
 pub returns : goal.returns
 returns g c =

@@ -1,10 +1,8 @@
 -- The piece comes behind the others for its receiver.
-use Rattle.std.proofs.Common.{◌<◌, true, Option, length, ap, subst, arith, refl}
+use Rattle.std.proofs.Common.{◌<◌, ◌+◌, true, Option, length, ap, subst, arith, refl}
 use Rattle.std.specs.Prelude.{IfSome}
 use Rattle.nm_rndv.specs.Offers.{Offered}
 use Rattle.nm_process.specs.Processes.{ProcessView}
-use Rattle.nm_process.proofs.WorkLemmas.{stays_at_work}
-use Rattle.nm_types.specs.Commands.{commands_of}
 use Rattle.nm_copyring.specs.Ports.{full_to}
 use Rattle.nm_copyring.specs.Plays.{one_full, one_pushed}
 use Rattle.nm_copyring.specs.Ports as ring
@@ -14,7 +12,7 @@ use Rattle.nm_world.proofs.Idle.{piece_back, stepped_fresh}
 use Rattle.nm_world.proofs.Moves.{moves_none, port_missed}
 use Rattle.nm_world.proofs.Leaves.{push_on}
 use Rattle.nm_world.proofs.Results.{clash}
-use Rattle.nm_world.proofs.Steps.{seat_is}
+use Rattle.nm_world.proofs.Steps.{ring_goes_on}
 use Rattle.nm_world.specs.declared.actors.Actor.{Actor}
 use Rattle.nm_world.specs.Actors.{Grows}
 use Rattle.nm_world.specs.Actors.Grew.{pushed}
@@ -33,32 +31,27 @@ returns g c =
     let q = c.front_piece.new.into in
     let shape = a.process.rank.sizes in
     let within = own.0 in
-    let ranks = s.is.ranks.1 in
+    let ranks = s.ranks.1 in
     let knew = c.in-Ok.ensures.pushes in
-    let work = stays_at_work shape g.here.lines a.script a.process v pops.takes.me
-    (ap (λ (x : ProcessView). x.at) p.others) (p.work shape) s.is.work in
-    let on = c.a_piece_leaves.ensures shape (commands_of a.port.rank g.here.lines) a.port.rank a.process.rank v.rank s.past
-    (to, q) next own.1 own.2 pops s.is.stands in
     let n = g.here.fabric.ranks in
     let low : to < c.args.r.now.ranks = omega (arith, within, ranks) in
-    let wide = s.is.rings.1.2 in
-    let b : Actor = record { process = v; script = a.script; port = a.port; ring = c.push.new.port; places = tt } in
+    let wide = s.rings.1.2 in
+    let b : Actor = record { process = v; port = a.port; ring = c.push.new.port; places = tt } in
     let grows : Grows a b = record {
       events = (_, pops.left.events);
       port = port_same a.port;
       ring = ring_up a.ring c.push.new.port (one_pushed q) to (omega (arith, low, wide))
           (pushed_up q) knew;
     } in
-    let cells = s.is.ranks.0 in
+    let cells = s.ranks.0 in
     let fresh = c.requires.1.1 in
     record {
       moves = record {
-        kept = record {
-          grows = grows;
-          seat = seat_is a v a.port.rank refl pops.takes.sizes;
-          stands = push_on g.here.lines g.here.fabric c.args.r.now a v c.push.new.port to
-              q _ s c.push.ensures.keeps low knew work on;
-        };
+        kept = ring_goes_on g.here.fabric c.args.r.now a v c.push.new.port s c.push.ensures.keeps pops.takes.sizes grows
+            (λ commands last at. push_on commands last a v c.push.new.port to q _ at (omega (arith, low, wide)) knew
+            (p.work shape commands (last + 1) (omega arith) at.is.work)
+            (c.a_piece_leaves.ensures shape commands a.port.rank a.process.rank v.rank at.past (to, q) next own.1 own.2
+            pops at.is.stands));
         moved = did_more n a b grows (pushed to (omega (arith, within, cells))
             (pushed_more (ring.knows a.ring) (ring.knows c.push.new.port) to q
             (omega (arith, low, wide)) knew));
@@ -86,8 +79,8 @@ returns-in-Err g c =
     let to = c.in-Some.to in
     let own = rw c.rank.ensures at c.in-Some.ensures.own in
     let within = own.0 in
-    let ranks = s.is.ranks.1 in
-    let wide = s.is.rings.1.2 in
+    let ranks = s.ranks.1 in
+    let wide = s.rings.1.2 in
     let low : to < length (ring.knows a.ring).lanes = omega (arith, within, ranks, wide) in
     let knew = c.in-Err.ensures.refused.1 in
     let fresh = c.requires.1.1 in

@@ -38,8 +38,8 @@ returns-then-not-can_push g c =
     let a = c.args.self.now in
     let to = c.in-Some.to in
     let within = rw c.rank-rank.ensures at c.in-Some.ensures.in_range in
-    let ranks = s.is.ranks.1 in
-    let wide = s.is.rings.1.2 in
+    let ranks = s.ranks.1 in
+    let wide = s.rings.1.2 in
     let low : to < length (ring.knows a.ring).lanes = omega (arith, within, ranks, wide) in
     let knew = c.can_push.ensures.full c.if-not-can_push.true in
     let fresh = (rw c.rank-rank.ensures at c.is_worn.ensures).0 c.if-is_worn.false in
@@ -58,7 +58,7 @@ push_front-requires g c lifetimes outlive =
     let fresh = (rw c.rank-rank.ensures at c.is_worn.ensures).0 c.if-is_worn.false in
     let looked = port_looked (record g.here { rings = c.args.r.now }) a c.can_push.new.port fresh c.requires.1
     c.can_push.ensures.keeps ((c.can_push.ensures.free c.if-not-can_push.false).0) in
-    (outlive, (looked.kept.stands, fresh))
+    (outlive, (looked.kept.ports, fresh))
 
 pub returns : goal.returns
 returns g c =

@@ -1,5 +1,5 @@
 -- The packet comes behind the others for its receiver.
-use Rattle.std.proofs.Common.{◌≡◌, ℕ, true, Option, sym, ap, subst, ◌∙◌, arith, refl}
+use Rattle.std.proofs.Common.{◌≡◌, ◌+◌, ℕ, true, Option, sym, ap, subst, ◌∙◌, arith, refl}
 use Rattle.nm_types.specs.declared.packets.Packet.{Packet}
 use Rattle.nm_cells.specs.Ports.{knows}
 use Rattle.nm_port.specs.Polls.{count_held}
@@ -11,8 +11,6 @@ use Rattle.nm_sending.specs.Sent.{outs}
 use Rattle.std.specs.Prelude.{false, IfSome, length, slice_get}
 use Rattle.nm_sending.specs.Letters.{Letter}
 use Rattle.nm_process.specs.Processes.{ProcessView}
-use Rattle.nm_process.proofs.WorkLemmas.{stays_at_work}
-use Rattle.nm_types.specs.Commands.{commands_of}
 use Rattle.nm_world.specs.Idle.{NotSent}
 use Rattle.nm_global.specs.ProcessInvariant.{IsOf, with_moment, with_packet_left}
 use Rattle.nm_chain.specs.declared.table.parcels.Parcel.{Parcel}
@@ -28,7 +26,7 @@ use Rattle.nm_world.proofs.Idle.{came_back, stepped_fresh}
 use Rattle.nm_world.proofs.Moves.{moves_none}
 use Rattle.nm_world.proofs.Leaves.{send_on}
 use Rattle.nm_world.proofs.Results.{clash, front_cut, none_first}
-use Rattle.nm_world.proofs.Steps.{back_got, back_sent, nothing_carried, seat_is}
+use Rattle.nm_world.proofs.Steps.{back_got, back_sent, nothing_carried, port_goes_on}
 use Rattle.nm_world.proofs.actors.Actor.send_next.Goals as goal
 
 pub returns-then-is_worn : goal.returns-then-is_worn
@@ -55,7 +53,7 @@ returns-in_default g c =
 pub send-requires-clause-parcel : goal.send-requires-clause-parcel
 send-requires-clause-parcel g c =
     let made = c.address.ensures ∙ ap (λ (z : Parcel Packet). parcel_of z.item) c.deref_mut-2.ensures.value in
-    let s = c.requires.1 in
+    let s = c.requires.1.some.stands in
     let to = c.in-Some.to in
     let first = front_cut (slice_get c.args.self.now.process.rank.sending.outbox.letters 0) to c.fill_front.result
     c.fill_front.new.into _ _ (λ none. cc) (rw c.rank-rank.ensures at c.in-Some.ensures.first)
@@ -87,25 +85,21 @@ returns-in-Err g c =
     (rw c.rank-rank.ensures at c.fill_front.ensures.own) in
     let own = first.4 in
     let within = own.0 in
-    let ranks = s.is.ranks.0 in
-    let wide = s.is.cells.2 in
+    let ranks = s.ranks.0 in
+    let wide = s.cells.2 in
     let there = first.2 in
     record {
       moves = record {
-        kept = record {
-          grows = record {
-            events = (grows_same a).events;
-            ring = ring_same a.ring;
-            port = port_by a.port port (entry_on (knows a.port) (tried fits to (knows a.port)) (knows port)
-                (tried_up fits to (knows a.port)) (miss_up free_queue (tried fits to (knows a.port)) (knows port) miss))
-                e.taken.0;
-          };
-          seat = seat_is a a.process port.rank e.keeps.rank refl;
-          stands = nothing_carried g.here.lines c.args.f.now g.here.rings a port s e.keeps
-              (e.taken.2 ∙ s.is.rest ∙ ap count_held (sym e.taken.1)) e.taken.0
-              (back_sent fits to (knows a.port) (knows port) miss)
-              (back_got fits to (knows a.port) (knows port) miss);
-        };
+        kept = port_goes_on c.args.f.now g.here.rings a a.process port s e.keeps
+            (e.taken.2 ∙ s.rest ∙ ap count_held (sym e.taken.1)) refl (record {
+              events = (grows_same a).events;
+              ring = ring_same a.ring;
+              port = port_by a.port port (entry_on (knows a.port) (tried fits to (knows a.port)) (knows port)
+                  (tried_up fits to (knows a.port)) (miss_up free_queue (tried fits to (knows a.port)) (knows port) miss))
+                  e.taken.0;
+            }) (λ commands last at. nothing_carried commands last a port at e.keeps.rank e.taken.0
+            (back_sent fits to (knows a.port) (knows port) miss)
+            (back_got fits to (knows a.port) (knows port) miss));
         moved = did_none n a (record a { port = port }) refl
             (λ j. ap (λ (t : ℕ → ℕ). t j) c.in-Err.ensures.back.1.sent) e.taken.0 (λ j. (refl, refl));
         stepped = stepped_fresh false a (record a { port = port }) fresh refl (λ none. refl);
@@ -140,24 +134,13 @@ returns g c =
     (c.address.ensures ∙ ap (λ (z : Parcel Packet). parcel_of z.item) c.deref_mut-2.ensures.value)
     c.in-Ok.ensures.sends in
     let within = own.0 in
-    let left = s.is.stands.left to within in
-    let number = own.2 ∙ sym left.packets.popped
-    ∙ (s.is.sent to within).many in
-    let work = stays_at_work shape g.here.lines a.script a.process v pops.takes.me
-    (ap (λ (x : ProcessView). x.at) p.others) (p.work shape) s.is.work in
-    let commands = commands_of a.port.rank g.here.lines in
+    let here = s.some.stands in
+    let number = own.2 ∙ sym (here.is.stands.left to within).packets.popped
+    ∙ (here.is.sent to within).many in
     let moment = acted a.process.rank (outs (ended_by (slice_get letters 0))) in
-    let on = c.a_packet_leaves.ensures shape commands a.port.rank a.process.rank v.rank s.past
-    first.0 first.1 pops s.is.stands in
-    let here : IsOf shape commands a.port.rank v.rank
-    (with_moment (with_packet_left s.past (to, packet)) moment) =
-    subst (λ (k : ℕ). IsOf shape commands a.port.rank v.rank
-    (with_moment (with_packet_left s.past (k, packet)) moment)) (sym first.2)
-    (subst (λ (x : Packet). IsOf shape commands a.port.rank v.rank
-    (with_moment (with_packet_left s.past (first.0.to, x)) moment)) (sym copied) on) in
     let n = c.args.f.now.ranks in
-    let ranks = s.is.ranks.0 in
-    let b : Actor = record { process = v; script = a.script; port = port; ring = a.ring; places = tt } in
+    let ranks = s.ranks.0 in
+    let b : Actor = record { process = v; port = port; ring = a.ring; places = tt } in
     let grows : Grows a b = record {
       events = (_, pops.left.events);
       port = port_by a.port port (sends_up fits to (parcel_of packet) a.port port way sends) e.taken.0;
@@ -166,12 +149,19 @@ returns g c =
     let fresh = (rw c.rank-rank.ensures at c.is_worn.ensures).0 c.if-is_worn.false in
     record {
       moves = record {
-        kept = record {
-          grows = grows;
-          seat = seat_is a v port.rank e.keeps.rank pops.takes.sizes;
-          stands = send_on c.a_send_carries.ensures.some g.here.lines c.args.f.now g.here.rings a v port way
-              fits to packet _ s e.keeps e.taken sends number work here;
-        };
+        kept = port_goes_on c.args.f.now g.here.rings a v port s e.keeps
+            (e.taken.2 ∙ s.rest ∙ ap count_held (sym e.taken.1)) pops.takes.sizes grows
+            (λ commands last at.
+            let on = c.a_packet_leaves.ensures shape commands a.port.rank a.process.rank v.rank at.past
+            first.0 first.1 pops at.is.stands in
+            let left : IsOf shape commands a.port.rank v.rank
+            (with_moment (with_packet_left at.past (to, packet)) moment) =
+            subst (λ (k : ℕ). IsOf shape commands a.port.rank v.rank
+            (with_moment (with_packet_left at.past (k, packet)) moment)) (sym first.2)
+            (subst (λ (x : Packet). IsOf shape commands a.port.rank v.rank
+            (with_moment (with_packet_left at.past (first.0.to, x)) moment)) (sym copied) on) in
+            send_on c.a_send_carries.ensures.some commands last a v port way fits to packet _ at e.keeps.rank
+            e.taken sends number (p.work shape commands (last + 1) (omega arith) at.is.work) left);
         moved = did_more n a b grows
             (sent to (omega (arith, within, ranks)) (sent_more fits to (parcel_of packet) a.port port way sends));
         stepped = stepped_fresh true a b fresh (ap (λ (x : ProcessView). x.at) p.others)

@@ -1,4 +1,4 @@
-use Rattle.nm_world.proofs.actors.Actor.move_all.Given as goal
+use Rattle.nm_world.proofs.players.Player.move_all.Given as goal
 
 abbrev pub ghost-send_all : goal.ghost-send_all
 ghost-send_all g a = g.here

@@ -1,0 +1,69 @@
+-- A player from one step to the next.
+use Rattle.std.proofs.Common.{◌≡◌, ℕ, ◌||◌, Bool, List, refl, sym, ap, ◌∙◌, subst}
+use Rattle.nm_types.specs.Commands.{Numbered}
+use Rattle.nm_types.specs.declared.packets.Packet.{Packet}
+use Rattle.nm_cells.specs.declared.port.Fabric.{Fabric}
+use Rattle.nm_copyring.specs.declared.port.Rings.{Rings}
+use Rattle.nm_process.specs.Sources.{SourceView}
+use Rattle.nm_world.specs.declared.actors.Actor.{Actor}
+use Rattle.nm_world.specs.declared.players.Player.{Player}
+use Rattle.nm_world.specs.Actors.{Continues, Seat, did}
+use Rattle.nm_world.specs.Idle.{Moves}
+use Rattle.nm_world.specs.Players.{IsAtWork, PlayerInvariant, PlaysOn}
+use Rattle.nm_world.proofs.Did.{did_on}
+use Rattle.nm_world.proofs.Grows.{grows_on, grows_same}
+
+module _ {S : Type 0} (shows : S → SourceView) (gives : S → List Numbered → ℕ → Type 0) (f : Fabric Packet) (r : Rings)
+  where
+    pub plays_same : (x : Player S) → PlayerInvariant shows gives f r x → PlaysOn shows gives f r x x
+    plays_same x s = record {
+      stands = s;
+      seat = refl;
+      grows = grows_same x.actor;
+      gave = λ commands last given. record { before = last; gives = given };
+    }
+
+    pub plays_on : (x y z : Player S) → PlaysOn shows gives f r x y → PlaysOn shows gives f r y z →
+        PlaysOn shows gives f r x z
+    plays_on x y z one two = record {
+      stands = two.stands;
+      seat = two.seat ∙ one.seat;
+      grows = grows_on x.actor y.actor z.actor one.grows two.grows;
+      gave = λ commands last given.
+          let before = two.gave commands last given in
+          one.gave commands before.before before.gives;
+    }
+
+    -- one step more of a loop that tells whether something was done
+    pub plays_and : (n : ℕ) (x y z : Player S) (p q : Bool) → PlaysOn shows gives f r x y → PlaysOn shows gives f r y z →
+        p ≡ did n x.actor y.actor → q ≡ did n y.actor z.actor →
+        PlaysOn shows gives f r x z × ((p || q) ≡ did n x.actor z.actor)
+    plays_and n x y z p q one two before then =
+        (plays_on x y z one two, did_on n x.actor y.actor z.actor p q one.grows two.grows before then)
+
+    -- a player whose actor went on and ran no command
+    pub carries_on : (x : Player S) (b : Actor) → PlayerInvariant shows gives f r x → Continues f r x.actor b →
+        b.process.at ≡ x.actor.process.at → PlaysOn shows gives f r x (record { actor = b; source = x.source })
+    carries_on x b s on at = record {
+      stands = record {
+        ports = on.ports;
+        at = s.at ∙ sym at;
+        ranks = s.ranks ∙ sym (ap (λ (z : Seat). z.sizes.ranks) on.seat);
+        stands = λ commands last given. on.stands commands last (s.stands commands last given);
+      };
+      seat = on.seat;
+      grows = on.grows;
+      gave = λ commands last given. record { before = last; gives = given };
+    }
+
+    pub moves_actor : (x y : Player S) (some : Bool) → PlayerInvariant shows gives f r x →
+        Moves (record { fabric = f; rings = r }) some x.actor y.actor → y.source ≡ x.source → PlaysOn shows gives f r x y
+    moves_actor x y some s moves same =
+        subst (λ (source : S). PlaysOn shows gives f r x (record { actor = y.actor; source = source })) (sym same)
+        (carries_on x y.actor s moves.kept moves.stepped.at)
+
+    -- it is at work on whatever its source gives
+    pub at_work : (x : Player S) (commands : List Numbered) (last : ℕ) → PlayerInvariant shows gives f r x →
+        gives x.source commands last → IsAtWork shows gives x commands
+    at_work x commands last s given =
+        record { last = last; given = given; at = s.at; work = (s.stands commands last given).is.work }

@@ -1,4 +1,0 @@
-use Rattle.nm_world.proofs.actors.Actor.turn.Given as goal
-
-abbrev pub ghost-move_all : goal.ghost-move_all
-ghost-move_all g a = record { lines = a.lines.now; fabric = a.f.now; rings = a.r.now }
