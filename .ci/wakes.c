@@ -18,7 +18,7 @@
 /* Where a crew is: the step that it makes next, and the line that this is. */
 #define STEPS(STEP) \
     STEP(BEGIN, "begin", "self.begun.fetch_add(1, Ordering::SeqCst);") \
-    STEP(SEND, "move_all", "let sent = self.send_all(f, steps)?;") \
+    STEP(SEND, "move_all", "let sent = self.actor.send_all(f, steps)?;") \
     STEP(REFUSE, "visit", "Err(Memory) => {") \
     STEP(RING_LOAD, "ring_at", "let seen = crew.bell.load(Ordering::SeqCst);") \
     STEP(RING_SET, "ring_at", "if seen & SLEEPS == 0 && crew.turns(seen, seen | places) {") \
@@ -26,8 +26,8 @@
     STEP(RING_OR, "ring_at", "if crew.bell.fetch_or(places, Ordering::SeqCst) == SLEEPS {") \
     STEP(RING_WAKE, "ring_at", "crew.bell.wake_all();") \
     STEP(RING_SUB, "ring_at", "self.awake.fetch_sub(1, Ordering::SeqCst);") \
-    STEP(TAKE, "move_all", "let took = self.take_all(f, steps)?;") \
-    STEP(RUN, "move_all", "let ran = self.run_all(lines, f, steps)?;") \
+    STEP(TAKE, "move_all", "let took = self.actor.take_all(f, steps)?;") \
+    STEP(RUN, "move_all", "let ran = self.run_all(f, steps)?;") \
     STEP(LIMIT, "turns_of", "for made in 1..turns {") \
     STEP(LOAD, "answer", "if self.bell.load(Ordering::SeqCst) == 0 {") \
     STEP(SWAP, "answer", "self.bell.swap(0, Ordering::SeqCst)") \
