@@ -21,3 +21,15 @@ receiver_at-seen-requires-clause-script c =
     subst (λ (x : ScriptedView). BeginsAt shown gives_lines c.args.shape.ranks x)
     (get_or_from_slice_get scripts 1 s s c.both-script.ensures.second)
     (c.requires.scripts 1 s (place_below scripts 1 s c.both-script.ensures.second))
+
+pub sender_at-sent-requires-clause-new : goal.sender_at-sent-requires-clause-new
+sender_at-sent-requires-clause-new c = (
+  c.requires.ports 0 c.both-port.result.0 c.both-port.ensures.first,
+  c.requires.rings 0 c.both-ring.result.0 c.both-ring.ensures.first,
+)
+
+pub receiver_at-seen-requires-clause-new : goal.receiver_at-seen-requires-clause-new
+receiver_at-seen-requires-clause-new c = (
+  c.requires.ports 1 c.both-port.result.1 c.both-port.ensures.second,
+  c.requires.rings 1 c.both-ring.result.1 c.both-ring.ensures.second,
+)
