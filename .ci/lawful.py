@@ -1,7 +1,11 @@
 """Judges a trace against MPI's matching, with plain lists and nothing else: each rank's events are gone through in order,
 and each pair, answer and body has to be what the rules say (docs/definitions.md). It shares no line with the program."""
+import collections
 
 DONE, LATE = "done", "late"
+# The bytes of a body `gN` begin again after so many.
+PERIOD = 251
+PATTERN = "".join(f"{(31 * k + 7) % PERIOD:02x}" for k in range(PERIOD))
 
 
 class Unlawful(Exception):
@@ -16,7 +20,8 @@ def need(holds, *what):
 def body_of(word):
     if word[0] == "x":
         return word[1:]
-    return "".join(f"{(31 * k + 7) % 251:02x}" for k in range(int(word[1:])))
+    length = int(word[1:])
+    return (PATTERN * (length // PERIOD + 1))[:2 * length]
 
 
 def fits(pick, env):
@@ -195,12 +200,11 @@ def judge(script, trace, cells, eager):
         need(int(stamp) > rank.stamp, "stamp", text)
         rank.stamp = int(stamp)
         getattr(rank, f"on_{kind}")(rank.stamp, *rest)
-    for sender in each:
-        for receiver in each:
-            sent = sender.sends.get(receiver.me, [])
-            came = receiver.arrived.get(sender.me, [])
-            need([s[1:5] for s in sent] == [a[1:] for a in came], "messages of", sender.me, "to", receiver.me)
-            need(all(s[0] < a[0] for s, a in zip(sent, came)), "stamps of", sender.me, "to", receiver.me)
+    pairs = {(it.me, to) for it in each for to in it.sends} | {(source, it.me) for it in each for source in it.arrived}
+    for sender, receiver in pairs:
+        sent, came = each[int(sender)].sends.get(receiver, []), each[int(receiver)].arrived.get(sender, [])
+        need([s[1:5] for s in sent] == [a[1:] for a in came], "messages of", sender, "to", receiver)
+        need(all(s[0] < a[0] for s, a in zip(sent, came)), "stamps of", sender, "to", receiver)
     check_rest(each, told, lines, ranks * cells)
 
 
@@ -222,18 +226,18 @@ def check_rest(each, told, lines, total):
         need(line == want, "report:", line[:80], "in place of", want[:80])
 
 
-def packets(i, j):
-    """How many packets rank i's history calls for to rank j."""
-    paired = {post[2] for post in i.posts.values()}
-    sends = i.sends.get(j.me, [])
-    return (sum(max(1, -(-int(length) // 256)) if how == "eager" else 1 for _, _, _, length, how, _ in sends)
-            + sum(how == "ask" and (j.me, str(n)) in paired for n, (*_, how) in enumerate(i.arrived.get(j.me, [])))
-            + sum(to == j.me for to, _ in i.recalled) + sum(source == j.me for source, _ in i.withdrawn))
-
-
 def pairs_of(each):
-    counts = [(i.me, j.me, packets(i, j)) for i in each for j in each]
-    return [f"pair {i} {j} {count}" for i, j, count in counts if count]
+    """How many packets each rank's history calls for to each other."""
+    counts = collections.Counter()
+    for rank in each:
+        paired = {post[2] for post in rank.posts.values()}
+        for to, sends in rank.sends.items():
+            counts[rank.me, to] += sum(max(1, -(-int(it[3]) // 256)) if it[4] == "eager" else 1 for it in sends)
+        for source, came in rank.arrived.items():
+            counts[rank.me, source] += sum(it[-1] == "ask" and (source, str(n)) in paired for n, it in enumerate(came))
+        counts.update((rank.me, other) for other, _ in [*rank.recalled, *rank.withdrawn])
+    in_order = sorted(counts, key=lambda it: [*map(int, it)])
+    return [f"pair {i} {j} {counts[i, j]}" for i, j in in_order if counts[i, j]]
 
 
 def bytes_of(each, lines, rank, message):
