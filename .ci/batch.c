@@ -2,15 +2,16 @@
 // On descriptor 3 come runs, one after another; for each one the process forks before the program's main, and its answer
 // goes to descriptor 4. `.ci/soak` is on the other side.
 //
-//     a run       five numbers of 4 bytes: what is refused (REFUSE_MEMORY, REFUSE_THREAD, REFUSE_ON), the lengths of the
-//                 words and of the input; then the words, each with a 0 behind it, and the input. The program has as many
-//                 words as it was loaded with
+//     a run       six numbers of 4 bytes: what is refused (REFUSE_MEMORY, REFUSE_THREAD, REFUSE_ON), how many processors
+//                 it may use, the lengths of the words and of the input; then the words, each with a 0 behind it, and the
+//                 input. The program has as many words as it was loaded with
 //     an answer   four numbers: the status as wait gives it, whether anything was refused, the lengths of the output and
 //                 of standard error; then these
 //
 // A run ends by a signal after 60 seconds.
 #define _GNU_SOURCE
 #include <fcntl.h>
+#include <sched.h>
 #include <stdint.h>
 #include <stdio.h>
 #include <stdlib.h>
@@ -52,6 +53,18 @@ static void refuse(const char *name, uint32_t number) {
         setenv(name, text, 1);
 }
 
+// Leaves so many of the processors, from one on that differs from run to run.
+static void leave(uint32_t many) {
+    cpu_set_t had, kept;
+    CPU_ZERO(&kept);
+    must(sched_getaffinity(0, sizeof had, &had) == 0);
+    int count = CPU_COUNT(&had), first = getpid() % count, place = 0;
+    for (int at = 0; at < CPU_SETSIZE; at++)
+        if (CPU_ISSET(at, &had) && (uint32_t)(place++ + count - first) % count < many)
+            CPU_SET(at, &kept);
+    must(sched_setaffinity(0, sizeof kept, &kept) == 0);
+}
+
 // The rest of the constructors and main, in the child.
 static void become(const uint32_t *head, char *words, char **argv, const int *files) {
     for (int at = 1; argv[at]; at++, words += strlen(words) + 1)
@@ -59,6 +72,7 @@ static void become(const uint32_t *head, char *words, char **argv, const int *fi
     refuse("REFUSE_MEMORY", head[0]);
     refuse("REFUSE_THREAD", head[1]);
     refuse("REFUSE_ON", head[2]);
+    leave(head[3]);
     for (int at = 0; at < 3; at++)
         must(lseek(files[at], 0, SEEK_SET) == 0 && dup2(files[at], at) == at);
     must(dup2(files[3], REFUSED) == REFUSED);
@@ -80,7 +94,7 @@ static void send(int file, uint32_t length) {
 __attribute__((constructor(101))) static void serve(int argc, char **argv) {
     (void)argc;
     int files[4];
-    uint32_t head[5], said[4];
+    uint32_t head[6], said[4];
     size_t room = 0;
     char *text = NULL;
     for (int at = 0; at < 4; at++) {
@@ -89,13 +103,13 @@ __attribute__((constructor(101))) static void serve(int argc, char **argv) {
         close(file);
     }
     while (get(head, sizeof head)) {
-        size_t length = (size_t)head[3] + head[4];
+        size_t length = (size_t)head[4] + head[5];
         if (length > room)
             must((text = realloc(text, room = 2 * length)) != NULL);
         must(get(text, length));
         for (int at = 0; at < 4; at++)
             must(ftruncate(files[at], 0) == 0 && lseek(files[at], 0, SEEK_SET) == 0);
-        put(files[0], text + head[3], head[4]);
+        put(files[0], text + head[4], head[5]);
         pid_t child = fork();
         must(child >= 0);
         if (child == 0)
