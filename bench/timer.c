@@ -1,8 +1,9 @@
-/* Loaded before the C library (LD_PRELOAD): how long a run of two ranks takes. At the end of the program the file named
-   in TIMED gets nanoseconds, and how many rounds were made in one crew. The run begins where the first thread is asked
-   for. It ends where the last one was waited for, or at the last futex call, if that is later: each round ends with one.
-   A round of two crews asks for one thread, and no two rounds in one crew follow each other. So there is one before each
-   thread but the first, and one more where the last call is later than the last thread. */
+/* Loaded before the C library (LD_PRELOAD): how long a run of two ranks takes. At the end of the program the file
+   named in TIMED gets nanoseconds, and how many rounds were made in one crew; but not where no thread was asked for.
+   The run begins where the first one is asked for. It ends where the last one was waited for, or at the last futex
+   call, if that is later: each round ends with one. A round of two crews asks for one thread, and no two rounds in one
+   crew follow each other. So there is one before each thread but the first, and one more where the last call is later
+   than the last thread. */
 #define _GNU_SOURCE
 #include <dlfcn.h>
 #include <pthread.h>
@@ -58,7 +59,7 @@ long syscall(long number, ...) {
 
 void _exit(int status) {
     const char *name = getenv("TIMED");
-    FILE *file = name ? fopen(name, "w") : NULL;
+    FILE *file = name && threads ? fopen(name, "w") : NULL;
     int alone = called > joined;
     if (file) {
         fprintf(file, "%lld %d\n", (alone ? called : joined) - first, threads - 1 + alone);
