@@ -2,7 +2,7 @@
 use Rattle.std.proofs.Common.{◌≡◌, ℕ, ◌+◌, ◌-◌, ◌≤◌, ◌<◌, ◌⊎◌, zero, suc, List, [], ◌∷◌, ◌++◌, Bool, true, false}
 use Rattle.std.proofs.Common.{◌&&◌, ◌||◌}
 use Rattle.std.proofs.Common.{cond, refl, sym, ap, ◌∙◌, subst, arith, count_by, drop, flat_map, get_or, length, min}
-use Rattle.std.proofs.Common.{sum_by, take, Option, None, nat_lt, ◌^◌}
+use Rattle.std.proofs.Common.{replicate, sum_by, take, Option, None, nat_lt, ◌^◌}
 use Rattle.std.specs.List.{AllByRecursion, filter, list_any, slice_get}
 use Rattle.std.specs.Option.{is_some}
 use Rattle.std.proofs.lemmas.Bool.{ltb-true, ltb-false}
@@ -22,7 +22,8 @@ use Rattle.nm_diagram.specs.Alike.{AreAlike}
 use Rattle.nm_diagram.specs.Anchors.{first_stamp, found_by, since}
 use Rattle.nm_diagram.specs.Diagrams.{Lane, all_arrows, all_marks, arrow_from, arrow_of, arrows_at}
 use Rattle.nm_diagram.specs.Diagrams.{arrows_of, from_lane, lanes_at, marks_at, sent_by}
-use Rattle.nm_diagram.specs.Frames.{IsFrame, IsSilent, is_later, is_shown, latest, latest_of_all, shown_count, up_to}
+use Rattle.nm_diagram.specs.Frames.{IsFrame, IsSilent, full_rows, is_later, is_shown, latest, latest_of_all}
+use Rattle.nm_diagram.specs.Frames.{shown_count, up_to, with_rows}
 use Rattle.nm_diagram.specs.Links.{all_links, links_among}
 use Rattle.nm_diagram.specs.declared.signs.Sign.{Sign}
 use Rattle.nm_diagram.specs.declared.returns.Return.{Return}
@@ -94,6 +95,21 @@ alike_latest span found (x ∷ xs) (y ∷ ys) h =
     ap (λ l. latest_of_all span (latest span found l) xs) h.0 ∙ alike_latest span (latest span found y.history.events)
     xs
     ys h.2
+
+-- and the rows that are full
+silent_rows : (top : ℕ) (rows : List Bool) (ys : List RankAccount) → AllByRecursion IsSilent ys →
+    full_rows top rows ys ≡ rows
+silent_rows top rows [] h = refl
+silent_rows top rows (y ∷ ys) h =
+    ap (λ l. full_rows top (with_rows top rows l) ys) h.0.0 ∙ silent_rows top rows ys h.1
+
+alike_rows : (top : ℕ) (rows : List Bool) (xs ys : List RankAccount) → AreAlike xs ys →
+    full_rows top rows xs ≡ full_rows top rows ys
+alike_rows top rows [] ys h = sym (silent_rows top rows ys h)
+alike_rows top rows (x ∷ xs) [] h = silent_rows top rows (x ∷ xs) h
+alike_rows top rows (x ∷ xs) (y ∷ ys) h =
+    ap (λ l. full_rows top (with_rows top rows l) xs) h.0
+    ∙ alike_rows top (with_rows top rows y.history.events) xs ys h.2
 
 -- the send of a message is found in either
 silent_sent : (span : Span) (rank n i : ℕ) (ys : List RankAccount) → AllByRecursion IsSilent ys →
@@ -234,6 +250,7 @@ alike-frame part xs ys frame room h is =
       bottom = is.bottom ∙ alike_latest (up_to part.span end) part.span.first xs ys h;
       left_out = is.left_out ∙ ap (λ n. min n (2 ^ 64 - 1))
           (alike_sum (λ events. count_by (is_later end) events) refl xs ys h);
+      full = is.full ∙ alike_rows (part.span.first - 1) (replicate 1024 false) xs ys h;
     }
 
 links_none : (span : Span) (rank : ℕ) → links_among span rank (take 4096 []) ≡ []

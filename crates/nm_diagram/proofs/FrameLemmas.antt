@@ -138,25 +138,27 @@ no_fewer part ranks f g is other less =
     let asked = is.asked in
     other.spoken (omega (arith, less, asked)) (drop-later f.lanes (g.lanes - 1) ranks (omega (arith, less)) is.beyond)
 
-abbrev frame_of : ℕ → List Bool → ℕ → ℕ → ℕ → ℕ → Frame
-frame_of lanes chosen first end bottom left_out =
+abbrev frame_of : ℕ → List Bool → ℕ → ℕ → ℕ → ℕ → List Bool → Frame
+frame_of lanes chosen first end bottom left_out full =
     record {
       lanes = lanes;
       chosen = chosen;
       span = record { first = first; end = end };
       bottom = bottom;
       left_out = left_out;
+      full = full;
     }
 
 same_frame : (f g : Frame) → f.lanes ≡ g.lanes → f.chosen ≡ g.chosen → f.span.first ≡ g.span.first →
-    f.span.end ≡ g.span.end → f.bottom ≡ g.bottom → f.left_out ≡ g.left_out → f ≡ g
-same_frame f g lanes chosen firsts ends bottoms left =
-    ap (λ l. frame_of l f.chosen f.span.first f.span.end f.bottom f.left_out) lanes
-    ∙ ap (λ c. frame_of g.lanes c f.span.first f.span.end f.bottom f.left_out) chosen
-    ∙ ap (λ s. frame_of g.lanes g.chosen s f.span.end f.bottom f.left_out) firsts
-    ∙ ap (λ e. frame_of g.lanes g.chosen g.span.first e f.bottom f.left_out) ends
-    ∙ ap (λ b. frame_of g.lanes g.chosen g.span.first g.span.end b f.left_out) bottoms
-    ∙ ap (λ o. frame_of g.lanes g.chosen g.span.first g.span.end g.bottom o) left
+    f.span.end ≡ g.span.end → f.bottom ≡ g.bottom → f.left_out ≡ g.left_out → f.full ≡ g.full → f ≡ g
+same_frame f g lanes chosen firsts ends bottoms left rows =
+    ap (λ l. frame_of l f.chosen f.span.first f.span.end f.bottom f.left_out f.full) lanes
+    ∙ ap (λ c. frame_of g.lanes c f.span.first f.span.end f.bottom f.left_out f.full) chosen
+    ∙ ap (λ s. frame_of g.lanes g.chosen s f.span.end f.bottom f.left_out f.full) firsts
+    ∙ ap (λ e. frame_of g.lanes g.chosen g.span.first e f.bottom f.left_out f.full) ends
+    ∙ ap (λ b. frame_of g.lanes g.chosen g.span.first g.span.end b f.left_out f.full) bottoms
+    ∙ ap (λ o. frame_of g.lanes g.chosen g.span.first g.span.end g.bottom o f.full) left
+    ∙ ap (λ r. frame_of g.lanes g.chosen g.span.first g.span.end g.bottom g.left_out r) rows
 
 pub frame-same : (part : Part) (ranks : List RankAccount) (f g : Frame) → IsFrame part ranks f →
     IsFrame part ranks g → f ≡ g
@@ -167,3 +169,4 @@ frame-same part ranks f g is other =
     ∙ sym other.bottom in
     let left = is.left_out ∙ ap (λ e. min (sum_by (later_count e) ranks) (2 ^ 64 - 1)) ends ∙ sym other.left_out in
     same_frame f g lanes (is.chosen ∙ sym other.chosen) (is.first ∙ sym other.first) ends bottoms left
+    (is.full ∙ sym other.full)

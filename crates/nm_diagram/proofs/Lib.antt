@@ -6,3 +6,4 @@ mod ShapeLemmas
 mod StampLemmas
 pub mod AlikeLemmas
 pub mod FrameLemmas
+mod RowLemmas

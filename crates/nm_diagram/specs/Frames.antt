@@ -1,9 +1,12 @@
 -- What fits a picture: its lanes, and the events that it shows.
-use Rattle.std.specs.Prelude.{◌≡◌, ℕ, ◌+◌, ◌-◌, ◌<◌, ◌≤◌, ◌^◌, ◌⊎◌, ◌&&◌, Bool, true, nat_lt, nat_le, List, []}
-use Rattle.std.specs.Prelude.{◌∷◌, replicate}
+use Rattle.std.specs.Prelude.{◌≡◌, ℕ, ◌+◌, ◌-◌, ◌<◌, ◌≤◌, ◌^◌, ◌⊎◌, ◌&&◌, ◌==◌, Bool, true, nat_lt, nat_le, List}
+use Rattle.std.specs.Prelude.{[], ◌∷◌, false, replicate, slice_set}
 use Rattle.std.specs.Prelude.{min, max, None, length, drop, count_by, sum_by, if◌then◌else◌}
-use Rattle.std.specs.List.{AllByRecursion}
+use Rattle.std.specs.List.{AllByRecursion, list_any}
+use Rattle.nm_types.specs.declared.answers.Answer.TheVariants.{Started}
 use Rattle.nm_history.specs.declared.events.Event.{Event}
+use Rattle.nm_history.specs.declared.events.Happened.{Happened}
+use Rattle.nm_history.specs.declared.events.Happened.TheVariants.{Ran}
 use Rattle.nm_report.specs.declared.accounts.RankAccount.{RankAccount}
 use Rattle.nm_diagram.specs.declared.frames.Frame.{Frame}
 use Rattle.nm_diagram.specs.declared.frames.Part.{Part}
@@ -45,6 +48,37 @@ latest_of_all span found [] = found
 latest_of_all span found (account ∷ accounts) =
     latest_of_all span (latest span found account.history.events) accounts
 
+-- an event tells more than that a command was started
+abbrev pub tells_more : Happened → Bool
+tells_more (Ran line Started) = false
+tells_more _ = true
+
+-- which rows are full, with that of an event: one that tells more than a start fills the row of its stamp. Rows are
+-- numbered from the stamp below this one on, and the first 1,024 are looked at
+abbrev pub with_row : ℕ → List Bool → Event → List Bool
+with_row top rows event =
+    if tells_more event.what && nat_lt top event.stamp && nat_le (event.stamp - top) 1024
+    then slice_set rows (event.stamp - top - 1) true else rows
+
+-- the same with those of all these events
+abbrev pub with_rows : ℕ → List Bool → List Event → List Bool
+with_rows top rows [] = rows
+with_rows top rows (event ∷ events) = with_rows top (with_row top rows event) events
+
+-- and of all these ranks
+abbrev pub full_rows : ℕ → List Bool → List RankAccount → List Bool
+full_rows top rows [] = rows
+full_rows top rows (account ∷ accounts) =
+    full_rows top (with_rows top rows account.history.events) accounts
+
+-- an event has this stamp, and tells more than a start
+abbrev pub is_more : ℕ → Event → Bool
+is_more stamp event = tells_more event.what && event.stamp == stamp
+
+-- a rank has such an event
+abbrev pub has_more : ℕ → RankAccount → Bool
+has_more stamp account = list_any (is_more stamp) account.history.events
+
 -- the trace says nothing of a rank
 abbrev pub IsSilent : RankAccount → Type 0
 IsSilent account = (account.history.events ≡ []) × (account.waits ≡ None)
@@ -60,7 +94,8 @@ up_to span end = record { first = span.first; end = end }
 
 -- the frame of a part of these ranks: as many lanes as are asked for, or as the last rank has of which the trace
 -- says something; the ranks that are chosen; the stamps from the first one that is asked for up to the greatest
--- end such that at most 20,000 events are shown; the greatest stamp of those; and how many later events there are
+-- end such that at most 20,000 events are shown; the greatest stamp of those; how many later events there are; and
+-- which rows are full
 pub record IsFrame (part : Part) (ranks : List RankAccount) (frame : Frame) : Type 0 where
   pub lanes : frame.lanes ≤ length ranks
   pub asked : part.lanes ≤ frame.lanes
@@ -73,3 +108,4 @@ pub record IsFrame (part : Part) (ranks : List RankAccount) (frame : Frame) : Ty
       ⊎ ((frame.span.end < part.span.end) × (20000 < shown_count (up_to part.span (frame.span.end + 1)) ranks))
   pub bottom : frame.bottom ≡ latest_of_all (up_to part.span frame.span.end) part.span.first ranks
   pub left_out : frame.left_out ≡ min (sum_by (later_count frame.span.end) ranks) (2 ^ 64 - 1)
+  pub full : frame.full ≡ full_rows (part.span.first - 1) (replicate 1024 false) ranks

@@ -1,9 +1,10 @@
 -- What is written beside the marks: what each event tells, in short.
-use Rattle.std.specs.Prelude.{ℕ, if◌then◌else◌, List, [], ◌∷◌, ◌++◌, codes, decimal, flat_map}
+use Rattle.std.specs.Prelude.{ℕ, ◌==◌, if◌then◌else◌, List, [], ◌∷◌, ◌++◌, codes, decimal, flat_map}
 use Rattle.nm_types.specs.declared.answers.Answer.{Answer}
 use Rattle.nm_types.specs.declared.answers.Answer.TheVariants.{Started, Busy, Null, No, Nothing, Sent, Got, Cut}
 use Rattle.nm_types.specs.declared.answers.Answer.TheVariants.{Cancelled, Seen, Done, Late, Asked}
-use Rattle.nm_types.specs.Text.{tag_word}
+use Rattle.nm_types.specs.declared.messages.Post.{Post}
+use Rattle.nm_types.specs.Text.{peer_word, tag_word}
 use Rattle.nm_history.specs.declared.events.Event.{Event}
 use Rattle.nm_history.specs.declared.events.Happened.{Happened}
 use Rattle.nm_history.specs.declared.events.Happened.TheVariants as what
@@ -14,9 +15,18 @@ use Rattle.nm_diagram.specs.Diagrams.{from_lane}
 use Rattle.nm_diagram.specs.Frames.{is_shown}
 
 -- a message by its number, its tag and how many bytes it has
-abbrev pub message_label : ℕ → ℕ → ℕ → List ℕ
-message_label n tag len =
+abbrev pub message_words : ℕ → ℕ → ℕ → List ℕ
+message_words n tag len =
     codes "m" ++ (decimal n ++ (codes " t" ++ (decimal tag ++ (codes " " ++ (decimal len ++ codes "b")))))
+
+-- a receive by its number, the source that it names, and the tag
+abbrev pub receive_words : Post → List ℕ
+receive_words post =
+    codes "r" ++ (decimal post.number ++ (codes " <" ++ (peer_word post.from ++ (codes " t" ++ tag_word post.tag))))
+
+-- the context, where it is another than 0. MPI 3.1, 3.2.3
+abbrev pub context_words : ℕ → List ℕ
+context_words ctx = if ctx == 0 then [] else codes " c" ++ decimal ctx
 
 -- the first word of an answer
 abbrev pub answer_label : Answer → List ℕ
@@ -44,9 +54,9 @@ to_rank n to = codes "m" ++ (decimal n ++ (codes " to " ++ decimal to))
 
 -- what an event tells in short: the message, the receive, or the line of the script with its answer
 abbrev pub label_of : Happened → List ℕ
-label_of (what.Send to n tag ctx len how line) = message_label n tag len
-label_of (what.Post post line) = codes "r" ++ (decimal post.number ++ (codes " t" ++ tag_word post.tag))
-label_of (what.Arrive a) = message_label a.n a.env.tag a.env.len
+label_of (what.Send to n tag ctx len how line) = message_words n tag len ++ context_words ctx
+label_of (what.Post post line) = receive_words post ++ context_words post.ctx
+label_of (what.Arrive a) = message_words a.n a.env.tag a.env.len ++ context_words a.env.ctx
 label_of (what.Whole from n) = of_rank n from
 label_of (what.Out to n) = to_rank n to
 label_of (what.Cancel number done) = codes "r" ++ (decimal number ++ (codes " " ++ done_word done))

@@ -1,15 +1,17 @@
 //! What fits a picture: how many lanes it has, and which events it shows.
 
 ghost use Rattle.std.specs.Prelude.{◌≡◌, ◌≤◌, ◌<◌, ◌+◌, ◌-◌, ◌^◌, ◌⊎◌, ◌↔◌, [], ◌∷◌, IsTrue};
-ghost use Rattle.std.specs.Prelude.{count_by, drop, length};
+ghost use Rattle.std.specs.Prelude.{count_by, drop, false, length, replicate};
 ghost use Rattle.std.specs.Prelude.{min, sum_by, nat_le};
 ghost use Rattle.std.specs.List.{AllByRecursion};
 ghost use Rattle.nm_diagram.specs.Frames.{IsFrame, IsIn, IsSilent, is_later, is_shown, later_count, latest};
-ghost use Rattle.nm_diagram.specs.Frames.{latest_of_all};
+ghost use Rattle.nm_diagram.specs.Frames.{full_rows, latest_of_all, tells_more as tells_more_lem};
+ghost use Rattle.nm_diagram.specs.Frames.{with_row, with_rows};
 ghost use Rattle.nm_diagram.specs.Frames.{shown_count, shown_of, up_to, whole};
 
-use nm_history::Event;
+use nm_history::{Event, Happened};
 use nm_report::RankAccount;
+use nm_types::Answer;
 
 /// The most events that a picture shows.
 const MAX_EVENTS: usize = 20000;
@@ -19,6 +21,9 @@ const ALL_STAMPS: u64 = 1000001;
 
 /// How many ranks a number of 8 bits can name.
 const NAMES: usize = 256;
+
+/// How many rows are looked at for what they have.
+const ROWS: usize = 1024;
 
 /// The stamps whose events are shown.
 #[derive(Clone, Copy)]
@@ -90,6 +95,9 @@ pub struct Frame {
     pub bottom: u32,
     /// How many later events there are.
     pub left_out: u64,
+    /// Whether a row has an event that tells more than that a command was started, from the row below
+    /// the stamp before the first one on.
+    pub full: [bool; ROWS],
 }
 
 /// How many events of a rank are shown.
@@ -206,6 +214,48 @@ fn find_bottom(ranks: &[RankAccount], span: Span) -> u64
     bottom
 }
 
+/// Whether an event tells more than that a command was started.
+fn tells_more(what: &Happened) -> bool
+    ensures { result ≡ tells_more_lem what.now }
+{
+    match what {
+        Happened::Ran {
+            answer: Answer::Started,
+            ..
+        } => false,
+        _ => true,
+    }
+}
+
+/// Sees that the row of an event is full, if it tells more than a start.
+fn fill(rows: &mut [bool; ROWS], top: u64, event: &Event)
+    ensures { rows.new ≡ with_row top rows.old event.now }
+{
+    if tells_more(&event.what) && top < event.stamp && event.stamp - top <= 1024 {
+        rows[(event.stamp - top - 1) as usize] = true;
+    }
+}
+
+/// The same of all these events.
+fn fill_all(rows: &mut [bool; ROWS], top: u64, events: &[Event])
+    ensures { rows.new ≡ with_rows top rows.old events.now }
+{
+    for event in events {
+        fill(rows, top, event);
+    }
+}
+
+/// Which rows are full.
+fn find_full(ranks: &[RankAccount], top: u64) -> [bool; ROWS]
+    ensures { result ≡ full_rows top (replicate 1024 false) ranks.now }
+{
+    let mut rows = [false; ROWS];
+    for account in ranks {
+        fill_all(&mut rows, top, account.history.as_slice());
+    }
+    rows
+}
+
 /// Whether a trace says nothing of a rank.
 fn is_silent(account: &RankAccount) -> bool
     ensures { IsTrue result ↔ IsSilent account.now }
@@ -247,6 +297,7 @@ impl Frame {
             span,
             bottom: find_bottom(ranks, span) as u32,
             left_out: count_left_out(ranks, end),
+            full: find_full(ranks, part.span.first.saturating_sub(1)),
         }
     }
 }

@@ -1,8 +1,8 @@
 //! What follows from the lists of shapes. Each law is the contract of a function that does nothing.
 
-ghost use Rattle.std.specs.Prelude.{◌≡◌, ℕ, ◌≤◌, ◌⊎◌, ◌++◌, true, List, [], ◌∷◌, Some, None, slice_get};
-ghost use Rattle.std.specs.Prelude.{Contains, filter, length, map};
-ghost use Rattle.std.specs.List.{AllByRecursion};
+ghost use Rattle.std.specs.Prelude.{◌≡◌, ℕ, ◌≤◌, ◌<◌, ◌+◌, ◌⊎◌, ◌++◌, true, false, List, [], ◌∷◌, Some, None, slice_get};
+ghost use Rattle.std.specs.Prelude.{Contains, filter, get_or, length, map, replicate};
+ghost use Rattle.std.specs.List.{AllByRecursion, list_any};
 ghost use Rattle.nm_types.specs.declared.messages.Arrival.{Arrival};
 ghost use Rattle.nm_types.specs.declared.scripts.Line.{Line};
 ghost use Rattle.nm_types.specs.Sizes.{Sizes};
@@ -20,7 +20,7 @@ ghost use Rattle.nm_diagram.specs.Diagrams.{all_arrows, all_marks, arrows_at, ma
 ghost use Rattle.nm_diagram.specs.declared.frames.Frame.{Frame};
 ghost use Rattle.nm_diagram.specs.declared.frames.Part.{Part};
 ghost use Rattle.nm_diagram.specs.declared.frames.Span.{Span};
-ghost use Rattle.nm_diagram.specs.Frames.{IsFrame, IsIn, is_shown, shown_count};
+ghost use Rattle.nm_diagram.specs.Frames.{IsFrame, IsIn, full_rows, has_more, is_shown, shown_count};
 ghost use Rattle.nm_diagram.specs.Joined.{HasOneArrow, IsOfMessage, IsSentBefore, Rise};
 ghost use Rattle.nm_diagram.specs.Legend.{is_used, legend_of};
 ghost use Rattle.nm_diagram.specs.Labels.{labelled, labels_of};
@@ -67,6 +67,14 @@ pub fn each_sign_is_explained()
         Contains (legend_of span ranks) sign.Waits }
     ensures used { (span : Span) (ranks : List RankAccount) →
         AllByRecursion (λ sign. is_used span ranks sign ≡ true) (legend_of span ranks) }
+{}
+
+/// A row is full exactly where some rank has an event there that tells more than that a command was
+/// started.
+pub fn each_full_row_tells_more()
+    ensures { (ranks : List RankAccount) (top row : ℕ) → row < 1024 →
+        get_or (full_rows top (replicate 1024 false) ranks) row false
+        ≡ list_any (has_more (top + row + 1)) ranks }
 {}
 
 /// Each arrow goes from the send of a message to its arrival, and both are shown.

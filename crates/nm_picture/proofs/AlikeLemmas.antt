@@ -1,5 +1,5 @@
 -- Ranks that are alike have one picture.
-use Rattle.std.proofs.Common.{◌≡◌, ℕ, ◌≤◌, List, [], ◌++◌, cond, ap, ◌∙◌, arith, codes, flat_map, length, take}
+use Rattle.std.proofs.Common.{◌≡◌, ℕ, ◌≤◌, List, ◌++◌, ap, sym, ◌∙◌, arith, codes, flat_map, length, take}
 use Rattle.nm_report.specs.declared.accounts.RankAccount.{RankAccount}
 use Rattle.nm_report.specs.declared.records.RunRecord.{RunRecord}
 use Rattle.nm_diagram.specs.declared.arrows.Arrow.{Arrow}
@@ -10,28 +10,25 @@ use Rattle.nm_diagram.specs.declared.returns.Return.{Return}
 use Rattle.nm_diagram.specs.declared.rings.Ring.{Ring}
 use Rattle.nm_diagram.specs.Alike.{AreAlike}
 use Rattle.nm_diagram.specs.Diagrams.{Lane, Mark, all_arrows, all_lanes, all_marks}
+use Rattle.nm_diagram.specs.Labels.{all_labels}
 use Rattle.nm_diagram.specs.Frames.{whole}
 use Rattle.nm_diagram.specs.Left.{all_rings}
 use Rattle.nm_diagram.specs.Links.{all_links}
 use Rattle.nm_diagram.specs.Returns.{all_returns}
 use Rattle.nm_diagram.proofs.AlikeLemmas.{alike-frame, alike_lanes, arrows-alike, labels-alike, legend-alike}
 use Rattle.nm_diagram.proofs.AlikeLemmas.{links-alike, marks-alike, returns-alike, rings-alike}
+use Rattle.nm_diagram.proofs.FrameLemmas.{frame-same}
 use Rattle.nm_picture.specs.Sheet.{sheet_text}
-use Rattle.nm_picture.specs.Pictures.{IsPictureIn, IsPictureOf, arrow_text, arrows_text, axis_text, front_text, has_room}
-use Rattle.nm_picture.specs.Pictures.{head_text, label_text, labels_text, lane_text, link_text, mark_text}
+use Rattle.nm_picture.specs.Pictures.{IsPictureIn, IsPictureOf, arrow_text, arrows_text, axis_text, front_text}
+use Rattle.nm_picture.specs.Pictures.{head_text, label_text, lane_text, lane_words, link_text, mark_text}
 use Rattle.nm_picture.specs.Pictures.{marks_text, note_text, picture_text, return_text, ring_text, rows_text}
-use Rattle.nm_picture.specs.Pictures.{shapes_text}
+use Rattle.nm_picture.specs.Pictures.{shapes_text, words_text}
 
 front_same : (xs ys : List RankAccount) (frame : Frame) → AreAlike xs ys → front_text frame xs ≡ front_text frame ys
 unfolding front_text
 front_same xs ys frame h =
     ap (λ l. head_text frame ++ (sheet_text ++ (note_text frame.left_out ++ (rows_text 0 l ++ axis_text frame))))
     (legend-alike frame.span xs ys h)
-
-labels_same : (xs ys : List RankAccount) (frame : Frame) → AreAlike xs ys → labels_text frame xs ≡ labels_text frame ys
-unfolding labels_text
-labels_same xs ys frame h =
-    ap (λ l. cond (has_room frame) (flat_map (label_text frame) l) []) (labels-alike frame.span xs ys h)
 
 marks_same : (xs ys : List RankAccount) (frame : Frame) → frame.lanes ≤ length xs → frame.lanes ≤ length ys →
     AreAlike xs ys → marks_text frame xs ≡ marks_text frame ys
@@ -54,23 +51,34 @@ arrows_same : (xs ys : List RankAccount) (frame : Frame) → AreAlike xs ys → 
 unfolding arrows_text
 arrows_same xs ys frame h =
     let span = frame.span in
-    ap (λ l. all l (all_returns span xs) (labels_text frame xs)) (arrows-alike span xs ys h)
-    ∙ ap (λ l. all (all_arrows span ys) l (labels_text frame xs)) (returns-alike span xs ys h)
-    ∙ ap (λ l. all (all_arrows span ys) (all_returns span ys) l) (labels_same xs ys frame h)
+    ap (λ l. all l (all_returns span xs)) (arrows-alike span xs ys h)
+    ∙ ap (λ l. all (all_arrows span ys) l) (returns-alike span xs ys h)
   where
-    all : List Arrow → List Return → List ℕ → List ℕ
-    all arrows ways labels =
-        flat_map (arrow_text frame) arrows ++ (flat_map (return_text frame) ways ++ labels)
+    all : List Arrow → List Return → List ℕ
+    all arrows ways = flat_map (arrow_text frame) arrows ++ flat_map (return_text frame) ways
+
+words_same : (xs ys : List RankAccount) (frame : Frame) → frame.lanes ≤ length xs → frame.lanes ≤ length ys →
+    AreAlike xs ys → words_text frame xs ≡ words_text frame ys
+unfolding words_text
+words_same xs ys frame m n h =
+    ap (λ l. flat_map (label_text frame) l
+    ++ flat_map (lane_words frame) (all_lanes frame.chosen (take frame.lanes xs)))
+    (labels-alike frame.span xs ys h)
+    ∙ ap (λ l. flat_map (label_text frame) (all_labels frame.span ys) ++ flat_map (lane_words frame) l)
+    (alike_lanes frame.chosen frame.lanes 0 xs ys m n h)
 
 picture_same : (xs ys : List RankAccount) (frame : Frame) → frame.lanes ≤ length xs → frame.lanes ≤ length ys →
     AreAlike xs ys → picture_text frame xs ≡ picture_text frame ys
 unfolding picture_text shapes_text
 picture_same xs ys frame m n h =
-    ap (λ l. l ++ ((marks_text frame xs ++ arrows_text frame xs) ++ codes "</g>\n</svg>\n")) (front_same xs ys frame h)
-    ∙ ap (λ l. front_text frame ys ++ ((l ++ arrows_text frame xs) ++ codes "</g>\n</svg>\n"))
-    (marks_same xs ys frame m n h)
-    ∙ ap (λ l. front_text frame ys ++ ((marks_text frame ys ++ l) ++ codes "</g>\n</svg>\n"))
-    (arrows_same xs ys frame h)
+    ap (λ l. all l (marks_text frame xs) (arrows_text frame xs) (words_text frame xs)) (front_same xs ys frame h)
+    ∙ ap (λ l. all (front_text frame ys) l (arrows_text frame xs) (words_text frame xs)) (marks_same xs ys frame m n h)
+    ∙ ap (λ l. all (front_text frame ys) (marks_text frame ys) l (words_text frame xs)) (arrows_same xs ys frame h)
+    ∙ ap (λ l. all (front_text frame ys) (marks_text frame ys) (arrows_text frame ys) l)
+    (words_same xs ys frame m n h)
+  where
+    all : List ℕ → List ℕ → List ℕ → List ℕ → List ℕ
+    all front marks arrows words = front ++ ((marks ++ (arrows ++ words)) ++ codes "</g>\n</svg>\n")
 
 pub alike-part : (part : Part) (run other : RunRecord) (text : List ℕ) → part.lanes ≤ length other.ranks →
     AreAlike run.ranks other.ranks → IsPictureIn part run text → IsPictureIn part other text
@@ -85,3 +93,11 @@ alike-part part run other text room alike p =
 pub alike-picture : (run other : RunRecord) (text : List ℕ) → AreAlike run.ranks other.ranks → IsPictureOf run text →
     IsPictureOf other text
 alike-picture run other text = alike-part whole run other text (omega arith)
+
+-- a part of a run has one picture, since its frame is one
+pub one-picture : (part : Part) (run : RunRecord) (a b : List ℕ) → IsPictureIn part run a → IsPictureIn part run b →
+    a ≡ b
+one-picture part run a b p q =
+    p.drawn
+    ∙ ap (λ f. picture_text f run.ranks) (frame-same part run.ranks p.frame q.frame p.of_ranks q.of_ranks)
+    ∙ sym q.drawn

@@ -1,5 +1,5 @@
 mod CountLemmas
 mod EscapeLemmas
 mod SheetLemmas
-mod WellFormedLemmas
 pub mod AlikeLemmas
+pub mod WellFormedLemmas

@@ -30,10 +30,12 @@ use Rattle.nm_diagram.specs.Returns.{all_returns}
 use Rattle.nm_diagram.specs.Signs.{name_of, words_of}
 use Rattle.nm_diagram.specs.Links.{all_links}
 use Rattle.nm_picture.specs.Markup.{escaped, escaped_byte, is_printable}
-use Rattle.nm_picture.specs.Pictures.{arrow_text, arrow_title, aside_of, axis_text, bow_text, bow_x, foot_y, front_text}
-use Rattle.nm_picture.specs.Pictures.{has_room, head_text, label_text, labels_text, lane_text, lane_x, left_out_text}
-use Rattle.nm_picture.specs.Pictures.{line_text, link_text, link_title, mark_text, name_count, name_text, note_text}
-use Rattle.nm_picture.specs.Pictures.{picture_text, process_line, rank_label, row_sign, row_text, row_words, rows_text}
+use Rattle.nm_picture.specs.Pictures.{arrow_text, arrow_title, aside_of, axis_text, bow_at, bow_text, bow_x, foot_y}
+use Rattle.nm_picture.specs.Pictures.{front_text}
+use Rattle.nm_picture.specs.Pictures.{drawn_text, has_room, head_text, is_drawn, label_text, lane_text, lane_words, lane_x}
+use Rattle.nm_picture.specs.Pictures.{left_out_text, link_text, link_title, mark_text, name_count, name_text, note_text}
+use Rattle.nm_picture.specs.Pictures.{picture_text, process_line, rank_label, rank_labels, row_sign, row_text, row_words}
+use Rattle.nm_picture.specs.Pictures.{rows_text, wait_words, words_text}
 use Rattle.nm_picture.specs.Pictures.{next_tick, passed_ticks, row_y, shaft_text}
 use Rattle.nm_picture.specs.Pictures.{shapes_text, short, sign_text, size_text, stamp_y, tag_text, tick_count, tick_text}
 use Rattle.nm_picture.specs.Pictures.{arrows_text, marks_text, return_shaft, return_text, return_title, ring_tag}
@@ -48,7 +50,7 @@ read-append p [] ys = refl
 read-append p (x ∷ xs) ys = read-append (step p x) xs ys
 
 -- what is read first ends where the rest begins
-behind : (p q : ReaderState) (xs ys : List ℕ) → read p xs ≡ q → read p (xs ++ ys) ≡ read q ys
+pub behind : (p q : ReaderState) (xs ys : List ℕ) → read p xs ≡ q → read p (xs ++ ys) ≡ read q ys
 behind p q xs ys h = read-append p xs ys ∙ ap (λ r. read r ys) h
 
 -- a byte that a value goes on with, and one that a text does
@@ -342,7 +344,7 @@ arrow-read frame a =
 
 -- links
 bow-read : (frame : Frame) (k : Link) → read (Between svg) (bow_text frame k) ≡ Between in_path
-unfolding bow_text
+unfolding bow_at
 bow-read frame k =
     let x = lane_x frame k.lane in
     let y1 = stamp_y frame k.received in
@@ -429,30 +431,37 @@ wait_label-read frame rank line =
 wait-read : (frame : Frame) (rank : ℕ) (waits : Option ℕ) → Keeps (wait_text frame rank waits)
 unfolding wait_text
 wait-read frame rank None = refl
-wait-read frame rank (Some line) =
-    keeps-append (wait_sign frame rank line) (wait_label frame rank line)
-    (wait_sign-read frame rank line) (wait_label-read frame rank line)
+wait-read frame rank (Some line) = wait_sign-read frame rank line
+
+wait_words-read : (frame : Frame) (rank : ℕ) (waits : Option ℕ) → Keeps (wait_words frame rank waits)
+unfolding wait_words
+wait_words-read frame rank None = refl
+wait_words-read frame rank (Some line) = wait_label-read frame rank line
 
 names-read : (frame : Frame) (rank : ℕ) (ks : List ℕ) → Keeps (flat_map (name_text frame rank) ks)
 names-read frame rank ks =
-    keeps-map (name_text frame rank) (λ k. rank_label-read frame rank (row_y (40 * k) - 20)) ks
+    keeps-map (name_text frame rank) (λ k. rank_label-read frame rank (row_y frame (40 * k) - 20)) ks
 
-line-read : (frame : Frame) (rank : ℕ) → Keeps (line_text frame rank)
-unfolding line_text
-line-read frame rank =
+rank_labels-read : (frame : Frame) (rank : ℕ) → Keeps (rank_labels frame rank)
+unfolding rank_labels
+rank_labels-read frame rank =
     let foot = foot_y frame + 24 in
     let names : List ℕ = flat_map (name_text frame rank) (range_with_len 1 (name_count frame)) in
-    keeps-append (process_line frame rank) (rank_label frame rank 56 ++ (rank_label frame rank foot ++ names))
-    (process-read frame rank)
-    (keeps-append (rank_label frame rank 56) (rank_label frame rank foot ++ names) (rank_label-read frame rank 56)
+    keeps-append (rank_label frame rank 56) (rank_label frame rank foot ++ names) (rank_label-read frame rank 56)
     (keeps-append (rank_label frame rank foot) names (rank_label-read frame rank foot)
-    (names-read frame rank (range_with_len 1 (name_count frame)))))
+    (names-read frame rank (range_with_len 1 (name_count frame))))
 
 lane-read : (frame : Frame) (lane : Lane) → Keeps (lane_text frame lane)
 unfolding lane_text
 lane-read frame lane =
-    keeps-append (line_text frame lane.rank) (wait_text frame lane.rank lane.waits)
-    (line-read frame lane.rank) (wait-read frame lane.rank lane.waits)
+    keeps-append (process_line frame lane.rank) (wait_text frame lane.rank lane.waits)
+    (process-read frame lane.rank) (wait-read frame lane.rank lane.waits)
+
+lane_words-read : (frame : Frame) (lane : Lane) → Keeps (lane_words frame lane)
+unfolding lane_words
+lane_words-read frame lane =
+    keeps-append (rank_labels frame lane.rank) (wait_words frame lane.rank lane.waits)
+    (rank_labels-read frame lane.rank) (wait_words-read frame lane.rank lane.waits)
 
 -- what stands before the shapes
 size-read : (width height : ℕ) → read Before (size_text width height) ≡ Between svg
@@ -530,19 +539,19 @@ tag-read frame l =
     ∙ value-number in_text_tag (stamp_y frame l.stamp + l.drop - 1) third
     ∙ value-number in_text_tag (words_width frame l.words) (codes "\">")
 
-label-read : (frame : Frame) (l : Label) → Keeps (label_text frame l)
-unfolding label_text
-label-read frame l =
+drawn-read : (frame : Frame) (l : Label) → Keeps (drawn_text frame l)
+unfolding drawn_text
+drawn-read frame l =
     behind (Between svg) (Between in_text_tag) (tag_text frame l) (escaped l.words ++ codes "</text>\n")
     (tag-read frame l)
     ∙ behind (Between in_text_tag) (Between in_text_tag) (escaped l.words) (codes "</text>\n")
     (text-escaped (codes "text") svg l.words)
 
-labels-read : (frame : Frame) (ranks : List RankAccount) → Keeps (labels_text frame ranks)
-unfolding labels_text
-labels-read frame ranks = either_way (has_room frame) where
-  either_way : (b : Bool) → Keeps (cond b (flat_map (label_text frame) (all_labels frame.span ranks)) [])
-  either_way true = keeps-map (label_text frame) (label-read frame) (all_labels frame.span ranks)
+label-read : (frame : Frame) (l : Label) → Keeps (label_text frame l)
+unfolding label_text
+label-read frame l = either_way (is_drawn frame l.words) where
+  either_way : (b : Bool) → Keeps (cond b (drawn_text frame l) [])
+  either_way true = drawn-read frame l
   either_way false = refl
 
 front-read : (frame : Frame) (ranks : List RankAccount) → read Before (front_text frame ranks) ≡ Between svg
@@ -575,16 +584,25 @@ unfolding arrows_text
 arrows_text-read frame ranks =
     let arrows : List ℕ = flat_map (arrow_text frame) (all_arrows frame.span ranks) in
     let ways : List ℕ = flat_map (return_text frame) (all_returns frame.span ranks) in
-    keeps-append arrows (ways ++ labels_text frame ranks)
-    (keeps-map (arrow_text frame) (arrow-read frame) (all_arrows frame.span ranks))
-    (keeps-append ways (labels_text frame ranks)
-    (keeps-map (return_text frame) (return-read frame) (all_returns frame.span ranks)) (labels-read frame ranks))
+    keeps-append arrows ways (keeps-map (arrow_text frame) (arrow-read frame) (all_arrows frame.span ranks))
+    (keeps-map (return_text frame) (return-read frame) (all_returns frame.span ranks))
+
+words_text-read : (frame : Frame) (ranks : List RankAccount) → Keeps (words_text frame ranks)
+unfolding words_text
+words_text-read frame ranks =
+    let labels : List ℕ = flat_map (label_text frame) (all_labels frame.span ranks) in
+    let lanes = all_lanes frame.chosen (take frame.lanes ranks) in
+    keeps-append labels (flat_map (lane_words frame) lanes)
+    (keeps-map (label_text frame) (label-read frame) (all_labels frame.span ranks))
+    (keeps-map (lane_words frame) (lane_words-read frame) lanes)
 
 shapes-read : (frame : Frame) (ranks : List RankAccount) → Keeps (shapes_text frame ranks)
 unfolding shapes_text
 shapes-read frame ranks =
-    keeps-append (marks_text frame ranks) (arrows_text frame ranks) (marks_text-read frame ranks)
-    (arrows_text-read frame ranks)
+    keeps-append (marks_text frame ranks) (arrows_text frame ranks ++ words_text frame ranks)
+    (marks_text-read frame ranks)
+    (keeps-append (arrows_text frame ranks) (words_text frame ranks) (arrows_text-read frame ranks)
+    (words_text-read frame ranks))
 
 pub picture-well_formed : (frame : Frame) (ranks : List RankAccount) → IsWellFormed (picture_text frame ranks)
 unfolding picture_text

@@ -1,5 +1,6 @@
 -- The text of a picture, shape by shape.
-use Rattle.std.specs.Prelude.{◌≡◌, ℕ, ◌+◌, ◌-◌, ◌*◌, ◌/◌, ◌%◌, ◌==◌, Bool, nat_le, if◌then◌else◌, max, min, List, []}
+use Rattle.std.specs.Prelude.{◌≡◌, ℕ, ◌+◌, ◌-◌, ◌*◌, ◌/◌, ◌%◌, ◌==◌, ◌&&◌, ◌||◌, Bool, not, nat_le}
+use Rattle.std.specs.Prelude.{if◌then◌else◌, max, min, List, []}
 use Rattle.std.specs.Prelude.{◌∷◌, ◌++◌, Option, Some, None, codes, count_by, decimal, flat_map, length, take}
 use Rattle.std.specs.List.{range_with_len}
 use Rattle.nm_report.specs.Events.{how_word}
@@ -31,9 +32,9 @@ column_of frame rank = count_by (λ chosen. chosen) (take rank frame.chosen)
 abbrev pub lane_gap : Frame → ℕ
 lane_gap frame = min 150 (1240 / (column_of frame frame.lanes + 1))
 
--- the lines stand so far apart that labels have room between them
+-- the lines stand so far apart that the ranks' names have room, with the word before each number
 abbrev pub has_room : Frame → Bool
-has_room frame = nat_le 70 (lane_gap frame)
+has_room frame = nat_le 50 (lane_gap frame)
 
 -- a word, where there is room for it
 abbrev pub short : Frame → List ℕ → List ℕ
@@ -43,10 +44,18 @@ short frame word = if has_room frame then word else []
 abbrev pub lane_x : Frame → ℕ → ℕ
 lane_x frame rank = 340 + lane_gap frame * column_of frame rank
 
--- how far from the top a row stands, of which each stamp has one: before each fortieth there is room for the names
--- of the ranks. No picture has more than 1,000,000
-abbrev pub row_y : ℕ → ℕ
-row_y row = 70 + 18 * min row 1000001 + 30 * (min row 1000001 / 40)
+-- how many rows are pressed of the first so many: those in which no event tells more than a start
+abbrev pub pressed_count : Frame → ℕ → ℕ
+pressed_count frame row = count_by (λ full. not full) (take row frame.full)
+
+-- how far from the top a row stands, of which each stamp has one: 16 units below the row before, or 10 where it is
+-- pressed; and before each fortieth there is room for the names of the ranks
+abbrev pub y_of_row : Frame → ℕ → ℕ
+y_of_row frame row = max (70 + 16 * row + 30 * (row / 40) - 6 * pressed_count frame row) 70
+
+-- the same of any number. No picture has more than 1,000,000 rows
+abbrev pub row_y : Frame → ℕ → ℕ
+row_y frame row = y_of_row frame (min row 1000001)
 
 -- the stamp before the first one of a picture, where the lines of the ranks begin. No picture begins behind
 -- 1,000,000
@@ -55,11 +64,11 @@ top_of frame = min (frame.span.first - 1) 1000000
 
 -- how far from the top a stamp stands
 abbrev pub stamp_y : Frame → ℕ → ℕ
-stamp_y frame stamp = row_y (stamp - top_of frame)
+stamp_y frame stamp = row_y frame (stamp - top_of frame)
 
 -- where the process lines end
 abbrev pub foot_y : Frame → ℕ
-foot_y frame = stamp_y frame (frame.bottom + 1)
+foot_y frame = stamp_y frame frame.bottom + 16
 
 -- how wide a picture is
 abbrev pub width_of : Frame → ℕ
@@ -126,14 +135,17 @@ bend_of frame link =
 abbrev pub bow_x : Frame → Link → ℕ
 bow_x frame link = lane_x frame link.lane - bend_of frame link
 
+-- the start tag of a bow at a line, between two heights, which stands so far from the left
+unfoldable pub bow_at : ℕ → ℕ → ℕ → ℕ → List ℕ
+bow_at x bow y1 y2 =
+    codes "<path class=\"link\" d=\"M " ++ (decimal x ++ (codes " " ++ (decimal y1 ++ (codes " C "
+    ++ (decimal bow ++ (codes " " ++ (decimal y1 ++ (codes " " ++ (decimal bow ++ (codes " " ++ (decimal y2
+    ++ (codes " " ++ (decimal x ++ (codes " " ++ (decimal y2 ++ codes "\">")))))))))))))))
+
 -- the start tag of a link, from its receive to its arrival
-unfoldable pub bow_text : Frame → Link → List ℕ
+abbrev pub bow_text : Frame → Link → List ℕ
 bow_text frame link =
-    codes "<path class=\"link\" d=\"M " ++ (decimal (lane_x frame link.lane) ++ (codes " "
-    ++ (decimal (stamp_y frame link.received) ++ (codes " C " ++ (decimal (bow_x frame link) ++ (codes " "
-    ++ (decimal (stamp_y frame link.received) ++ (codes " " ++ (decimal (bow_x frame link) ++ (codes " "
-    ++ (decimal (stamp_y frame link.arrived) ++ (codes " " ++ (decimal (lane_x frame link.lane) ++ (codes " "
-    ++ (decimal (stamp_y frame link.arrived) ++ codes "\">")))))))))))))))
+    bow_at (lane_x frame link.lane) (bow_x frame link) (stamp_y frame link.received) (stamp_y frame link.arrived)
 
 -- the title of a link: the receive, and the message that it took
 unfoldable pub link_title : Link → List ℕ
@@ -195,18 +207,21 @@ wait_sign_at x y line =
 abbrev pub wait_sign : Frame → ℕ → ℕ → List ℕ
 wait_sign frame rank line = wait_sign_at (lane_x frame rank) (foot_y frame) line
 
--- and the words below it, and below the rank's name
+-- and the words below the rank's name
 unfoldable pub wait_label : Frame → ℕ → ℕ → List ℕ
 wait_label frame rank line =
     label (codes "waits") (lane_x frame rank) (foot_y frame + 40 + 14 * (rank % 2))
     (counted (short frame (codes "line ")) line)
 
--- where a rank waits: the line of the command that can't go on
+-- the sign where a rank waits
 unfoldable pub wait_text : Frame → ℕ → Option ℕ → List ℕ
 wait_text frame rank None = []
-wait_text frame rank (Some line) =
-    wait_sign frame rank line
-    ++ wait_label frame rank line
+wait_text frame rank (Some line) = wait_sign frame rank line
+
+-- and the line of the command that can't go on
+unfoldable pub wait_words : Frame → ℕ → Option ℕ → List ℕ
+wait_words frame rank None = []
+wait_words frame rank (Some line) = wait_label frame rank line
 
 -- a process line
 unfoldable pub process_line : Frame → ℕ → List ℕ
@@ -223,21 +238,25 @@ rank_label frame rank y =
 
 -- the name of a rank before the row 40 * k
 abbrev pub name_text : Frame → ℕ → ℕ → List ℕ
-name_text frame rank k = rank_label frame rank (row_y (40 * k) - 20)
+name_text frame rank k = rank_label frame rank (row_y frame (40 * k) - 20)
 
 -- how often the names of the ranks stand between rows
 abbrev pub name_count : Frame → ℕ
 name_count frame = min 1000 ((frame.bottom - top_of frame) / 40)
 
--- a process line, with the rank's name at both ends and before each fortieth row
-unfoldable pub line_text : Frame → ℕ → List ℕ
-line_text frame rank =
-    process_line frame rank ++ (rank_label frame rank 56 ++ (rank_label frame rank (foot_y frame + 24)
-    ++ flat_map (name_text frame rank) (range_with_len 1 (name_count frame))))
+-- the rank's name at both ends of its line and before each fortieth row
+unfoldable pub rank_labels : Frame → ℕ → List ℕ
+rank_labels frame rank =
+    rank_label frame rank 56 ++ (rank_label frame rank (foot_y frame + 24)
+    ++ flat_map (name_text frame rank) (range_with_len 1 (name_count frame)))
 
--- the text of a lane: its process line, and where its rank waits
+-- the shapes of a lane: its process line, and the sign where its rank waits
 unfoldable pub lane_text : Frame → Lane → List ℕ
-lane_text frame lane = line_text frame lane.rank ++ wait_text frame lane.rank lane.waits
+lane_text frame lane = process_line frame lane.rank ++ wait_text frame lane.rank lane.waits
+
+-- the words of a lane: the names of its rank, and where it waits
+unfoldable pub lane_words : Frame → Lane → List ℕ
+lane_words frame lane = rank_labels frame lane.rank ++ wait_words frame lane.rank lane.waits
 
 -- how many events are left out
 unfoldable pub left_out_text : ℕ → List ℕ
@@ -318,14 +337,19 @@ tag_text frame label =
     ((codes "x", decimal (lane_x frame label.lane + 13)) ∷ (codes "y", decimal (stamp_y frame label.stamp + label.drop - 1))
     ∷ (codes "textLength", decimal (words_width frame label.words)) ∷ []) (codes ">")
 
--- a label
-unfoldable pub label_text : Frame → Label → List ℕ
-label_text frame label = tag_text frame label ++ (escaped label.words ++ codes "</text>\n")
+-- a label is drawn: the lines stand 70 units apart, or its letters have three units each
+abbrev pub is_drawn : Frame → List ℕ → Bool
+is_drawn frame words =
+    nat_le 70 (lane_gap frame)
+    || nat_le 30 (lane_gap frame) && nat_le (length words) ((lane_gap frame / 2 + 2) / 3)
 
--- the labels, where they have room
-unfoldable pub labels_text : Frame → List RankAccount → List ℕ
-labels_text frame ranks =
-    if has_room frame then flat_map (label_text frame) (all_labels frame.span ranks) else []
+-- a label with its words
+unfoldable pub drawn_text : Frame → Label → List ℕ
+drawn_text frame label = tag_text frame label ++ (escaped label.words ++ codes "</text>\n")
+
+-- a label, where it has room
+unfoldable pub label_text : Frame → Label → List ℕ
+label_text frame label = if is_drawn frame label.words then drawn_text frame label else []
 
 -- the front of the picture: its size, what stands in each picture, what is left out, the legend and the
 -- axis
@@ -342,15 +366,21 @@ marks_text frame ranks =
     ++ (flat_map (mark_text frame) (all_marks frame.span ranks)
     ++ flat_map (ring_text frame) (all_rings frame.span ranks)))
 
--- and in front of them the arrows, the ways of withdrawals, and the labels
+-- and in front of them the arrows, and the ways of withdrawals
 unfoldable pub arrows_text : Frame → List RankAccount → List ℕ
 arrows_text frame ranks =
     flat_map (arrow_text frame) (all_arrows frame.span ranks)
-    ++ (flat_map (return_text frame) (all_returns frame.span ranks) ++ labels_text frame ranks)
+    ++ flat_map (return_text frame) (all_returns frame.span ranks)
+
+-- and in front of all the words: the labels, and the names of the ranks
+unfoldable pub words_text : Frame → List RankAccount → List ℕ
+words_text frame ranks =
+    flat_map (label_text frame) (all_labels frame.span ranks)
+    ++ flat_map (lane_words frame) (all_lanes frame.chosen (take frame.lanes ranks))
 
 -- all shapes
 unfoldable pub shapes_text : Frame → List RankAccount → List ℕ
-shapes_text frame ranks = marks_text frame ranks ++ arrows_text frame ranks
+shapes_text frame ranks = marks_text frame ranks ++ (arrows_text frame ranks ++ words_text frame ranks)
 
 -- the whole picture
 unfoldable pub picture_text : Frame → List RankAccount → List ℕ

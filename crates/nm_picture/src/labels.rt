@@ -2,26 +2,40 @@
 
 ghost use Rattle.std.specs.Prelude.{◌≡◌, ◌≤◌, ◌++◌, IfOk, OnOk, codes, decimal, flat_map, length};
 ghost use Rattle.std.specs.Prelude.{string_bytes};
-ghost use Rattle.nm_types.specs.Text.{tag_word};
+ghost use Rattle.nm_types.specs.Text.{peer_word, tag_word};
 ghost use Rattle.nm_report.specs.Events.{done_word};
 ghost use Rattle.nm_diagram.specs.Labels.{all_labels, answer_label, label_of, labelled, labels_at};
-ghost use Rattle.nm_diagram.specs.Labels.{drop_of as drop_of_lem, labels_of, message_label};
-ghost use Rattle.nm_picture.specs.Pictures.{label_text, labels_text, tag_text, words_width};
+ghost use Rattle.nm_diagram.specs.Labels.{context_words, drop_of as drop_of_lem, labels_of, message_words};
+ghost use Rattle.nm_diagram.specs.Labels.{receive_words};
+ghost use Rattle.nm_picture.specs.Pictures.{drawn_text, is_drawn as is_drawn_lem, label_text, tag_text};
+ghost use Rattle.nm_picture.specs.Pictures.{words_width};
 
-use crate::places::{gap_of, is_roomy, x_of, y_of};
+use crate::places::{gap_of, x_of, y_of};
 use crate::words::push_escaped;
 use nm_diagram::Frame;
 use nm_history::{Event, Happened};
 use nm_report::RankAccount;
-use nm_types::{Answer, TagPick};
+use nm_types::{Answer, Peer, Post, TagPick};
 use std::alloc::{AllocError, Global};
 
-/// Writes a message by its number, its tag and how many bytes it has.
-fn push_message(out: &mut String, n: u64, tag: u16, len: u32) -> Result<(), AllocError>
-    ensures ok { OnOk result
-        (string_bytes out.new ≡ string_bytes out.old ++ message_label n tag len) }
+/// Writes a context, where it is another than 0.
+fn push_context(out: &mut String, ctx: u8) -> Result<(), AllocError>
+    ensures ok { OnOk result (string_bytes out.new ≡ string_bytes out.old ++ context_words ctx) }
 {
-    write!(out, "m{n} t{tag} {len}b")
+    if ctx == 0 {
+        Ok(())
+    } else {
+        write!(out, " c{ctx}")
+    }
+}
+
+/// Writes a message by its number, its tag and how many bytes it has, and its context.
+fn push_message(out: &mut String, n: u64, tag: u16, len: u32, ctx: u8) -> Result<(), AllocError>
+    ensures ok { OnOk result
+        (string_bytes out.new ≡ string_bytes out.old ++ (message_words n tag len ++ context_words ctx)) }
+{
+    write!(out, "m{n} t{tag} {len}b")?;
+    push_context(out, ctx)
 }
 
 /// The first word of an answer.
@@ -52,15 +66,36 @@ fn word_of_done(done: bool) -> &'static str
     if done { "done" } else { "late" }
 }
 
-/// Writes what a receive is, by its number and its tag.
-fn push_receive(out: &mut String, number: u64, tag: TagPick) -> Result<(), AllocError>
-    ensures ok { OnOk result (string_bytes out.new ≡ string_bytes out.old
-        ++ (codes "r" ++ (decimal number ++ (codes " t" ++ tag_word tag)))) }
+/// Writes the source that a receive names.
+fn push_source(out: &mut String, from: Peer) -> Result<(), AllocError>
+    ensures ok { OnOk result (string_bytes out.new ≡ string_bytes out.old ++ peer_word from) }
+{
+    match from {
+        Peer::Any => out.push_str("any"),
+        Peer::One(rank) => write!(out, "{rank}"),
+    }
+}
+
+/// Writes the tag that a receive names.
+fn push_tag_pick(out: &mut String, tag: TagPick) -> Result<(), AllocError>
+    ensures ok { OnOk result (string_bytes out.new ≡ string_bytes out.old ++ tag_word tag) }
 {
     match tag {
-        TagPick::Any => write!(out, "r{number} tany"),
-        TagPick::One(tag) => write!(out, "r{number} t{tag}"),
+        TagPick::Any => out.push_str("any"),
+        TagPick::One(tag) => write!(out, "{tag}"),
     }
+}
+
+/// Writes what a receive is, by its number, its source and its tag, and its context.
+fn push_receive(out: &mut String, post: &Post) -> Result<(), AllocError>
+    ensures ok { OnOk result (string_bytes out.new ≡ string_bytes out.old
+        ++ (receive_words post.now ++ context_words post.now.ctx)) }
+{
+    write!(out, "r{} <", post.number)?;
+    push_source(out, post.from)?;
+    out.push_str(" t")?;
+    push_tag_pick(out, post.tag)?;
+    push_context(out, post.ctx)
 }
 
 /// Writes a message, or what a receive takes, by a letter and a number, and what it is of.
@@ -122,9 +157,15 @@ fn push_short(out: &mut String, what: &Happened) -> Result<(), AllocError>
         (string_bytes out.new ≡ string_bytes out.old ++ label_of what.now) }
 {
     match what {
-        Happened::Send { n, tag, len, .. } => push_message(out, *n, *tag, *len),
-        Happened::Post { post, .. } => push_receive(out, post.number, post.tag),
-        Happened::Arrive { a } => push_message(out, a.n, a.env.tag, a.env.len),
+        Happened::Send {
+            n,
+            tag,
+            ctx,
+            len,
+            ..
+        } => push_message(out, *n, *tag, *len, *ctx),
+        Happened::Post { post, .. } => push_receive(out, post),
+        Happened::Arrive { a } => push_message(out, a.n, a.env.tag, a.env.len, a.env.ctx),
         Happened::Whole { from, n } => push_joined(out, "m", *n, " of ", u64::from(*from)),
         Happened::Out { to, n } => push_joined(out, "m", *n, " to ", u64::from(*to)),
         Happened::Cancel { number, done } => push_cancel(out, *number, *done),
@@ -183,7 +224,33 @@ fn push_tag(
     )
 }
 
-/// Writes the label of an event.
+/// Whether a label is drawn: whether its letters have room.
+fn is_drawn(frame: &Frame, words: &str) -> bool
+    ensures { result ≡ is_drawn_lem frame.now words.now }
+{
+    let gap = gap_of(frame);
+    gap >= 70 || gap >= 30 && words.len() as u64 <= (gap / 2 + 2) / 3
+}
+
+/// Writes a label with its words.
+#[tactic(auto, unfolding(crate::specs::Pictures::drawn_text))]
+fn push_drawn(
+    out: &mut String,
+    frame: &Frame,
+    rank: u8,
+    event: &Event,
+    words: &str,
+) -> Result<(), AllocError>
+    requires told { words.now ≡ label_of event.now.what }
+    ensures ok { OnOk result (string_bytes out.new
+        ≡ string_bytes out.old ++ drawn_text frame.now (labelled rank event.now)) }
+{
+    push_tag(out, frame, rank, event, words)?;
+    push_escaped(out, words)?;
+    out.push_str("</text>\n")
+}
+
+/// Writes the label of an event, where it has room.
 #[tactic(auto, unfolding(crate::specs::Pictures::label_text))]
 fn push_label(
     alloc: Global,
@@ -196,9 +263,11 @@ fn push_label(
         ≡ string_bytes out.old ++ label_text frame.now (labelled rank event.now)) }
 {
     let words = short_words(alloc, event)?;
-    push_tag(out, frame, rank, event, words.as_str())?;
-    push_escaped(out, words.as_str())?;
-    out.push_str("</text>\n")
+    if is_drawn(frame, words.as_str()) {
+        push_drawn(out, frame, rank, event, words.as_str())
+    } else {
+        Ok(())
+    }
 }
 
 /// What an event tells in short.
@@ -245,8 +314,8 @@ fn push_labels_of_rank(
     Ok(())
 }
 
-/// Writes the labels of all events that are shown, rank by rank.
-fn push_all_labels(
+/// Writes the labels of all events that are shown, rank by rank, where they have room.
+pub fn push_labels(
     alloc: Global,
     out: &mut String,
     frame: &Frame,
@@ -260,23 +329,4 @@ fn push_all_labels(
         push_labels_of_rank(alloc, out, frame, rank as u8, account)?;
     }
     Ok(())
-}
-
-/// Writes the labels, where they have room.
-#[tactic(auto, unfolding(crate::specs::Pictures::labels_text))]
-pub fn push_labels(
-    alloc: Global,
-    out: &mut String,
-    frame: &Frame,
-    ranks: &[RankAccount],
-) -> Result<(), AllocError>
-    requires few { length ranks.now ≤ 256 }
-    ensures ok { OnOk result
-        (string_bytes out.new ≡ string_bytes out.old ++ labels_text frame.now ranks.now) }
-{
-    if is_roomy(frame) {
-        push_all_labels(alloc, out, frame, ranks)
-    } else {
-        Ok(())
-    }
 }

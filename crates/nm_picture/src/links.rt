@@ -2,7 +2,7 @@
 
 ghost use Rattle.std.specs.Prelude.{◌≡◌, ◌≤◌, ◌++◌, OnOk, flat_map, length, string_bytes};
 ghost use Rattle.nm_diagram.specs.Links.{all_links, link_of, links_among, links_of};
-ghost use Rattle.nm_picture.specs.Pictures.{bend_of, bow_text, bow_x, link_text, link_title};
+ghost use Rattle.nm_picture.specs.Pictures.{bend_of, bow_at, bow_text, bow_x, link_text, link_title};
 ghost use Rattle.nm_picture.specs.Pictures.{span_of};
 
 use crate::places::{gap_of, x_of, y_of};
@@ -41,8 +41,18 @@ fn bow_of(frame: &Frame, link: &Link) -> u64
     x_of(frame, link.lane) - bend(frame, link)
 }
 
+/// Writes the tag of a bow at a line, between two heights.
+#[tactic(auto, unfolding(crate::specs::Pictures::bow_at))]
+fn push_bow_at(out: &mut String, x: u64, bow: u64, y1: u64, y2: u64) -> Result<(), AllocError>
+    ensures ok { OnOk result (string_bytes out.new ≡ string_bytes out.old ++ bow_at x bow y1 y2) }
+{
+    write!(
+        out,
+        "<path class=\"link\" d=\"M {x} {y1} C {bow} {y1} {bow} {y2} {x} {y2}\">"
+    )
+}
+
 /// Writes the tag of a link.
-#[tactic(auto, unfolding(crate::specs::Pictures::bow_text))]
 fn push_bow(out: &mut String, frame: &Frame, link: &Link) -> Result<(), AllocError>
     ensures ok { OnOk result (string_bytes out.new ≡ string_bytes out.old ++ bow_text frame.now link.now) }
 {
@@ -50,10 +60,7 @@ fn push_bow(out: &mut String, frame: &Frame, link: &Link) -> Result<(), AllocErr
     let bow = bow_of(frame, link);
     let y1 = y_of(frame, link.received);
     let y2 = y_of(frame, link.arrived);
-    write!(
-        out,
-        "<path class=\"link\" d=\"M {x} {y1} C {bow} {y1} {bow} {y2} {x} {y2}\">"
-    )
+    push_bow_at(out, x, bow, y1, y2)
 }
 
 /// Writes the title of a link.

@@ -4,11 +4,10 @@ ghost use Rattle.std.specs.Prelude.{◌≡◌, ◌≤◌, ◌++◌, OnOk, false,
 ghost use Rattle.std.specs.Prelude.{length, string_bytes};
 ghost use Rattle.nm_diagram.specs.Diagrams.{all_lanes, lane_of, lanes_at};
 ghost use Rattle.std.specs.List.{range_with_len};
-ghost use Rattle.nm_picture.specs.Pictures.{head_text, lane_text, left_out_text, line_text};
+ghost use Rattle.nm_picture.specs.Pictures.{head_text, lane_text, lane_words, left_out_text};
 ghost use Rattle.nm_picture.specs.Pictures.{name_count, name_text, note_text};
-ghost use Rattle.nm_picture.specs.Pictures.{process_line, rank_label, size_text};
-ghost use Rattle.nm_picture.specs.Pictures.{wait_label};
-ghost use Rattle.nm_picture.specs.Pictures.{wait_sign, wait_sign_at, wait_text};
+ghost use Rattle.nm_picture.specs.Pictures.{process_line, rank_label, rank_labels, size_text, wait_label};
+ghost use Rattle.nm_picture.specs.Pictures.{wait_sign, wait_sign_at, wait_text, wait_words};
 
 use crate::places::{foot, row_of, shortened, top, width, x_of};
 use nm_diagram::Frame;
@@ -35,7 +34,7 @@ fn push_wait_sign(out: &mut String, frame: &Frame, rank: u8, line: u32) -> Resul
     push_wait_sign_at(out, x_of(frame, rank), foot(frame), line)
 }
 
-/// Writes the words beside it.
+/// Writes the words below the name of a rank that waits.
 #[tactic(auto, unfolding(crate::specs::Pictures::wait_label))]
 fn push_wait_label(out: &mut String, frame: &Frame, rank: u8, line: u32) -> Result<(), AllocError>
     ensures ok { OnOk result (string_bytes out.new
@@ -50,7 +49,7 @@ fn push_wait_label(out: &mut String, frame: &Frame, rank: u8, line: u32) -> Resu
     )
 }
 
-/// Writes where a rank waits.
+/// Writes the sign where a rank waits.
 #[tactic(auto, unfolding(crate::specs::Pictures::wait_text))]
 fn push_wait(
     out: &mut String,
@@ -62,10 +61,24 @@ fn push_wait(
         (string_bytes out.new ≡ string_bytes out.old ++ wait_text frame.now rank waits) }
 {
     match waits {
-        Some(line) => {
-            push_wait_sign(out, frame, rank, line)?;
-            push_wait_label(out, frame, rank, line)
-        }
+        Some(line) => push_wait_sign(out, frame, rank, line),
+        None => Ok(()),
+    }
+}
+
+/// Writes the line of the command that can't go on.
+#[tactic(auto, unfolding(crate::specs::Pictures::wait_words))]
+fn push_wait_words(
+    out: &mut String,
+    frame: &Frame,
+    rank: u8,
+    waits: Option<u32>,
+) -> Result<(), AllocError>
+    ensures ok { OnOk result
+        (string_bytes out.new ≡ string_bytes out.old ++ wait_words frame.now rank waits) }
+{
+    match waits {
+        Some(line) => push_wait_label(out, frame, rank, line),
         None => Ok(()),
     }
 }
@@ -114,7 +127,7 @@ fn push_name(out: &mut String, frame: &Frame, rank: u8, k: u32) -> Result<(), Al
     ensures ok { OnOk result
         (string_bytes out.new ≡ string_bytes out.old ++ name_text frame.now rank k) }
 {
-    push_rank_label(out, frame, rank, row_of(40 * k as u64) - 20)
+    push_rank_label(out, frame, rank, row_of(frame, 40 * k as u64) - 20)
 }
 
 /// Writes the name of a rank before each fortieth row.
@@ -129,19 +142,18 @@ fn push_names(out: &mut String, frame: &Frame, rank: u8) -> Result<(), AllocErro
     Ok(())
 }
 
-/// Writes the line of a rank, with its name at both ends and before each fortieth row.
-#[tactic(auto, unfolding(crate::specs::Pictures::line_text))]
-fn push_line(out: &mut String, frame: &Frame, rank: u8) -> Result<(), AllocError>
+/// Writes the name of a rank at both ends of its line and before each fortieth row.
+#[tactic(auto, unfolding(crate::specs::Pictures::rank_labels))]
+fn push_rank_labels(out: &mut String, frame: &Frame, rank: u8) -> Result<(), AllocError>
     ensures ok { OnOk result
-        (string_bytes out.new ≡ string_bytes out.old ++ line_text frame.now rank) }
+        (string_bytes out.new ≡ string_bytes out.old ++ rank_labels frame.now rank) }
 {
-    push_process(out, frame, rank)?;
     push_rank_label(out, frame, rank, 56)?;
     push_rank_label(out, frame, rank, foot(frame) + 24)?;
     push_names(out, frame, rank)
 }
 
-/// Writes the line of a rank, and where it waits.
+/// Writes the line of a rank, and the sign where it waits.
 #[tactic(auto, unfolding(crate::specs::Pictures::lane_text))]
 fn push_lane(
     out: &mut String,
@@ -152,8 +164,23 @@ fn push_lane(
     ensures ok { OnOk result (string_bytes out.new
         ≡ string_bytes out.old ++ flat_map (lane_text frame.now) (lane_of rank account.now)) }
 {
-    push_line(out, frame, rank)?;
+    push_process(out, frame, rank)?;
     push_wait(out, frame, rank, account.waits)
+}
+
+/// Writes the names of a rank, and where it waits.
+#[tactic(auto, unfolding(crate::specs::Pictures::lane_words))]
+fn push_words(
+    out: &mut String,
+    frame: &Frame,
+    rank: u8,
+    account: &RankAccount,
+) -> Result<(), AllocError>
+    ensures ok { OnOk result (string_bytes out.new
+        ≡ string_bytes out.old ++ flat_map (lane_words frame.now) (lane_of rank account.now)) }
+{
+    push_rank_labels(out, frame, rank)?;
+    push_wait_words(out, frame, rank, account.waits)
 }
 
 /// Whether a rank is chosen.
@@ -188,6 +215,39 @@ pub fn push_lanes(out: &mut String, frame: &Frame, ranks: &[RankAccount]) -> Res
 {
     for (rank, account) in ranks.iter().enumerate() {
         push_if_chosen(out, frame, rank as u8, account)?;
+    }
+    Ok(())
+}
+
+/// Writes the names of a rank, if it is chosen.
+fn push_words_if_chosen(
+    out: &mut String,
+    frame: &Frame,
+    rank: u8,
+    account: &RankAccount,
+) -> Result<(), AllocError>
+    ensures ok { OnOk result (string_bytes out.new ≡ string_bytes out.old
+        ++ flat_map (lane_words frame.now) (lanes_at frame.now.chosen rank account.now)) }
+{
+    if is_chosen(frame, rank) {
+        push_words(out, frame, rank, account)
+    } else {
+        Ok(())
+    }
+}
+
+/// Writes the names of the chosen ranks.
+pub fn push_all_words(
+    out: &mut String,
+    frame: &Frame,
+    ranks: &[RankAccount],
+) -> Result<(), AllocError>
+    requires few { length ranks.now ≤ 256 }
+    ensures ok { OnOk result (string_bytes out.new ≡ string_bytes out.old
+        ++ flat_map (lane_words frame.now) (all_lanes frame.now.chosen ranks.now)) }
+{
+    for (rank, account) in ranks.iter().enumerate() {
+        push_words_if_chosen(out, frame, rank as u8, account)?;
     }
     Ok(())
 }

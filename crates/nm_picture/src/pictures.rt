@@ -2,7 +2,7 @@
 
 ghost use Rattle.std.specs.Prelude.{◌≡◌, ◌≤◌, ◌++◌, IfOk, OnOk, length, string_bytes};
 ghost use Rattle.nm_picture.specs.Pictures.{IsPictureIn, IsPictureOf, arrows_text, front_text};
-ghost use Rattle.nm_picture.specs.Pictures.{marks_text, picture_text, shapes_text};
+ghost use Rattle.nm_picture.specs.Pictures.{marks_text, picture_text, shapes_text, words_text};
 ghost use Rattle.nm_picture.specs.Flags.{IsFlaggedIn, flagged_text};
 ghost use Rattle.nm_picture.specs.Sheet.{sheet_text};
 
@@ -13,7 +13,7 @@ use crate::labels::push_labels;
 use crate::legend::push_legend;
 use crate::links::push_links;
 use crate::marks::push_marks;
-use crate::outlines::{push_lanes, push_left_out, push_size};
+use crate::outlines::{push_all_words, push_lanes, push_left_out, push_size};
 use crate::returns::push_returns;
 use crate::rings::push_rings;
 use crate::sheet::SHEET;
@@ -67,9 +67,20 @@ fn push_back(
     push_rings(alloc, out, frame, ranks)
 }
 
-/// Writes the arrows, the ways of withdrawals, and the labels.
+/// Writes the arrows, and the ways of withdrawals.
 #[tactic(auto, unfolding(crate::specs::Pictures::arrows_text))]
-fn push_fore(
+fn push_fore(out: &mut String, frame: &Frame, ranks: &[RankAccount]) -> Result<(), AllocError>
+    requires few { length ranks.now ≤ 256 }
+    ensures ok { OnOk result
+        (string_bytes out.new ≡ string_bytes out.old ++ arrows_text frame.now ranks.now) }
+{
+    push_arrows(out, frame, ranks)?;
+    push_returns(out, frame, ranks)
+}
+
+/// Writes the labels, and the names of the ranks.
+#[tactic(auto, unfolding(crate::specs::Pictures::words_text))]
+fn push_words(
     alloc: Global,
     out: &mut String,
     frame: &Frame,
@@ -78,14 +89,13 @@ fn push_fore(
     requires few { length ranks.now ≤ 256 }
     requires lanes { frame.now.lanes ≤ length ranks.now }
     ensures ok { OnOk result
-        (string_bytes out.new ≡ string_bytes out.old ++ arrows_text frame.now ranks.now) }
+        (string_bytes out.new ≡ string_bytes out.old ++ words_text frame.now ranks.now) }
 {
-    push_arrows(out, frame, ranks)?;
-    push_returns(out, frame, ranks)?;
-    push_labels(alloc, out, frame, ranks)
+    push_labels(alloc, out, frame, ranks)?;
+    push_all_words(out, frame, &ranks[..frame.lanes as usize])
 }
 
-/// Writes the shapes, the lines first, and the arrows in front of the marks.
+/// Writes the shapes: the lines first, the arrows in front of the marks, and the words in front of all.
 #[tactic(auto, unfolding(crate::specs::Pictures::shapes_text))]
 fn push_shapes(
     alloc: Global,
@@ -99,7 +109,8 @@ fn push_shapes(
         (string_bytes out.new ≡ string_bytes out.old ++ shapes_text frame.now ranks.now) }
 {
     push_back(alloc, out, frame, ranks)?;
-    push_fore(alloc, out, frame, ranks)
+    push_fore(out, frame, ranks)?;
+    push_words(alloc, out, frame, ranks)
 }
 
 /// Writes the whole picture.

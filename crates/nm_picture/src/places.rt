@@ -1,6 +1,6 @@
 //! Where things stand: how far from the left and from the top.
 
-ghost use Rattle.std.specs.Prelude.{◌≡◌, ◌≤◌, count_by, length, take};
+ghost use Rattle.std.specs.Prelude.{◌≡◌, ◌≤◌, count_by, length, not, take};
 ghost use Rattle.nm_picture.specs.Pictures.{column_of as column_of_lem, foot_y, has_room, lane_gap, lane_x, row_y, short, stamp_y};
 ghost use Rattle.nm_picture.specs.Pictures.{top_of, width_of};
 
@@ -26,7 +26,7 @@ fn count_chosen(ranks: &[bool]) -> usize
     count
 }
 
-/// The first so many of these ranks, or all.
+/// The first so many of these ranks or rows, or all.
 fn front(ranks: &[bool], most: usize) -> &[bool]
     ensures value { result.now ≡ take most ranks.now }
     ensures within { length result.now ≤ length ranks.now }
@@ -50,11 +50,11 @@ pub fn gap_of(frame: &Frame) -> u64
     (1240 / (column_of(frame, frame.lanes) + 1)).min(150)
 }
 
-/// Whether labels have room between the lines of ranks.
-pub fn is_roomy(frame: &Frame) -> bool
+/// Whether the names of ranks have room between their lines, with a word before each number.
+fn is_roomy(frame: &Frame) -> bool
     ensures { result ≡ has_room frame.now }
 {
-    gap_of(frame) >= 70
+    gap_of(frame) >= 50
 }
 
 /// A word, or nothing where there is no room for it.
@@ -72,13 +72,30 @@ pub fn x_of(frame: &Frame, rank: u8) -> u64
     340 + gap_of(frame) * column_of(frame, rank as u16)
 }
 
+/// How many of these rows are pressed: have no event that tells more than a start.
+fn count_pressed(rows: &[bool]) -> usize
+    ensures value { result ≡ count_by (λ full. not full) rows.now }
+    ensures within { result ≤ length rows.now }
+{
+    let mut count = 0usize;
+    for full in rows {
+        if !*full {
+            count += 1;
+        }
+    }
+    count
+}
+
 /// How far from the top a row stands.
-pub fn row_of(row: u64) -> u64
-    ensures value { result ≡ row_y row }
-    ensures within { (70 ≤ result) × (result ≤ 20000000) }
+pub fn row_of(frame: &Frame, row: u64) -> u64
+    ensures value { result ≡ row_y frame.now row }
+    ensures within { (70 ≤ result) × (result ≤ 17000000) }
 {
     let row = row.min(MAX_ROW);
-    70 + 18 * row + 30 * (row / 40)
+    let pressed = count_pressed(front(&frame.full, row as usize)) as u64;
+    (70 + 16 * row + 30 * (row / 40))
+        .saturating_sub(6 * pressed)
+        .max(70)
 }
 
 /// The stamp before the first one of a picture, where the lines of the ranks begin.
@@ -92,9 +109,9 @@ pub fn top(frame: &Frame) -> u32
 /// How far from the top a stamp stands.
 pub fn y_of(frame: &Frame, stamp: u64) -> u64
     ensures value { result ≡ stamp_y frame.now stamp }
-    ensures within { (70 ≤ result) × (result ≤ 20000000) }
+    ensures within { (70 ≤ result) × (result ≤ 17000000) }
 {
-    row_of(stamp.saturating_sub(top(frame) as u64))
+    row_of(frame, stamp.saturating_sub(top(frame) as u64))
 }
 
 /// Where the lines of the ranks end.
@@ -102,7 +119,7 @@ pub fn foot(frame: &Frame) -> u64
     ensures value { result ≡ foot_y frame.now }
     ensures within { result ≤ 20000000 }
 {
-    y_of(frame, frame.bottom as u64 + 1)
+    y_of(frame, frame.bottom as u64) + 16
 }
 
 /// How wide the picture is.

@@ -26,7 +26,7 @@ text { fill: currentColor; }
 .ink { color: #1a1a1a; }
 .solid { fill: currentColor; }
 .hollow, .stroke { stroke: currentColor; }
-.rank, .label { paint-order: stroke; stroke: #ffffff; stroke-width: 3; stroke-linejoin: round; }
+.rank, .waits, .label { paint-order: stroke; stroke: #ffffff; stroke-width: 3; stroke-linejoin: round; }
 .axis, .label { font-size: 9px; }
 .label { font-family: monospace; }
 .axis { text-anchor: end; }
@@ -46,7 +46,7 @@ svg { background: #161616; color: #ececec; }
 .red { color: #ff7a2b; }
 .purple { color: #cc79a7; }
 .ink { color: #ececec; }
-.rank, .label { stroke: #161616; }
+.rank, .waits, .label { stroke: #161616; }
 .grid { stroke: #303030; }
 }
 @page { size: landscape; margin: 8mm; }
@@ -55,7 +55,7 @@ svg { background: #ffffff; color: #000000; max-width: 100%; height: auto; }
 .waits { fill: #000000; }
 .lane { stroke: #000000; }
 .eager, .ask, .link, .back { stroke: #000000; }
-.link { stroke-dasharray: 2 2; }
+.link { stroke: #707070; stroke-width: 0.7; }
 .blue, .orange, .green, .red, .purple, .ink { color: #000000; }
 .grid { stroke: #c8c8c8; }
 }
@@ -86,6 +86,6 @@ svg { background: #ffffff; color: #000000; max-width: 100%; height: auto; }
 </defs>
 <text class=\"note\" x=\"20\" y=\"26\">Space-time diagram of a run</text>
 <text x=\"20\" y=\"46\">Time runs downwards, by stamps.</text>
-<text x=\"20\" y=\"62\">m message, t tag, b bytes, r receive;</text>
-<text x=\"20\" y=\"78\">a number alone: a line of the script.</text>
+<text x=\"20\" y=\"62\">m message, r receive, &lt; source, t tag, b bytes,</text>
+<text x=\"20\" y=\"78\">c context; a number alone: a line of the script.</text>
 ";

@@ -5,7 +5,7 @@ use Rattle.nm_report.proofs.Written.{next_written}
 use Rattle.nm_diagram.specs.Diagrams.{from_lane}
 use Rattle.nm_diagram.specs.Labels.{labels_of}
 use Rattle.nm_picture.specs.Pictures.{label_text}
-use Rattle.nm_picture.proofs.labels.push_all_labels.Goals as goal
+use Rattle.nm_picture.proofs.labels.push_labels.Goals as goal
 
 pub loop-rank-preserved : goal.loop-rank-preserved
 loop-rank-preserved c =

@@ -2,7 +2,7 @@ use Rattle.std.proofs.Common.{◌≡◌, ◌++◌, drop, flat_map, string_bytes}
 use Rattle.nm_diagram.specs.Diagrams.{from_lane}
 use Rattle.nm_diagram.specs.Labels.{labels_of}
 use Rattle.nm_picture.specs.Pictures.{label_text}
-use Rattle.nm_picture.proofs.labels.push_all_labels.Given as goal
+use Rattle.nm_picture.proofs.labels.push_labels.Given as goal
 
 -- what is written and what is still to write are all
 abbrev pub invariant-loop-rank : goal.invariant-loop-rank
