@@ -1,0 +1,2 @@
+mod WithinLemmas
+mod PageLemmas
