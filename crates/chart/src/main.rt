@@ -1,8 +1,8 @@
-//! Traces on standard input, pictures on standard output.
+//! Traces on standard input, pictures and pages on standard output.
 #![tactic(auto)]
 
 use nm_chart::check::chart_check;
-use nm_chart::{chart, chart_part};
+use nm_chart::{Form, chart, chart_part};
 use nm_outside::{RealSink, RealSource};
 use std::io::ErrorKind;
 use std::process::ExitCode;
@@ -35,12 +35,15 @@ fn main(rt: HostRuntime) -> ExitCode {
     };
     let mut source = RealSource::new(rt.stdin());
     let mut sink = RealSink::new(io::writer(&rt));
-    let status = match words.first() {
+    let status = match words.split_first() {
         None => chart(rt.alloc(), &words, &mut source, &mut sink),
-        Some(word) if word.as_bytes() == b"check".as_slice() => {
+        Some((word, _)) if word.as_bytes() == b"check".as_slice() => {
             chart_check(rt.alloc(), &words, &mut source, &mut sink)
         }
-        Some(_) => chart_part(rt.alloc(), &words, &mut source, &mut sink),
+        Some((word, rest)) if word.as_bytes() == b"--html".as_slice() => {
+            chart_part(rt.alloc(), Form::Page, rest, &mut source, &mut sink)
+        }
+        Some(_) => chart_part(rt.alloc(), Form::Picture, &words, &mut source, &mut sink),
     };
     ExitCode::from(status)
 }

@@ -1,5 +1,5 @@
 -- How the program ends: what was said, with which status.
-use Rattle.std.specs.Prelude.{◌≡◌, ℕ, ◌<◌, ◌≤◌, ◌⊎◌, List, Option, codes, length}
+use Rattle.std.specs.Prelude.{◌≡◌, ℕ, ◌<◌, ◌≤◌, ◌⊎◌, List, ◌++◌, Option, codes, length}
 use Rattle.nm_outside.specs.Told.{Appends}
 use Rattle.nm_types.specs.Sizes.{Sizes}
 use Rattle.nm_report.specs.declared.records.RunRecord.{RunRecord}
@@ -28,9 +28,11 @@ IsBadTrace bytes line =
     ((67108864 < length bytes) × (line ≡ 0))
     ⊎ ((length bytes ≤ 67108864) × IsFirstBad widest bytes line)
 
--- what is said of words
+-- what is said of words that are not taken
 abbrev pub usage : List ℕ
-usage = codes "usage: chart <TRACE >PICTURE\n"
+usage =
+    codes "usage: chart [--html] [--from STAMP] [--to STAMP] [--ranks A,B,..] [--of N] <TRACE >PICTURE\n"
+    ++ codes "       chart check [--cells N] [--eager N] <SCRIPT_AND_TRACE >PICTURE\n"
 
 -- the bytes are no trace, and their first bad line was said
 pub record IsRefused (bytes : List ℕ) (old new : Option (List ℕ)) : Type 0 where

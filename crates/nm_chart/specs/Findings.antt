@@ -15,7 +15,7 @@ use Rattle.nm_picture.specs.declared.flags.Flag.TheVariants as flag
 use Rattle.nm_picture.specs.Flags.{IsFlaggedIn}
 use Rattle.nm_check.specs.Done.{Ending}
 use Rattle.nm_chart.specs.Given.{IsReadFor, IsSaid}
-use Rattle.nm_chart.specs.Endings.{widest}
+use Rattle.nm_chart.specs.Endings.{usage, widest}
 use Rattle.nm_check.specs.Answers.{IsAsked, NotAsked, read_of, unread}
 use Rattle.nm_check.specs.Found.{IsFound}
 use Rattle.nm_check.specs.declared.breaks.finding.Found.{Found}
@@ -41,10 +41,6 @@ flag_of ranks (place.Event rank at line command) = flag_at rank at line (slice_g
 flag_of ranks (place.Behind rank) = Some (flag.Behind rank)
 flag_of ranks (place.Standing rank waits) = Some (flag.Behind rank)
 flag_of ranks _ = None
-
--- what is said of words that are not taken
-abbrev pub usage : List ℕ
-usage = codes "usage: chart check [--cells N] [--eager N] <SCRIPT_AND_TRACE >PICTURE\n"
 
 -- what is said of a script or a trace that is none
 abbrev pub fault_text : List ℕ → ℕ → List ℕ

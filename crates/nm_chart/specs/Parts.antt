@@ -1,5 +1,5 @@
 -- What the program answers where it has words: the picture of the part that they ask for.
-use Rattle.std.specs.Prelude.{◌≡◌, ℕ, ◌<◌, Bool, true, false, List, IfSome, Option, Some, None, codes}
+use Rattle.std.specs.Prelude.{◌≡◌, ℕ, ◌<◌, Bool, true, false, List, IfSome, Option, Some, None}
 use Rattle.std.specs.Prelude.{get_or, length}
 use Rattle.nm_outside.specs.Told.{Rose}
 use Rattle.nm_report.specs.declared.accounts.RankAccount.{RankAccount}
@@ -7,12 +7,15 @@ use Rattle.nm_report.specs.declared.records.RunRecord.{RunRecord}
 use Rattle.nm_diagram.specs.declared.frames.Part.{Part}
 use Rattle.nm_diagram.specs.Frames.{IsSilent}
 use Rattle.nm_picture.specs.Pictures.{IsPictureIn}
+use Rattle.nm_page.specs.Pages.{IsPageIn}
 use Rattle.nm_check.specs.Done.{Ending}
 use Rattle.nm_chart.specs.Given.{IsReadFor, IsSaid}
 use Rattle.nm_chart.specs.PartWords.{InRange, asked_of}
+use Rattle.nm_chart.specs.declared.outcomes.Form.{Form}
+use Rattle.nm_chart.specs.declared.outcomes.Form.TheVariants.{Picture, Page}
 use Rattle.nm_chart.specs.declared.outcomes.Outcome.{Outcome}
 use Rattle.nm_chart.specs.declared.outcomes.Outcome.TheVariants.{Usage, Unread, Refused, Drawn}
-use Rattle.nm_chart.specs.Endings.{IsBadTrace, IsTraceOfOne}
+use Rattle.nm_chart.specs.Endings.{IsBadTrace, IsTraceOfOne, usage}
 use Rattle.nm_check.specs.Texts.{trace_fault_text}
 use Rattle.nm_check.specs.Answers.{read_of, unread}
 
@@ -27,16 +30,17 @@ pub record AreKept (chosen : List Bool) (old new : List RankAccount) : Type 0 wh
   pub each : (rank : ℕ) (none : RankAccount) → rank < length old →
       IsKept (get_or chosen rank false) (get_or old rank none) (get_or new rank none)
 
--- what is said of words that are not taken
-abbrev pub part_usage : List ℕ
-part_usage = codes "usage: chart [--from STAMP] [--to STAMP] [--ranks A,B,..] [--of N] <TRACE >PICTURE\n"
+-- the text shows this part of a run, by its picture or by the page that holds it
+abbrev pub Shows : Form → Part → RunRecord → List ℕ → Type 0
+Shows Picture part run text = IsPictureIn part run text
+Shows Page part run text = IsPageIn part run text
 
 -- the text is that of the outcome
-abbrev pub Says : Outcome → List ℕ → Type 0
-Says Usage text = text ≡ part_usage
-Says Unread text = text ≡ unread
-Says (Refused line) text = text ≡ trace_fault_text line
-Says (Drawn run part) text = IsPictureIn part run text
+abbrev pub Says : Form → Outcome → List ℕ → Type 0
+Says form Usage text = text ≡ usage
+Says form Unread text = text ≡ unread
+Says form (Refused line) text = text ≡ trace_fault_text line
+Says form (Drawn run part) text = Shows form part run text
 
 -- the status of an outcome that was written
 abbrev pub outcome_status : Outcome → ℕ
@@ -77,8 +81,9 @@ abbrev pub WasQuiet : Outcome → Type 0
 WasQuiet Unread = ⊥
 WasQuiet _ = Unit {0}
 
--- `chart_part` ends with this outcome: it is right, the source was read for it, and it was said
-pub record ChartsPart (e : Ending) (outcome : Outcome) : Type 0 where
+-- `chart_part` ends with this outcome, said in this form: it is right, and the source was read for it
+pub record ChartsPart (form : Form) (e : Ending) (outcome : Outcome) : Type 0 where
   pub right : IsOutcome e.words e.input e.read_old e.read_new outcome
   pub read : IsReadFor (WasQuiet outcome) (WasTaken outcome) e.input e.left e.read_old e.read_new
-  pub said : IsSaid (Says outcome) (outcome_status outcome) e.status e.before e.after (Rose e.write_old e.write_new)
+  pub said :
+      IsSaid (Says form outcome) (outcome_status outcome) e.status e.before e.after (Rose e.write_old e.write_new)

@@ -22,8 +22,10 @@ pub enum Response {
     Drawn { run: RunRecord },
 }
 
-/// What is said of words.
-const USAGE: &str = "usage: chart <TRACE >PICTURE
+/// What is said of words that are not taken.
+pub const USAGE: &str =
+    "usage: chart [--html] [--from STAMP] [--to STAMP] [--ranks A,B,..] [--of N] <TRACE >PICTURE
+       chart check [--cells N] [--eager N] <SCRIPT_AND_TRACE >PICTURE
 ";
 
 /// The bytes of a line.

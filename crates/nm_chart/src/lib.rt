@@ -2,12 +2,12 @@
 //!
 //! `chart` is the top call. It takes the words of the command line, of which there are none, reads a
 //! trace, and writes its picture to the sink. `chart_part` is the one where there are words: it
-//! writes the picture of the part that they ask for (`words`). `check` has the call that takes a script
+//! writes the picture of the part that they ask for (`words`), or the page that holds it. `check` has the call that takes a script
 //! and a trace in one text, and marks in the picture where the trace breaks a rule first.
 //!
 //! # What a contract sees
 //! Bytes as a list of numbers, the record that a trace's bytes stand for, and the text of its
-//! picture (`nm_picture`). Each of the three calls says by one relation, `IsDone`, that what is due is
+//! picture (`nm_picture`) or page (`nm_page`). Each of the three calls says by one relation, `IsDone`, that what is due is
 //! said and nothing else (`Charts`, `ChartsPart`, `ChartsCheck`).
 //! # What is proved
 //! - Status 0 exactly where the bytes are the trace of a record, and then what was written is the
@@ -35,4 +35,5 @@ mod parts;
 pub mod words;
 
 pub use charts::chart;
+pub use outcomes::Form;
 pub use parts::chart_part;

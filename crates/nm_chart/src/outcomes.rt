@@ -1,12 +1,13 @@
 //! What there is to say of a part, and how it is said.
 
-ghost use Rattle.std.specs.Prelude.{◌≡◌, IfOk};
-ghost use Rattle.nm_chart.specs.Parts.{CanBeShown, Says};
+ghost use Rattle.std.specs.Prelude.{◌≡◌, ◌≤◌, IfOk, length};
+ghost use Rattle.nm_chart.specs.Parts.{CanBeShown, Says, Shows};
 ghost use Rattle.nm_chart.specs.Parts.{outcome_status as outcome_status_lem};
 
-use crate::answers::line;
+use crate::answers::{USAGE, line};
 use nm_check::checked::trace_fault_text;
 use nm_diagram::Part;
+use nm_page::page_in;
 use nm_picture::picture_in;
 use nm_report::RunRecord;
 use nm_types::Memory;
@@ -25,21 +26,38 @@ pub enum Outcome {
     Drawn { run: RunRecord, part: Part },
 }
 
-/// What is said of words that are not taken.
-const USAGE: &str =
-    "usage: chart [--from STAMP] [--to STAMP] [--ranks A,B,..] [--of N] <TRACE >PICTURE
-";
+/// As what a part is drawn.
+#[derive(Clone, Copy)]
+pub enum Form {
+    /// One SVG.
+    Picture,
+    /// One page of HTML, which holds it.
+    Page,
+}
+
+/// The text that shows a part of a run.
+fn shown(alloc: Global, form: Form, run: &RunRecord, part: Part) -> Result<Vec<u8>, Memory>
+    requires few { length run.now.ranks ≤ 256 }
+    requires in_range { (part.span.first ≤ 1000000) × (part.span.end ≤ 1000001) }
+    requires lanes { part.lanes ≤ length run.now.ranks }
+    ensures { IfOk result (λ text. Shows form part run.now text.items) }
+{
+    match form {
+        Form::Picture => picture_in(alloc, run, part),
+        Form::Page => page_in(alloc, run, part),
+    }
+}
 
 /// The text of an outcome, whole and in memory.
-pub fn outcome_text(alloc: Global, outcome: &Outcome) -> Result<Vec<u8>, Memory>
+pub fn outcome_text(alloc: Global, form: Form, outcome: &Outcome) -> Result<Vec<u8>, Memory>
     requires { CanBeShown outcome.now }
-    ensures { IfOk result (λ text. Says outcome.now text.items) }
+    ensures { IfOk result (λ text. Says form outcome.now text.items) }
 {
     match outcome {
         Outcome::Usage => Ok(line(alloc, USAGE)?),
         Outcome::Unread => Ok(line(alloc, "fault read\n")?),
         Outcome::Refused { line } => Ok(trace_fault_text(alloc, *line)?),
-        Outcome::Drawn { run, part } => picture_in(alloc, run, *part),
+        Outcome::Drawn { run, part } => shown(alloc, form, run, *part),
     }
 }
 

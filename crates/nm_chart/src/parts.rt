@@ -11,7 +11,7 @@ ghost use Rattle.nm_chart.specs.Parts.{WasTaken, outcome_status as status_lem};
 use crate::answers::Response;
 use crate::charts::{MAX_TRACE, SINK_FAILED, WANT_OF_MEMORY, read_bytes};
 use crate::choosing::keep_chosen;
-use crate::outcomes::{Outcome, outcome_status, outcome_text};
+use crate::outcomes::{Form, Outcome, outcome_status, outcome_text};
 use nm_diagram::Part;
 use nm_outside::{Sink, Source, Unread, read_up_to, write_all};
 use nm_types::Memory;
@@ -61,9 +61,9 @@ fn find_outcome<S: Source>(
 }
 
 // Writes what is due to the sink, and answers the status.
-fn deliver_outcome<K: Sink>(sink: &mut K, due: &[u8], outcome: &Outcome) -> u8
-    requires { Says outcome.now due.now }
-    ensures said { IsSaid (Says outcome.now) (status_lem outcome.now) result (K.taken sink.old)
+fn deliver_outcome<K: Sink>(sink: &mut K, form: Form, due: &[u8], outcome: &Outcome) -> u8
+    requires { Says form outcome.now due.now }
+    ensures said { IsSaid (Says form outcome.now) (status_lem outcome.now) result (K.taken sink.old)
         (K.taken sink.new) (Rose (K.faults sink.old) (K.faults sink.new)) }
     ensures quiet { (result ≡ 5) ⊎ (K.faults sink.new ≡ K.faults sink.old) }
 {
@@ -74,22 +74,23 @@ fn deliver_outcome<K: Sink>(sink: &mut K, due: &[u8], outcome: &Outcome) -> u8
 }
 
 /// Does all that the program does where it has words: reads a trace of the source, and writes the
-/// picture of the part that the words ask for to the sink.
+/// picture of the part that the words ask for to the sink, or the page that holds it.
 ///
-/// The words are those of the command line without the program's name: options, as `nm_chart::words`
-/// reads them. The status is 0 where the picture was written, 2 where the words are not taken, 4
+/// The words are those of the command line without the program's name, and without `--html`, which
+/// stands first and asks for a page: options, as `nm_chart::words` reads them. The status is 0 where the picture was written, 2 where the words are not taken, 4
 /// where a read failed, 5 where a write failed, 6 for want of memory, and 9 where the bytes are no
 /// trace. A trace has at most 67,108,864 bytes: of longer ones it says line 0. The whole text is in
 /// memory before the first write.
 pub fn chart_part<S: Source, K: Sink>(
     alloc: Global,
+    form: Form,
     words: &[String],
     source: &mut S,
     sink: &mut K,
 ) -> u8
     // What is due is said, and nothing else, by the words and the bytes; or a write failed, or memory
     // ran out before the first write.
-    ensures done { IsDone ChartsPart (record {
+    ensures done { IsDone (ChartsPart form) (record {
       words = map string_bytes words.now;
       input = S.left source.old;
       left = S.left source.new;
@@ -113,8 +114,8 @@ pub fn chart_part<S: Source, K: Sink>(
     let Ok(outcome) = find_outcome(alloc, words, source) else {
         return WANT_OF_MEMORY;
     };
-    let Ok(due) = outcome_text(alloc, &outcome) else {
+    let Ok(due) = outcome_text(alloc, form, &outcome) else {
         return WANT_OF_MEMORY;
     };
-    deliver_outcome(sink, &due, &outcome)
+    deliver_outcome(sink, form, &due, &outcome)
 }

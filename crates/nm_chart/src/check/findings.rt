@@ -4,6 +4,7 @@ ghost use Rattle.std.specs.Prelude.{◌≡◌, IfOk};
 ghost use Rattle.nm_chart.specs.Findings.{CanBeDrawn, Says, fault_text};
 ghost use Rattle.nm_chart.specs.Findings.{status_of};
 
+use crate::answers::USAGE;
 use nm_diagram::Part;
 use nm_picture::{Flag, flagged_picture};
 use nm_report::RunRecord;
@@ -25,10 +26,6 @@ pub enum Finding {
     /// There is the trace of a record, with a flag where it breaks a rule first.
     Drawn { run: RunRecord, flag: Option<Flag> },
 }
-
-/// What is said of words that are not taken.
-const USAGE: &str = "usage: chart check [--cells N] [--eager N] <SCRIPT_AND_TRACE >PICTURE
-";
 
 /// The bytes of a line.
 fn line_of(alloc: Global, text: &str) -> Result<Vec<u8>, AllocError>
