@@ -1,0 +1,6 @@
+mod ByteLemmas
+mod EndLemmas
+mod LineLemmas
+mod ListLemmas
+mod SearchLemmas
+mod SetLemmas

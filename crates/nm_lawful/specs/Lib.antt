@@ -1,0 +1,10 @@
+pub mod Lawful
+pub mod Lists
+pub mod Moves
+pub mod Numbers
+pub mod Ranks
+pub mod Replies
+pub mod SameLaws
+pub mod Sames
+pub mod Searches
+pub mod States
