@@ -14,9 +14,9 @@ use Rattle.nm_explored.specs.declared.choices.moves.Move.{Move}
 use Rattle.nm_explored.specs.declared.choices.moves.Move.TheVariants as move
 use Rattle.nm_explored.specs.declared.choices.moves.Turn.{Turn}
 use Rattle.nm_explored.specs.Successors.{message_next, spot_in}
-use Rattle.nm_explored.specs.Lists.{Has}
+use Rattle.nm_search.specs.Lists.{Has}
 use Rattle.nm_explored.specs.Moves.{IsAct, moved_at}
-use Rattle.nm_explored.proofs.KeptLemmas.{each_next, has_kept}
+use Rattle.nm_search.proofs.ListLemmas.{each_next, has_kept}
 use Rattle.nm_explored.specs.Chosen.{Goes, IsSettled}
 use Rattle.nm_explored.specs.Coming.{AreEnoughAt, AreEnoughTurns, IsNamed, Makes}
 use Rattle.nm_explored.specs.Coming.Choice.{Acting, Arriving}

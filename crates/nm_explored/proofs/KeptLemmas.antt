@@ -17,54 +17,11 @@ use Rattle.nm_outcomes.specs.RankStates.{Spot}
 use Rattle.nm_explored.specs.declared.choices.moves.Move.TheVariants as move
 use Rattle.nm_explored.specs.declared.choices.moves.Turn.{Turn}
 use Rattle.nm_explored.specs.Successors.{begun_in, is_withdrawn_next}
-use Rattle.nm_explored.specs.Lists.{AddsOnly, Has, Extends}
+use Rattle.nm_search.specs.Lists.{AddsOnly, Has, Extends}
 use Rattle.nm_explored.specs.Moves.{IsAct, IsChoiceOf, IsDeedOf, IsNextMessage, IsRecalled, IsTurn, IsTurnOf}
 use Rattle.nm_explored.specs.Moves.{no_in, reply_in}
 
-pub keeps_all : {X : Type 0} (xs : List X) → Extends xs xs
-keeps_all xs k x here = here
-
-pub keeps_then : {X : Type 0} (xs ys zs : List X) → Extends xs ys → Extends ys zs → Extends xs zs
-keeps_then xs ys zs one two k x here = two k x (one k x here)
-
-pub keeps_push : {X : Type 0} (xs ys : List X) (y : X) → ys ≡ xs ++ y ∷ [] → Extends xs ys
-keeps_push xs ys y is k x here =
-    ap (λ zs. slice_get zs k) is ∙ get_before xs (y ∷ []) k x here
-
-pub has_push : {X : Type 0} (xs ys : List X) (y : X) → ys ≡ xs ++ y ∷ [] → Has ys y
-has_push xs ys y is = (length xs, ap (λ zs. slice_get zs (length xs)) is ∙ get_last xs y)
-
-pub has_kept : {X : Type 0} (xs ys : List X) (x : X) → Extends xs ys → Has xs x → Has ys x
-has_kept xs ys x kept at = (at.0, kept at.0 x at.1)
-
--- what holds below a number and at it
-pub each_next : (Q : ℕ → Type 0) (k : ℕ) → ((m : ℕ) → m < k → Q m) → Q k → (m : ℕ) → m < k + 1 → Q m
-each_next Q k before here m low = by_test (nat_lt m k) refl
-  where
-    by_test : (b : Bool) → nat_lt m k ≡ b → Q m
-    by_test true is = before m (grind (arith, nat_tests))
-    by_test false is = let e : k ≡ m = grind (arith, nat_tests) in subst Q e here
-
--- lists to which only such elements were added
-pub only_all : {X : Type 0} (P : X → Type 0) (xs : List X) → AddsOnly P xs xs
-only_all P xs x at = inl at
-
-pub only_then : {X : Type 0} (P : X → Type 0) (xs ys zs : List X) → AddsOnly P xs ys → AddsOnly P ys zs →
-    AddsOnly P xs zs
-only_then P xs ys zs one two x at = by_place (two x at)
-  where
-    by_place : Has ys x ⊎ P x → Has xs x ⊎ P x
-    by_place (inl before) = one x before
-    by_place (inr is) = inr is
-
-pub only_weaker : {X : Type 0} (P Q : X → Type 0) (xs ys : List X) → ((x : X) → P x → Q x) → AddsOnly P xs ys →
-    AddsOnly Q xs ys
-only_weaker P Q xs ys follows only x at = by_place (only x at)
-  where
-    by_place : Has xs x ⊎ P x → Has xs x ⊎ Q x
-    by_place (inl before) = inl before
-    by_place (inr is) = inr (follows x is)
-
+-- lists to which at most one element was added
 pub only_option : {X : Type 0} (P : X → Type 0) (xs ys : List X) (o : Option X) → ys ≡ xs ++ cons_option o [] →
     ((x : X) → o ≡ Some x → P x) → AddsOnly P xs ys
 only_option P xs ys None is holds x at =
@@ -75,18 +32,6 @@ only_option P xs ys (Some y) is holds x at =
     by_place : (slice_get xs at.0 ≡ Some x) ⊎ ((at.0 ≡ length xs) × (y ≡ x) × (true ≡ true)) → Has xs x ⊎ P x
     by_place (inl before) = inl (at.0, before)
     by_place (inr last) = inr (holds x (ap (λ z. Some z) last.1))
-
--- what holds of each element, and of those that are added
-pub or_more : {X : Type 0} (P : X → Type 0) (xs ys : List X) → ((x : X) → Has xs x → P x) → AddsOnly P xs ys →
-    (x : X) → Has ys x → P x
-or_more P xs ys each only x at = by_place (only x at)
-  where
-    by_place : Has xs x ⊎ P x → P x
-    by_place (inl before) = each x before
-    by_place (inr is) = is
-
-pub has_nothing : {X : Type 0} (xs : List X) (x : X) → xs ≡ [] → Has xs x → ⊥
-has_nothing xs x none at = no_item at.0 x (ap (λ zs. slice_get zs at.0) (sym none) ∙ at.1)
 
 -- a move of a rank, as a turn
 pub acts : (eager ranks : ℕ) (lines : List Line) (v : ℕ → Option Spot) (i : ℕ) (spot : Spot) (t : Turn) →

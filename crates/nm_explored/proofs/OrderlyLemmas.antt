@@ -34,7 +34,7 @@ use Rattle.nm_explored.specs.declared.choices.moves.Move.{Move}
 use Rattle.nm_explored.specs.declared.choices.moves.Move.TheVariants as move
 use Rattle.nm_explored.specs.declared.choices.moves.Turn.{Turn}
 use Rattle.nm_explored.specs.Successors.{answer_in, arrival_by, is_test_of, may_begin, start_in}
-use Rattle.nm_explored.specs.Lists.{Has}
+use Rattle.nm_search.specs.Lists.{Has}
 use Rattle.nm_explored.specs.Moves.{IsChoiceOf, IsDeedOf, IsNextMessage, IsTurn, moved_at}
 use Rattle.nm_explored.specs.Chosen.{AreCalm, Goes, HasNoCancel}
 use Rattle.nm_explored.specs.Met.{IsMet, IsWay}

@@ -25,7 +25,7 @@ use Rattle.nm_outcomes.specs.RankStates.{Spot, arrived_at, arrived_by, is_cancel
 use Rattle.nm_outcomes.specs.RankStates.{is_that, message_of_spot, placed, placed_new, posted_at, receive_of_spot, spot_after, with_arrival}
 use Rattle.nm_outcomes.specs.RankStates.{with_pair, without_number}
 use Rattle.nm_outcomes.proofs.ListLemmas.{any-placed, any-placed_new}
-use Rattle.nm_explored.specs.Lists.{Has}
+use Rattle.nm_search.specs.Lists.{Has}
 use Rattle.nm_explored.specs.Orderly.{is_numbered}
 
 -- lists in which nothing passes a test

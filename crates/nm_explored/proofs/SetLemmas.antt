@@ -8,9 +8,10 @@ use Rattle.indexmap.specs.IndexSet.{insert_key}
 use Rattle.nm_outcomes.specs.SameLaws.{same_spot, spots_equiv}
 use Rattle.nm_outcomes.specs.Sames.{same_spots}
 use Rattle.nm_outcomes.specs.RankStates.{Spot}
-use Rattle.nm_explored.specs.Lists.{Has, Extends}
-use Rattle.nm_explored.specs.Stores.{StandOnce}
-use Rattle.nm_explored.proofs.MetLemmas.{inserted, kept_in, once_in, same_lists}
+use Rattle.nm_search.specs.Lists.{Has, Extends}
+use Rattle.nm_search.specs.Lists.{StandOnce}
+use Rattle.nm_search.proofs.SetLemmas.{inserted, kept_in, once_in}
+use Rattle.nm_explored.proofs.MetLemmas.{same_lists}
 
 pub spots_once : (xs : List Spot) → IsDistinct same_spots xs → StandOnce xs
 spots_once xs distinct = once_in same_spots spots_equiv.refl xs distinct

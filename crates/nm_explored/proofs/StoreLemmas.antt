@@ -9,9 +9,9 @@ use Rattle.nm_types.proofs.OptionLemmas.{no_some, same_some}
 use Rattle.nm_outcomes.specs.RankStates.{Spot}
 use Rattle.nm_explored.specs.declared.choices.moves.Turn.{Turn}
 use Rattle.nm_explored.specs.Successors.{spot_in}
-use Rattle.nm_explored.specs.Lists.{Has, Extends}
+use Rattle.nm_search.specs.Lists.{Has, Extends}
 use Rattle.nm_explored.specs.Moves.{moved_at}
-use Rattle.nm_explored.proofs.KeptLemmas.{has_kept}
+use Rattle.nm_search.proofs.ListLemmas.{has_kept}
 use Rattle.nm_explored.specs.Stores.{Grows, Leads, Store}
 
 pub grows_all : (a : Store) → Grows a a

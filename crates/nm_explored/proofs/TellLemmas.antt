@@ -28,7 +28,7 @@ use Rattle.nm_outcomes.proofs.RestLemmas.{at_rest as places_at_rest}
 use Rattle.nm_outcomes.proofs.SearchLemmas.{ends_found}
 use Rattle.nm_outcomes.specs.RankStates.{Spot, first_spot}
 use Rattle.nm_explored.specs.Successors.{spot_in}
-use Rattle.nm_explored.specs.Lists.{Has}
+use Rattle.nm_search.specs.Lists.{Has}
 use Rattle.nm_explored.specs.Settings.{IsAt}
 use Rattle.nm_explored.proofs.ChoiceLemmas.{sends_short}
 use Rattle.nm_explored.proofs.PlacedLemmas.{are_placed, placed}

@@ -15,7 +15,7 @@ use Rattle.nm_explored.specs.declared.choices.moves.Move.TheVariants as move
 use Rattle.nm_explored.specs.declared.choices.moves.Turn.{Turn}
 use Rattle.nm_explored.specs.Successors.{answer_in}
 use Rattle.nm_explored.specs.Lines.{line_in}
-use Rattle.nm_explored.specs.Lists.{Has}
+use Rattle.nm_search.specs.Lists.{Has}
 use Rattle.nm_explored.specs.Moves.{IsAct, IsTurn, moved_at}
 use Rattle.nm_explored.specs.Orderly.{AreOrderly, HasNoClaim}
 

@@ -9,7 +9,7 @@ use Rattle.nm_outcomes.specs.RankStates.{Spot, arrived_at, receive_of_spot}
 use Rattle.nm_explored.specs.declared.choices.moves.Move.TheVariants as move
 use Rattle.nm_explored.specs.declared.choices.moves.Turn.{Turn}
 use Rattle.nm_explored.specs.Successors.{message_next}
-use Rattle.nm_explored.specs.Lists.{Has}
+use Rattle.nm_search.specs.Lists.{Has}
 use Rattle.nm_explored.specs.Moves.{AreMovesOf}
 use Rattle.nm_explored.specs.Chosen.{Acts, AreActsOfOne, AreCalm, HasNoCancel, LetsAct}
 use Rattle.nm_explored.specs.Orderly.{AreOrderly, HasNoClaim}

@@ -2,7 +2,6 @@ pub mod Chosen
 pub mod Coming
 pub mod Ends
 pub mod Lines
-pub mod Lists
 pub mod Met
 pub mod Moves
 pub mod Orderly

@@ -8,7 +8,8 @@ use Rattle.nm_explored.specs.declared.stores.Way.{Way}
 use Rattle.nm_explored.specs.Moves.{IsTurn, moved_at}
 use Rattle.nm_explored.specs.declared.ends.Explored.{Explored}
 use Rattle.nm_explored.specs.declared.ends.Explored.TheVariants.{All, TooMany}
-use Rattle.nm_explored.specs.Stores.{AreLow, StandOnce, Store, states_in}
+use Rattle.nm_search.specs.Lists.{StandOnce}
+use Rattle.nm_explored.specs.Stores.{AreLow, Store, states_in}
 
 -- these moves, the newest first, lead to a state from the first one, in which no rank did anything
 abbrev pub IsWay : ℕ → ℕ → List Line → List Turn → List Spot → Type 0

@@ -24,7 +24,7 @@ use Rattle.nm_explored.specs.declared.choices.moves.Move.{Move}
 use Rattle.nm_explored.specs.declared.choices.moves.Move.TheVariants as move
 use Rattle.nm_explored.specs.declared.choices.moves.Turn.{Turn}
 use Rattle.nm_explored.specs.Lines.{line_in}
-use Rattle.nm_explored.specs.Lists.{Has}
+use Rattle.nm_search.specs.Lists.{Has}
 use Rattle.nm_explored.specs.Successors.{answer_in, begun_in, is_test_of, is_withdrawn_next, message_next}
 
 -- a rank's state after a move

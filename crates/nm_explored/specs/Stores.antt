@@ -6,13 +6,9 @@ use Rattle.nm_outcomes.specs.Searches as searches
 use Rattle.nm_outcomes.specs.RankStates.{Spot, first_spot}
 use Rattle.nm_explored.specs.declared.stores.Way.{Way}
 use Rattle.nm_explored.specs.Successors.{spot_in}
-use Rattle.nm_explored.specs.Lists.{Has, Extends}
+use Rattle.nm_search.specs.Lists.{Has, Extends}
 use Rattle.nm_explored.specs.Chosen.{Goes}
 use Rattle.nm_explored.specs.Coming.{AreEnoughAt, Makes}
-
--- no element stands at two places
-abbrev pub StandOnce : {X : Type 0} → List X → Type 0
-StandOnce {X} xs = (j k : ℕ) (x : X) → slice_get xs j ≡ Some x → slice_get xs k ≡ Some x → j ≡ k
 
 -- the states of single ranks, by number, and the states of all ranks: the numbers of theirs, and how each was found
 pub record Store : Type 0 where

@@ -10,7 +10,7 @@ ghost use Rattle.nm_history.specs.RankRun.{is_canceller as is_cancel_lem};
 ghost use Rattle.nm_explored.specs.declared.choices.moves.Move.TheVariants.{Act};
 ghost use Rattle.nm_explored.specs.declared.choices.moves.Turn as the_turn;
 ghost use Rattle.nm_explored.specs.Successors.{message_next, spot_in};
-ghost use Rattle.nm_explored.specs.Lists.{Has};
+ghost use Rattle.nm_search.specs.Lists.{Has};
 ghost use Rattle.nm_explored.specs.Moves.{AreSendsShort, IsAct, IsTurn};
 ghost use Rattle.nm_explored.specs.Chosen.{IsSettled, IsSettledBy};
 ghost use Rattle.nm_explored.specs.Coming.{AreEnoughTurns, IsNamed, IsNamedTurn};

@@ -10,7 +10,7 @@ ghost use Rattle.nm_report.specs.Told.{told_by, told_of_rank};
 ghost use Rattle.nm_outcomes.specs.Deeds.{answer_meant, happening as happening_lem};
 ghost use Rattle.nm_outcomes.specs.Deeds.{bytes_at as bytes_at_lem};
 ghost use Rattle.nm_explored.specs.Successors.{is_withdrawn_next, message_next, spot_in};
-ghost use Rattle.nm_explored.specs.Lists.{AddsOnly, Has, Extends};
+ghost use Rattle.nm_search.specs.Lists.{AddsOnly, Has, Extends};
 ghost use Rattle.nm_explored.specs.Ends.{AreEndsAmong, AreEndsByWay, AreOnlyEnds, IsEndAmong};
 ghost use Rattle.nm_explored.specs.Ends.{IsToldAmong, IsToldIn, TellsOnly};
 ghost use Rattle.nm_explored.specs.Ends.{AreAtRest, AreEnds, AreShort, IfAll, IsAtRest, IsHeldUp};

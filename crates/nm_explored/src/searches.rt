@@ -5,13 +5,13 @@ ghost use Rattle.std.specs.Prelude.{if◌then◌else◌, length, option_and_then
 ghost use Rattle.nm_types.specs.declared.scripts.Line as script_line;
 ghost use Rattle.nm_outcomes.specs.RankStates as spots;
 ghost use Rattle.nm_explored.specs.Successors.{spot_in};
-ghost use Rattle.nm_explored.specs.Lists.{Has, Extends};
+ghost use Rattle.nm_search.specs.Lists.{Has, Extends};
 ghost use Rattle.nm_explored.specs.declared.choices.moves.Turn as the_turn;
 ghost use Rattle.nm_explored.specs.Moves.{AreSendsShort, IsTurn, moved_at};
 ghost use Rattle.nm_explored.specs.Coming.{AreEnoughTurns};
 ghost use Rattle.nm_explored.specs.Met.{AreBack, IsMade};
 ghost use Rattle.nm_explored.specs.Stores.{AreExpanded, Grows, IsExpanded, IsFirst, Leads};
-ghost use Rattle.nm_explored.specs.Stores.{StandOnce};
+ghost use Rattle.nm_search.specs.Lists.{StandOnce};
 
 use crate::choices::choices::View;
 use crate::choices::moves::{Turn, moved};

@@ -1,8 +1,8 @@
 //! States, each of them once.
 
 ghost use Rattle.std.specs.Prelude.{◌≡◌, [], ◌∷◌, ◌++◌, if◌then◌else◌, IfOk, OnOk, Some, slice_get};
-ghost use Rattle.nm_explored.specs.Lists.{Has, Extends};
-ghost use Rattle.nm_explored.specs.Stores.{StandOnce};
+ghost use Rattle.nm_search.specs.Lists.{Has, Extends};
+ghost use Rattle.nm_search.specs.Lists.{StandOnce};
 
 use crate::choices::moves::Move;
 use indexmap::IndexSet;

@@ -6,6 +6,7 @@ use Rattle.std.specs.List.{slice_get}
 use Rattle.std.specs.Option.{option_map_or}
 use Rattle.std.proofs.lemmas.Bool.{cases_lt, false≢true}
 use Rattle.std.proofs.lemmas.Bool.Decides.{nat_tests}
+use Rattle.std.proofs.lemmas.Option.{slice_get_past}
 use Rattle.nm_types.proofs.OptionLemmas.{no_some}
 use Rattle.nm_types.specs.declared.answers.Answer.{Answer}
 use Rattle.nm_types.specs.declared.scripts.Line.{Line}
@@ -14,13 +15,13 @@ use Rattle.nm_lawful.specs.declared.moves.Said.{Said}
 use Rattle.nm_lawful.specs.declared.searches.Found.{Found}
 use Rattle.nm_lawful.specs.declared.searches.Found.TheVariants as found
 use Rattle.nm_lawful.specs.Lawful.{AllTold, CanTell, IsEnd, IsLawful, MayTell, has_run_lem, rests_lem}
-use Rattle.nm_lawful.specs.Lists.{Has}
+use Rattle.nm_search.specs.Lists.{Has}
 use Rattle.nm_lawful.specs.Moves.{Goes, Report, counted_lem, next_lem, next_of_lem, told_at_lem}
 use Rattle.nm_lawful.specs.Ranks.{RankState}
 use Rattle.nm_lawful.specs.Replies.{is_held_lem}
 use Rattle.nm_lawful.specs.Searches.{AreBounds, AreTooMany, IsStill, SearchSays, halved_lem, is_too_many_lem}
 use Rattle.nm_lawful.specs.States.{first_state}
-use Rattle.nm_lawful.proofs.ListLemmas.{has_nothing}
+use Rattle.nm_search.proofs.ListLemmas.{has_nothing}
 
 -- no move can be made where none leads to a state
 no_move : (lines : List Line) (told : Report) (state : List RankState) (states : List (List RankState)) →
@@ -167,11 +168,6 @@ late_next lines told ranks low high bounds near may = by_order (cases_lt low hig
         bounds.late (subst (λ (n : ℕ). MayTell lines told ranks n) is bounds.early)
 
 -- where the ranks that there are rest, each one does
-absent : {X : Type 0} (xs : List X) (i : ℕ) → length xs ≤ i → slice_get xs i ≡ None
-absent [] i out = refl
-absent (x ∷ xs) zero out = absurd (omega (arith, out))
-absent (x ∷ xs) (suc i) out = absent xs i (omega (arith, out))
-
 map_or_none : {X : Type 0} (f : X → Bool) (o : Option X) → o ≡ None → option_map_or f o true ≡ true
 map_or_none f None is = refl
 map_or_none f (Some x) is = absurd (no_some x (sym is))
@@ -188,4 +184,4 @@ rest_behind lines state ranks k i same past each = by_order (cases_lt i k)
         (λ (rank : RankState). option_map_or
         (λ (place : ℕ). option_map_or (λ (l : Line). is_held_lem state i rank l.command) (slice_get lines place) false)
         (next_of_lem lines i rank.at) true)
-        (slice_get state i) (absent state i (omega (arith, past, high, long)))
+        (slice_get state i) (slice_get_past state i (omega (arith, past, high, long)))

@@ -1,6 +1,5 @@
 mod ByteLemmas
 mod EndLemmas
 mod LineLemmas
-mod ListLemmas
 mod SearchLemmas
 mod SetLemmas

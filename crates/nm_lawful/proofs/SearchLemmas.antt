@@ -14,14 +14,14 @@ use Rattle.nm_lawful.specs.declared.searches.Step.{Step}
 use Rattle.nm_lawful.specs.declared.searches.Step.TheVariants as step
 use Rattle.nm_lawful.specs.declared.states.Deed.{Deed}
 use Rattle.nm_lawful.specs.Lawful.{CanTell, IsEnd, IsPath}
-use Rattle.nm_lawful.specs.Lists.{AddsOnly, Extends, Has}
+use Rattle.nm_search.specs.Lists.{AddsOnly, Extends, Has}
 use Rattle.nm_lawful.specs.Moves.{Goes, Report, deed_of_lem, next_lem, off_by_lem, pair_of_lem, run_by_lem}
 use Rattle.nm_lawful.specs.Moves.{withdrawal_of_lem}
 use Rattle.nm_lawful.specs.Ranks.{RankState}
 use Rattle.nm_lawful.specs.Searches.{HasAllMoves, HasMoves, HasMovesOf, IsExpanded, IsMet, IsSearched, StepSays}
 use Rattle.nm_lawful.specs.States.{after_lem, first_state}
-use Rattle.nm_lawful.proofs.ListLemmas.{each_next, has_kept, has_nothing, more_only, or_more, same_before}
-use Rattle.nm_lawful.proofs.ListLemmas.{then_some}
+use Rattle.nm_search.proofs.ListLemmas.{each_next, has_kept, has_nothing, more_only, or_more, same_before}
+use Rattle.nm_search.proofs.ListLemmas.{then_some}
 
 -- moves stay there
 pub moves_kept : (i j : ℕ) (xs ys : List Move) → Extends xs ys → HasMoves i j xs → HasMoves i j ys

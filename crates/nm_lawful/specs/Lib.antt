@@ -1,5 +1,4 @@
 pub mod Lawful
-pub mod Lists
 pub mod Moves
 pub mod Numbers
 pub mod Ranks

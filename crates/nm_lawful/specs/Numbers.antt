@@ -1,14 +1,11 @@
 -- Numbers that tell states apart, mostly.
-use Rattle.std.specs.Prelude.{ℕ, ◌+◌, ◌*◌, ◌%◌, ◌^◌, List, fold}
+use Rattle.std.specs.Prelude.{ℕ, List, fold}
+use Rattle.nm_search.specs.Numbers.{mixed_lem}
 use Rattle.nm_lawful.specs.declared.messages.Message.{Message}
 use Rattle.nm_lawful.specs.declared.messages.Request.{Request}
 use Rattle.nm_lawful.specs.declared.messages.Standing.{Standing}
 use Rattle.nm_lawful.specs.declared.messages.Standing.TheVariants as standing
 use Rattle.nm_lawful.specs.Ranks.{RankState}
-
--- a number of two numbers
-abbrev pub mixed_lem : ℕ → ℕ → ℕ
-mixed_lem a b = ((a * 11400714819323198485) % 2 ^ 64 + b) % 2 ^ 64
 
 -- a number of how a request stands
 abbrev pub standing_number : Standing → ℕ

@@ -15,6 +15,7 @@ use Rattle.nm_types.specs.declared.scripts.Command.{Command}
 use Rattle.nm_types.specs.declared.scripts.Command.TheVariants as command
 use Rattle.nm_types.specs.declared.scripts.Line.{Line}
 use Rattle.nm_types.specs.Bodies.{body_len, bytes_of}
+use Rattle.nm_history.specs.Totals.{is_sent}
 use Rattle.nm_lawful.specs.declared.messages.Act.{Act}
 use Rattle.nm_lawful.specs.declared.messages.Act.TheVariants as act
 use Rattle.nm_lawful.specs.declared.messages.Claim.{Claim}
@@ -41,11 +42,6 @@ is_result_lem lines cap m (answer.Got from tag bytes) =
 is_result_lem lines cap m (answer.Cut from tag len) = nat_lt cap m.len && (m.from == from && m.tag == tag)
 is_result_lem lines cap m _ = false
 
--- an answer says that a send is complete
-abbrev pub is_sent_lem : Answer → Bool
-is_sent_lem answer.Sent = true
-is_sent_lem _ = false
-
 -- an answer says that a request was cancelled
 abbrev pub is_cancelled_lem : Answer → Bool
 is_cancelled_lem answer.Cancelled = true
@@ -53,8 +49,8 @@ is_cancelled_lem _ = false
 
 -- a request that stands so may end with this answer, where a receive has still to take its message or not
 abbrev pub ends_lem : List Line → Bool → Standing → Answer → Bool
-ends_lem lines waiting (standing.Send sync) a = is_sent_lem a && (not sync || not waiting)
-ends_lem lines waiting (standing.Recalled sync) a = is_sent_lem a && (not sync || not waiting)
+ends_lem lines waiting (standing.Send sync) a = is_sent a && (not sync || not waiting)
+ends_lem lines waiting (standing.Recalled sync) a = is_sent a && (not sync || not waiting)
 ends_lem lines waiting standing.Withdrawn a = is_cancelled_lem a
 ends_lem lines waiting (standing.Open pattern cap) a = false
 ends_lem lines waiting (standing.Marked pattern cap) a = false

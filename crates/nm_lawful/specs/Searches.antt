@@ -11,7 +11,7 @@ use Rattle.nm_lawful.specs.declared.searches.Found.TheVariants as found
 use Rattle.nm_lawful.specs.declared.searches.Step.{Step}
 use Rattle.nm_lawful.specs.declared.searches.Step.TheVariants as step
 use Rattle.nm_lawful.specs.Lawful.{CanTell, IsEnd, IsLawful, IsPath, MayTell, rests_lem}
-use Rattle.nm_lawful.specs.Lists.{AddsOnly, Extends, Has, StandOnce}
+use Rattle.nm_search.specs.Lists.{AddsOnly, Extends, Has, StandOnce}
 use Rattle.nm_lawful.specs.Moves.{Goes, Report}
 use Rattle.nm_lawful.specs.Ranks.{RankState}
 use Rattle.nm_lawful.specs.States.{first_state}

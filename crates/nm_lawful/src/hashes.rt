@@ -1,17 +1,12 @@
 //! Numbers that tell states apart, mostly.
 
 ghost use Rattle.std.specs.Prelude.{◌≡◌, fold};
-ghost use Rattle.nm_lawful.specs.Numbers.{mixed_lem, rank_number, request_number, standing_number, state_number};
+ghost use Rattle.nm_search.specs.Numbers.{mixed_lem};
+ghost use Rattle.nm_lawful.specs.Numbers.{rank_number, request_number, standing_number, state_number};
 
 use crate::messages::{Message, Request, Standing};
 use crate::ranks::Rank;
-
-/// A number of two numbers.
-fn mixed(a: u64, b: u64) -> u64
-    ensures { result ≡ mixed_lem a b }
-{
-    a.wrapping_mul(11_400_714_819_323_198_485).wrapping_add(b)
-}
+use nm_search::mixed;
 
 /// A number of how a request stands.
 fn of_standing(standing: &Standing) -> u64

@@ -10,7 +10,8 @@ ghost use Rattle.nm_lawful.specs.Ranks.{shown_to_lem};
 ghost use Rattle.nm_lawful.specs.declared.messages.Act.TheVariants as act;
 ghost use Rattle.nm_lawful.specs.Replies.{act_of_lem, asked_lem, cancelled_at_lem, cancelled_lem, claimed_lem};
 ghost use Rattle.nm_lawful.specs.Replies.{done_lem, ends_lem, has_bytes_lem, holds_lem, is_cancelled_lem, is_held_lem, is_start_lem};
-ghost use Rattle.nm_lawful.specs.Replies.{is_result_lem, is_sent_lem, late_lem, looked_lem, may_end_lem};
+ghost use Rattle.nm_history.specs.Totals.{is_sent as is_sent_lem};
+ghost use Rattle.nm_lawful.specs.Replies.{is_result_lem, late_lem, looked_lem, may_end_lem};
 ghost use Rattle.nm_lawful.specs.Replies.{message_of_lem, nulled_lem, pattern_lem, probed_lem, received_lem};
 ghost use Rattle.nm_lawful.specs.Replies.{seen_by_lem, sends_bytes_lem, started_lem, tested_lem, waited_lem};
 

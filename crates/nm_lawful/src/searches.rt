@@ -3,7 +3,7 @@
 ghost use Rattle.std.specs.Prelude.{◌≡◌, ◌⊎◌, ℕ, ◌<◌, IfOk, IsTrue, List, OnOk, Some, false, is_some, length};
 ghost use Rattle.std.specs.Prelude.{option_copied, slice_get, ◌∷◌, [], ◌++◌};
 ghost use Rattle.nm_lawful.specs.Lawful.{AllTold, IsEnd, has_run_lem, rests_lem};
-ghost use Rattle.nm_lawful.specs.Lists.{AddsOnly, Extends, Has, StandOnce};
+ghost use Rattle.nm_search.specs.Lists.{AddsOnly, Extends, Has, StandOnce};
 ghost use Rattle.nm_lawful.specs.Moves.{Goes, next_lem};
 ghost use Rattle.nm_lawful.specs.Ranks.{RankState};
 ghost use Rattle.nm_lawful.specs.Searches.{HasAllMoves, HasMoves, HasMovesOf, IsStill, SearchSays, StepSays};
@@ -103,7 +103,7 @@ impl States {
 }
 
 /// Adds a move.
-#[tactic(auto, using(crate::proofs::ListLemmas::keeps_push, crate::proofs::ListLemmas::has_push))]
+#[tactic(auto, using(nm_search::proofs::ListLemmas::keeps_push, nm_search::proofs::ListLemmas::has_push))]
 fn push(moves: &mut Vec<Move>, by: Move) -> Result<(), Memory>
     ensures kept { OnOk result (Extends moves.old.items moves.new.items) }
     ensures added { OnOk result (Has moves.new.items by) }

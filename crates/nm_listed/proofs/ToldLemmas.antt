@@ -20,7 +20,7 @@ use Rattle.nm_report.specs.Told.{SayWhatWasTold, told_of, told_of_rank, told_tex
 use Rattle.nm_report.specs.Cells.{all_home}
 use Rattle.nm_explored.specs.declared.ends.End.{End}
 use Rattle.nm_outcomes.specs.Outcomes.{AreOutcomes, AreRising, IsReportOfRun}
-use Rattle.nm_explored.specs.Lists.{Has}
+use Rattle.nm_search.specs.Lists.{Has}
 use Rattle.nm_explored.specs.Ends.{TellsAll, TellsOnly, told_at_end}
 use Rattle.nm_listed.specs.Ends.{EndsAreRuns}
 use Rattle.nm_listed.specs.Finding.{text_of_told}

@@ -2,15 +2,12 @@
 use Rattle.std.specs.Prelude.{ℕ, ◌+◌, ◌*◌, ◌%◌, ◌^◌, List, fold}
 use Rattle.nm_types.specs.declared.messages.Arrival.{Arrival}
 use Rattle.nm_history.specs.declared.plain.Pair.{Pair}
+use Rattle.nm_search.specs.Numbers.{mixed_lem}
 use Rattle.nm_outcomes.specs.declared.spots.deeds.Deed.{Deed}
 use Rattle.nm_outcomes.specs.declared.spots.deeds.Deed.TheVariants as deed
 use Rattle.nm_outcomes.specs.declared.spots.deeds.Reply.{Reply}
 use Rattle.nm_outcomes.specs.declared.spots.deeds.Reply.TheVariants as reply
 use Rattle.nm_outcomes.specs.RankStates.{Spot}
-
--- a number of two numbers
-abbrev pub mixed_lem : ℕ → ℕ → ℕ
-mixed_lem a b = ((a * 11400714819323198485) % 2 ^ 64 + b) % 2 ^ 64
 
 -- a number of an answer
 abbrev pub reply_number : Reply → ℕ

@@ -10,7 +10,7 @@ ghost use Rattle.nm_match.specs.declared.names.Message as message;
 ghost use Rattle.nm_explored.specs.declared.choices.moves.Move as the_move;
 ghost use Rattle.nm_explored.specs.declared.choices.moves.Turn as the_turn;
 ghost use Rattle.nm_explored.specs.Successors.{spot_in};
-ghost use Rattle.nm_explored.specs.Lists.{AddsOnly, Has, Extends};
+ghost use Rattle.nm_search.specs.Lists.{AddsOnly, Has, Extends};
 ghost use Rattle.nm_explored.specs.Moves.{AreMovesOf, AreSendsShort, IsAct, IsChoiceOf, IsDeedOf};
 ghost use Rattle.nm_explored.specs.Moves.{IsNextMessage, IsRecalled, IsTurn, IsTurnOf, moved_at, no_in};
 
@@ -136,7 +136,7 @@ fn push_command(
 }
 
 /// Adds what the next command of a rank may do, and the answers that it may have.
-#[tactic(auto, using(crate::proofs::KeptLemmas::only_all))]
+#[tactic(auto, using(nm_search::proofs::ListLemmas::only_all))]
 pub fn push_deeds(view: View, i: u8, rank: &Rank, turns: &mut Vec<Turn>) -> Result<(), Memory>
     ensures kept { OnOk result (Extends turns.old.items turns.new.items) }
     ensures added { length view.entry.lines.now < 4294967293 → OnOk result ((d : deed.Deed) →
@@ -177,7 +177,7 @@ fn push_arrival(turns: &mut Vec<Turn>, rank: u8, next: Option<Arrival>) -> Resul
 }
 
 /// Adds the messages that may arrive at a rank.
-#[tactic(auto, using(crate::proofs::KeptLemmas::only_all))]
+#[tactic(auto, using(nm_search::proofs::ListLemmas::only_all))]
 fn push_arrivals(view: View, i: u8, ranks: u8, turns: &mut Vec<Turn>) -> Result<(), Memory>
     ensures kept { OnOk result (Extends turns.old.items turns.new.items) }
     ensures added { OnOk result ((a : arrival.Arrival) →
@@ -217,7 +217,7 @@ fn push_withdrawal(
 }
 
 /// Adds the messages that may be withdrawn at a rank.
-#[tactic(auto, using(crate::proofs::KeptLemmas::only_all))]
+#[tactic(auto, using(nm_search::proofs::ListLemmas::only_all))]
 fn push_withdrawals(view: View, i: u8, rank: &Rank, turns: &mut Vec<Turn>) -> Result<(), Memory>
     ensures kept { OnOk result (Extends turns.old.items turns.new.items) }
     ensures added { OnOk result ((m : message.Message) →
@@ -264,7 +264,7 @@ fn push_moves(
 }
 
 /// Adds the moves of a rank.
-#[tactic(auto, using(crate::proofs::KeptLemmas::only_all))]
+#[tactic(auto, using(nm_search::proofs::ListLemmas::only_all))]
 fn push_rank(view: View, i: u8, ranks: u8, turns: &mut Vec<Turn>) -> Result<(), Memory>
     ensures kept { OnOk result (Extends turns.old.items turns.new.items) }
     ensures added { length view.entry.lines.now < 4294967293 →

@@ -1,20 +1,15 @@
 //! Numbers that tell states apart, mostly.
 
 ghost use Rattle.std.specs.Prelude.{◌≡◌, fold};
-ghost use Rattle.nm_outcomes.specs.Numbers.{arrival_number, arrivals_number, deed_number, mixed_lem};
+ghost use Rattle.nm_search.specs.Numbers.{mixed_lem};
+ghost use Rattle.nm_outcomes.specs.Numbers.{arrival_number, arrivals_number, deed_number};
 ghost use Rattle.nm_outcomes.specs.Numbers.{pair_number, reply_number, spot_number};
 
 use crate::spots::deeds::{Deed, Reply};
 use crate::spots::ranks::Rank;
 use nm_history::plain::Pair;
+use nm_search::mixed;
 use nm_types::Arrival;
-
-/// A number of two numbers.
-fn mixed(a: u64, b: u64) -> u64
-    ensures { result ≡ mixed_lem a b }
-{
-    a.wrapping_mul(11_400_714_819_323_198_485).wrapping_add(b)
-}
 
 /// A number of an answer.
 fn of_reply(reply: Reply) -> u64

@@ -5,7 +5,7 @@ use Rattle.nm_explored.specs.declared.choices.moves.Move.TheVariants.{Act}
 use Rattle.nm_explored.specs.declared.choices.moves.Turn.{Turn}
 use Rattle.nm_explored.specs.Successors.{spot_in}
 use Rattle.nm_explored.specs.Moves.{IsAct}
-use Rattle.nm_explored.proofs.KeptLemmas.{has_nothing, or_more}
+use Rattle.nm_search.proofs.ListLemmas.{has_nothing, or_more}
 use Rattle.nm_explored.proofs.chosen.acts.Goals as goal
 
 pub returns-clause-only : goal.returns-clause-only

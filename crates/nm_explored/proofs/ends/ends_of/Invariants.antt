@@ -2,7 +2,7 @@
 use Rattle.std.proofs.Common.{◌≡◌, ℕ, ◌<◌, Some, List, map}
 use Rattle.std.specs.List.{slice_get}
 use Rattle.nm_explored.specs.Successors.{spot_in}
-use Rattle.nm_explored.specs.Lists.{Has}
+use Rattle.nm_search.specs.Lists.{Has}
 use Rattle.nm_explored.specs.Ends.{AreAtRest, AreEndsAmong, AreOnlyEnds, all_told, told_at_end}
 use Rattle.nm_explored.proofs.ends.ends_of.Given as goal
 

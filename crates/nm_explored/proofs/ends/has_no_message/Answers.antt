@@ -1,7 +1,7 @@
 -- No message is under way from one rank more.
 use Rattle.std.proofs.Common.{◌≡◌, ℕ, None, sym, ◌∙◌}
 use Rattle.nm_explored.specs.Successors.{message_next, spot_in}
-use Rattle.nm_explored.proofs.KeptLemmas.{each_next}
+use Rattle.nm_search.proofs.ListLemmas.{each_next}
 use Rattle.nm_explored.proofs.RestedLemmas.{none_is}
 use Rattle.nm_explored.proofs.ends.has_no_message.Goals as goal
 

@@ -6,7 +6,7 @@ use Rattle.nm_types.specs.declared.messages.Arrival.{Arrival}
 use Rattle.nm_types.proofs.ListLemmas.{place_below}
 use Rattle.nm_types.proofs.OptionLemmas.{same_some}
 use Rattle.nm_explored.specs.Successors.{is_withdrawn_next, spot_in}
-use Rattle.nm_explored.proofs.KeptLemmas.{each_next}
+use Rattle.nm_search.proofs.ListLemmas.{each_next}
 use Rattle.nm_explored.proofs.RestedLemmas.{none_withdrawn}
 use Rattle.nm_explored.proofs.ends.has_no_withdrawal.Goals as goal
 

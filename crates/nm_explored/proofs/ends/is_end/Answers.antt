@@ -2,7 +2,7 @@
 use Rattle.std.proofs.Common.{ℕ}
 use Rattle.nm_explored.specs.Successors.{spot_in}
 use Rattle.nm_explored.specs.Ends.{IsAtRest}
-use Rattle.nm_explored.proofs.KeptLemmas.{each_next}
+use Rattle.nm_search.proofs.ListLemmas.{each_next}
 use Rattle.nm_explored.proofs.ends.is_end.Goals as goal
 
 pub loop-i-preserved : goal.loop-i-preserved

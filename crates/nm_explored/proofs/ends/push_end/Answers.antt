@@ -2,10 +2,11 @@
 use Rattle.std.proofs.Common.{◌≡◌, ℕ, Some, List, [], ◌∷◌, ◌++◌, map, sym, ◌∙◌, ap, subst}
 use Rattle.std.proofs.lemmas.List.{map-append}
 use Rattle.nm_report.specs.Told.{RankTold}
-use Rattle.nm_explored.specs.Lists.{Has}
+use Rattle.nm_search.specs.Lists.{Has}
 use Rattle.nm_types.proofs.OptionLemmas.{same_some}
 use Rattle.nm_explored.specs.Successors.{spot_in}
-use Rattle.nm_explored.proofs.KeptLemmas.{has_push, keeps_push, only_option}
+use Rattle.nm_search.proofs.ListLemmas.{has_push, keeps_push}
+use Rattle.nm_explored.proofs.KeptLemmas.{only_option}
 use Rattle.nm_explored.specs.declared.ends.End.{End}
 use Rattle.std.specs.List.{slice_get}
 use Rattle.nm_types.specs.declared.scripts.Line.{Line}

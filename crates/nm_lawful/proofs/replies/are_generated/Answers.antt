@@ -2,7 +2,7 @@
 use Rattle.std.proofs.Common.{ℕ, ◌<◌, ◌≡◌, get_or, arith}
 use Rattle.nm_types.specs.Bodies.{generated_byte}
 use Rattle.nm_lawful.proofs.ByteLemmas.{other_byte, same_bytes}
-use Rattle.nm_lawful.proofs.ListLemmas.{each_next}
+use Rattle.nm_search.proofs.ListLemmas.{each_next}
 use Rattle.nm_lawful.proofs.replies.are_generated.Goals as goal
 
 pub returns-then-generated-bytes : goal.returns-then-generated-bytes

@@ -4,7 +4,7 @@ use Rattle.std.specs.List.{slice_get}
 use Rattle.nm_types.proofs.ListLemmas.{place_below}
 use Rattle.nm_lawful.specs.Ranks.{RankState}
 use Rattle.nm_lawful.specs.Searches.{HasMovesOf}
-use Rattle.nm_lawful.proofs.ListLemmas.{each_next}
+use Rattle.nm_search.proofs.ListLemmas.{each_next}
 use Rattle.nm_lawful.proofs.SearchLemmas.{moved_rank, rank_kept}
 use Rattle.nm_lawful.proofs.searches.all_moves.Goals as goal
 

@@ -4,11 +4,11 @@ use Rattle.std.specs.List.{slice_get}
 use Rattle.std.proofs.lemmas.Bool.{false≢true}
 use Rattle.nm_types.proofs.ListLemmas.{place_below}
 use Rattle.nm_types.proofs.OptionLemmas.{same_some}
-use Rattle.nm_lawful.specs.Lists.{Has}
+use Rattle.nm_search.specs.Lists.{Has}
 use Rattle.nm_lawful.specs.Moves.{Goes}
 use Rattle.nm_lawful.specs.Ranks.{RankState}
 use Rattle.nm_lawful.specs.Searches.{IsExpanded}
-use Rattle.nm_lawful.proofs.ListLemmas.{none_behind, only_weaker}
+use Rattle.nm_search.proofs.ListLemmas.{none_behind, only_weaker}
 use Rattle.nm_lawful.proofs.searches.go_on.Goals as goal
 
 pub returns-in_default : goal.returns-in_default

@@ -2,7 +2,7 @@
 use Rattle.std.proofs.Common.{◌≡◌, List, length, refl, sym, ◌∙◌, ap}
 use Rattle.std.proofs.lemmas.Bool.{false≢true}
 use Rattle.nm_lawful.specs.Ranks.{RankState}
-use Rattle.nm_lawful.proofs.ListLemmas.{empty_test, test_empty}
+use Rattle.nm_search.proofs.ListLemmas.{empty_test, test_empty}
 use Rattle.nm_lawful.proofs.searches.is_still.Goals as goal
 
 pub returns-then-is_empty-clause-yes : goal.returns-then-is_empty-clause-yes

@@ -1,6 +1,6 @@
 -- Only the state that the move leads to was added.
 use Rattle.nm_lawful.specs.Moves.{next_lem}
-use Rattle.nm_lawful.proofs.ListLemmas.{pushed_only}
+use Rattle.nm_search.proofs.ListLemmas.{pushed_only}
 use Rattle.nm_lawful.proofs.searches.push_next.Goals as goal
 
 pub returns-in_ok-push-clause-only : goal.returns-in_ok-push-clause-only

@@ -1,7 +1,7 @@
 -- The moves at one place more.
 use Rattle.std.proofs.Common.{ℕ}
 use Rattle.nm_lawful.specs.Searches.{HasMoves}
-use Rattle.nm_lawful.proofs.ListLemmas.{each_next, keeps_then}
+use Rattle.nm_search.proofs.ListLemmas.{each_next, keeps_then}
 use Rattle.nm_lawful.proofs.SearchLemmas.{moves_kept}
 use Rattle.nm_lawful.proofs.searches.push_places.Goals as goal
 

@@ -1,6 +1,6 @@
 -- The moves at the first places are there.
 use Rattle.std.proofs.Common.{ℕ, ◌<◌}
-use Rattle.nm_lawful.specs.Lists.{Extends}
+use Rattle.nm_search.specs.Lists.{Extends}
 use Rattle.nm_lawful.specs.Searches.{HasMoves}
 use Rattle.nm_lawful.proofs.searches.push_places.Given as goal
 

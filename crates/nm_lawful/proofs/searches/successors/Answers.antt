@@ -3,10 +3,10 @@ use Rattle.std.proofs.Common.{◌≡◌, ℕ, ◌<◌, List, Some, length, ◌�
 use Rattle.std.specs.List.{slice_get}
 use Rattle.nm_types.proofs.ListLemmas.{place_below}
 use Rattle.nm_lawful.specs.declared.moves.Move.{Move}
-use Rattle.nm_lawful.specs.Lists.{Has}
+use Rattle.nm_search.specs.Lists.{Has}
 use Rattle.nm_lawful.specs.Moves.{next_lem}
 use Rattle.nm_lawful.specs.Ranks.{RankState}
-use Rattle.nm_lawful.proofs.ListLemmas.{each_next, has_kept, has_nothing, next_more}
+use Rattle.nm_search.proofs.ListLemmas.{each_next, has_kept, has_nothing, next_more}
 use Rattle.nm_lawful.proofs.SearchLemmas.{goes_more, moves_complete}
 use Rattle.nm_lawful.proofs.searches.successors.Goals as goal
 

@@ -2,7 +2,7 @@
 use Rattle.std.proofs.Common.{◌≡◌, ℕ, ◌<◌, List, Some}
 use Rattle.std.specs.List.{slice_get}
 use Rattle.nm_lawful.specs.declared.moves.Move.{Move}
-use Rattle.nm_lawful.specs.Lists.{Has}
+use Rattle.nm_search.specs.Lists.{Has}
 use Rattle.nm_lawful.specs.Moves.{Goes, next_lem}
 use Rattle.nm_lawful.specs.Ranks.{RankState}
 use Rattle.nm_lawful.proofs.searches.successors.Given as goal

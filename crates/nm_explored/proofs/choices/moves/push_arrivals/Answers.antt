@@ -5,10 +5,11 @@ use Rattle.nm_types.proofs.OptionLemmas.{if_some, mapped_some}
 use Rattle.nm_explored.specs.declared.choices.moves.Move.TheVariants.{Arrive}
 use Rattle.nm_explored.specs.declared.choices.moves.Turn.{Turn}
 use Rattle.nm_explored.specs.Successors.{message_next, spot_in}
-use Rattle.nm_explored.specs.Lists.{Has}
+use Rattle.nm_search.specs.Lists.{Has}
 use Rattle.nm_explored.specs.Moves.{IsNextMessage}
 use Rattle.std.specs.Prelude.{option_map}
-use Rattle.nm_explored.proofs.KeptLemmas.{each_next, has_kept, keeps_then, only_option, only_then}
+use Rattle.nm_search.proofs.ListLemmas.{each_next, has_kept, keeps_then, only_then}
+use Rattle.nm_explored.proofs.KeptLemmas.{only_option}
 use Rattle.nm_explored.proofs.choices.moves.push_arrivals.Goals as goal
 
 pub loop-from-preserved : goal.loop-from-preserved

@@ -3,7 +3,7 @@ use Rattle.std.proofs.Common.{◌≡◌, ℕ, ◌<◌, Some}
 use Rattle.nm_types.specs.declared.messages.Arrival as arrival
 use Rattle.nm_explored.specs.declared.choices.moves.Move.TheVariants.{Arrive}
 use Rattle.nm_explored.specs.Successors.{message_next, spot_in}
-use Rattle.nm_explored.specs.Lists.{AddsOnly, Has, Extends}
+use Rattle.nm_search.specs.Lists.{AddsOnly, Has, Extends}
 use Rattle.nm_explored.specs.Moves.{IsNextMessage}
 use Rattle.nm_explored.proofs.choices.moves.push_arrivals.Given as goal
 

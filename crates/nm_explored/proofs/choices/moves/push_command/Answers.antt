@@ -7,9 +7,10 @@ use Rattle.nm_outcomes.specs.declared.spots.deeds.Deed.TheVariants as deed
 use Rattle.nm_outcomes.specs.declared.spots.deeds.Reply.{Reply}
 use Rattle.nm_explored.specs.declared.choices.moves.Move.TheVariants.{Act}
 use Rattle.nm_explored.specs.Successors.{spot_in}
-use Rattle.nm_explored.specs.Lists.{Has}
+use Rattle.nm_search.specs.Lists.{Has}
 use Rattle.nm_explored.specs.Moves.{IsDeedOf}
-use Rattle.nm_explored.proofs.KeptLemmas.{deeds_only, has_kept}
+use Rattle.nm_search.proofs.ListLemmas.{has_kept}
+use Rattle.nm_explored.proofs.KeptLemmas.{deeds_only}
 use Rattle.nm_explored.proofs.choices.moves.push_command.Goals as goal
 
 pub returns-clause-added : goal.returns-clause-added

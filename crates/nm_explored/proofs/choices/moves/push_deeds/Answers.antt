@@ -9,7 +9,8 @@ use Rattle.nm_explored.specs.declared.choices.moves.Turn.{Turn}
 use Rattle.nm_explored.specs.Successors.{spot_in}
 use Rattle.nm_explored.specs.Lines.{line_in}
 use Rattle.nm_explored.specs.Moves.{IsAct}
-use Rattle.nm_explored.proofs.KeptLemmas.{IsDeedTurn, only_weaker}
+use Rattle.nm_search.proofs.ListLemmas.{only_weaker}
+use Rattle.nm_explored.proofs.KeptLemmas.{IsDeedTurn}
 use Rattle.nm_explored.proofs.choices.moves.push_deeds.Goals as goal
 
 pub returns-clause-only : goal.returns-clause-only

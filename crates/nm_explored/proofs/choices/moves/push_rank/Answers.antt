@@ -3,7 +3,8 @@ use Rattle.std.proofs.Common.{◌≡◌, Some, sym, ◌∙◌, ap}
 use Rattle.std.specs.Prelude.{option_copied}
 use Rattle.nm_explored.specs.Successors.{spot_in}
 use Rattle.nm_explored.specs.Moves.{IsTurn, IsTurnOf}
-use Rattle.nm_explored.proofs.KeptLemmas.{only_weaker, turn_of}
+use Rattle.nm_search.proofs.ListLemmas.{only_weaker}
+use Rattle.nm_explored.proofs.KeptLemmas.{turn_of}
 use Rattle.nm_explored.proofs.choices.moves.push_rank.Goals as goal
 
 pub returns-in_ok-push_moves-clause-only : goal.returns-in_ok-push_moves-clause-only

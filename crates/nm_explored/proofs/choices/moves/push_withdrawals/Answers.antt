@@ -9,9 +9,10 @@ use Rattle.nm_match.specs.declared.names.Message.{Message}
 use Rattle.nm_explored.specs.declared.choices.moves.Move.TheVariants.{Withdraw}
 use Rattle.nm_explored.specs.declared.choices.moves.Turn.{Turn}
 use Rattle.nm_explored.specs.Successors.{is_withdrawn_next, spot_in}
-use Rattle.nm_explored.specs.Lists.{Has}
+use Rattle.nm_search.specs.Lists.{Has}
 use Rattle.nm_explored.specs.Moves.{IsRecalled}
-use Rattle.nm_explored.proofs.KeptLemmas.{each_next, has_kept, keeps_then, only_option, only_then, withdrawal}
+use Rattle.nm_search.proofs.ListLemmas.{each_next, has_kept, keeps_then, only_then}
+use Rattle.nm_explored.proofs.KeptLemmas.{only_option, withdrawal}
 use Rattle.nm_explored.proofs.KeptLemmas.{withdrawal_added, withdrawal_only}
 use Rattle.nm_explored.proofs.choices.moves.push_withdrawals.Goals as goal
 

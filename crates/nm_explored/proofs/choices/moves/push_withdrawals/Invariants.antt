@@ -5,7 +5,7 @@ use Rattle.nm_types.specs.declared.messages.Arrival as arrival
 use Rattle.nm_match.specs.declared.names.Message.{Message}
 use Rattle.nm_explored.specs.declared.choices.moves.Move.TheVariants.{Withdraw}
 use Rattle.nm_explored.specs.Successors.{is_withdrawn_next, spot_in}
-use Rattle.nm_explored.specs.Lists.{AddsOnly, Has, Extends}
+use Rattle.nm_search.specs.Lists.{AddsOnly, Has, Extends}
 use Rattle.nm_explored.specs.Moves.{IsRecalled}
 use Rattle.nm_explored.proofs.choices.moves.push_withdrawals.Given as goal
 

@@ -2,7 +2,7 @@
 use Rattle.std.proofs.Common.{ℕ}
 use Rattle.nm_explored.specs.Successors.{spot_in}
 use Rattle.nm_explored.specs.Moves.{AreMovesOf, IsTurn}
-use Rattle.nm_explored.proofs.KeptLemmas.{each_next, has_kept, or_more}
+use Rattle.nm_search.proofs.ListLemmas.{each_next, has_kept, or_more}
 use Rattle.nm_explored.proofs.choices.moves.turns.Goals as goal
 
 pub loop-i-preserved : goal.loop-i-preserved

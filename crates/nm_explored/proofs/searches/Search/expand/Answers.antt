@@ -6,7 +6,7 @@ use Rattle.nm_outcomes.specs.RankStates.{Spot}
 use Rattle.nm_explored.specs.declared.choices.moves.Turn.{Turn}
 use Rattle.nm_explored.specs.Successors.{spot_in}
 use Rattle.nm_explored.specs.Moves.{moved_at}
-use Rattle.nm_explored.proofs.KeptLemmas.{each_next}
+use Rattle.nm_search.proofs.ListLemmas.{each_next}
 use Rattle.nm_explored.specs.Stores.{Leads}
 use Rattle.nm_explored.proofs.ExpandLemmas.{expanded_now}
 use Rattle.nm_explored.proofs.MetLemmas.{got_has, turn_here}

@@ -3,8 +3,9 @@ use Rattle.std.proofs.Common.{◌≡◌, ◌⊎◌, List, [], ◌∷◌, ◌++�
 use Rattle.std.specs.List.{slice_get, slice_set}
 use Rattle.nm_types.proofs.OptionLemmas.{same_some}
 use Rattle.nm_outcomes.specs.RankStates.{Spot}
-use Rattle.nm_explored.specs.Lists.{Extends}
-use Rattle.nm_explored.specs.Stores.{StandOnce, Store}
+use Rattle.nm_search.specs.Lists.{Extends}
+use Rattle.nm_search.specs.Lists.{StandOnce}
+use Rattle.nm_explored.specs.Stores.{Store}
 use Rattle.nm_explored.proofs.BackLemmas.{back_next}
 use Rattle.nm_explored.proofs.MetLemmas.{made_next}
 use Rattle.nm_explored.proofs.searches.Search.follow.Goals as goal

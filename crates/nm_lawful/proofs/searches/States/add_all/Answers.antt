@@ -2,14 +2,15 @@
 use Rattle.std.proofs.Common.{◌≡◌, ℕ, ◌<◌, List, Some, arith}
 use Rattle.std.specs.List.{slice_get}
 use Rattle.nm_types.proofs.ListLemmas.{place_below}
-use Rattle.nm_lawful.specs.Lists.{Has}
+use Rattle.nm_search.specs.Lists.{Has}
 use Rattle.nm_lawful.specs.Ranks.{RankState}
-use Rattle.nm_lawful.proofs.ListLemmas.{added_only, each_next, has_kept, item_added, keeps_then, kept_added, only_then}
+use Rattle.nm_search.proofs.SetLemmas.{kept_in}
+use Rattle.nm_search.proofs.ListLemmas.{added_only, each_next, has_kept, item_added, keeps_then, only_then}
 use Rattle.nm_lawful.proofs.searches.States.add_all.Goals as goal
 
 pub loop-state-preserved : goal.loop-state-preserved
 loop-state-preserved c =
-    let kept = kept_added c.loop-state.self c.add.new.self c.in_ok-copy.copy c.in_ok-add.ensures.added in
+    let kept = kept_in c.loop-state.self c.add.new.self c.in_ok-copy.copy c.in_ok-add.ensures.added in
     record {
       kept = keeps_then c.args.self.now c.loop-state.self c.add.new.self c.loop-state.invariant.kept kept;
       there = each_next

@@ -1,7 +1,7 @@
 -- The first of the states are there, and no others were added.
 use Rattle.std.proofs.Common.{◌≡◌, ℕ, ◌<◌, List, Some}
 use Rattle.std.specs.List.{slice_get}
-use Rattle.nm_lawful.specs.Lists.{AddsOnly, Extends, Has}
+use Rattle.nm_search.specs.Lists.{AddsOnly, Extends, Has}
 use Rattle.nm_lawful.specs.Ranks.{RankState}
 use Rattle.nm_lawful.proofs.searches.States.add_all.Given as goal
 

@@ -1,6 +1,6 @@
 -- A set has each state once.
 use Rattle.std.proofs.Common.{◌≡◌, List, sym, subst}
-use Rattle.nm_lawful.specs.Lists.{StandOnce}
+use Rattle.nm_search.specs.Lists.{StandOnce}
 use Rattle.nm_lawful.specs.Ranks.{RankState}
 use Rattle.nm_lawful.proofs.SetLemmas.{states_once}
 use Rattle.nm_lawful.proofs.searches.States.as_slice.Goals as goal

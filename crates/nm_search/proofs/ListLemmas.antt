@@ -9,7 +9,7 @@ use Rattle.std.proofs.lemmas.Option.{get_or_from_slice_get, slice_get-get_or}
 use Rattle.nm_types.proofs.ListLemmas.{get_before, get_last, get_some, no_item, no_items}
 use Rattle.nm_types.proofs.NumberLemmas.{same_number}
 use Rattle.nm_types.proofs.OptionLemmas.{no_some, same_some}
-use Rattle.nm_lawful.specs.Lists.{AddsOnly, Extends, Has}
+use Rattle.nm_search.specs.Lists.{AddsOnly, Extends, Has}
 
 pub replicate_more : {X : Type 0} (n : ℕ) (x : X) → replicate n x ++ x ∷ [] ≡ replicate (n + 1) x
 replicate_more n x = replicate-append-replicate n 1 x
@@ -94,11 +94,6 @@ pub then_some : {X Y : Type 0} (f : X → Option Y) (o : Option X) (y : Y) → o
     (x : X) × (o ≡ Some x) × (f x ≡ Some y)
 then_some f None y is = absurd (no_some y is)
 then_some f (Some x) y is = (x, refl, is)
-
--- a list that was added to
-pub kept_added : {X : Type 0} (xs ys : List X) (x : X) → (ys ≡ xs) ⊎ (ys ≡ xs ++ x ∷ []) → Extends xs ys
-kept_added {X} xs ys x (inl same) k y here = ap (λ (zs : List X). slice_get zs k) same ∙ here
-kept_added {X} xs ys x (inr more) k y here = keeps_push xs ys x more k y here
 
 -- the element at a place was added
 pub item_added : {X : Type 0} (i : ℕ) (item copy t : X) (xs ys : List X) → item ≡ get_or xs i item → copy ≡ item →
