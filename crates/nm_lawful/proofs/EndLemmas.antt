@@ -1,11 +1,12 @@
 -- Ends, and what is said of them.
-use Rattle.std.proofs.Common.{◌≡◌, ◌⊎◌, inl, inr, ℕ, zero, suc, ◌+◌, ◌-◌, ◌<◌, ◌≤◌, Bool, true, false, Option, Some, None}
+use Rattle.std.proofs.Common.{◌≡◌, ◌⊎◌, inl, inr, ℕ, ◌+◌, ◌-◌, ◌<◌, ◌≤◌, Bool, true, false, Option, Some, None}
 use Rattle.std.proofs.Common.{List, [], ◌∷◌, length, refl, sym, ◌∙◌, ap, subst, arith}
 use Rattle.std.specs.Prelude.{IsTrue, if◌then◌else◌, is_some, nat_lt, option_and_then}
 use Rattle.std.specs.List.{slice_get}
 use Rattle.std.specs.Option.{option_map_or}
 use Rattle.std.proofs.lemmas.Bool.{cases_lt, false≢true}
 use Rattle.std.proofs.lemmas.Bool.Decides.{nat_tests}
+use Rattle.std.proofs.lemmas.List.{take_all}
 use Rattle.std.proofs.lemmas.Option.{slice_get_past}
 use Rattle.nm_types.proofs.OptionLemmas.{no_some}
 use Rattle.nm_types.specs.declared.answers.Answer.{Answer}
@@ -14,11 +15,11 @@ use Rattle.nm_lawful.specs.declared.moves.Move.{Move}
 use Rattle.nm_lawful.specs.declared.moves.Said.{Said}
 use Rattle.nm_lawful.specs.declared.searches.Found.{Found}
 use Rattle.nm_lawful.specs.declared.searches.Found.TheVariants as found
-use Rattle.nm_lawful.specs.Lawful.{AllTold, CanTell, IsEnd, IsLawful, MayTell, has_run_lem, rests_lem}
+use Rattle.nm_lawful.specs.Lawful.{AllTold, CanTell, IsEnd, IsLawful, MayRest, MayTell, RestsBelow, has_run_lem}
+use Rattle.nm_lawful.specs.Lawful.{rests_at_lem, rests_lem}
 use Rattle.nm_search.specs.Lists.{Has}
-use Rattle.nm_lawful.specs.Moves.{Goes, Report, counted_lem, next_lem, next_of_lem, told_at_lem}
+use Rattle.nm_lawful.specs.Moves.{Goes, Report, counted_lem, next_lem, next_of_lem, report_lem, told_at_lem}
 use Rattle.nm_lawful.specs.Ranks.{RankState}
-use Rattle.nm_lawful.specs.Replies.{is_held_lem}
 use Rattle.nm_lawful.specs.Searches.{AreBounds, AreTooMany, IsStill, SearchSays, halved_lem, is_too_many_lem}
 use Rattle.nm_lawful.specs.States.{first_state}
 use Rattle.nm_search.proofs.ListLemmas.{has_nothing}
@@ -56,7 +57,7 @@ end_moment lines told (Some moment) state counted end = end
 -- .. else where it is also at rest
 pub rest_end : (lines : List Line) (told : Report) (until : Option ℕ) (state : List RankState)
     (states : List (List RankState)) → is_some until ≡ false → AllTold lines told until state →
-    IsStill lines state states → ((t : List RankState) → Goes lines told until state t → Has states t) →
+    IsStill lines told state states → ((t : List RankState) → Goes lines told until state t → Has states t) →
     IsEnd lines told until state
 rest_end lines told (Some moment) state states all told_all still goes = absurd (false≢true (sym all))
 rest_end lines told None state states all told_all still goes =
@@ -69,7 +70,7 @@ end_told lines told None state all end = end.0
 
 pub end_still : (lines : List Line) (told : Report) (until : Option ℕ) (state : List RankState)
     (states : List (List RankState)) → is_some until ≡ false → IsEnd lines told until state →
-    ((t : List RankState) → Has states t → Goes lines told until state t) → IsStill lines state states
+    ((t : List RankState) → Has states t → Goes lines told until state t) → IsStill lines told state states
 end_still lines told (Some moment) state states all end goes = absurd (false≢true (sym all))
 end_still lines told None state states all end goes =
     record { none = nothing_next lines told state states end.1.still goes; held = end.1.held }
@@ -81,7 +82,7 @@ none_told lines told ranks =
       moves = 0;
       state = first_state ranks;
       path = refl;
-      end = λ place is. by_told place (slice_get told place) refl is;
+      end = λ place is. by_told place (slice_get told.said place) refl is;
     }
   where
     never : (said : Said) → counted_lem (Some 0) said ≡ None
@@ -91,7 +92,7 @@ none_told lines told ranks =
         by_test true is = absurd (grind (arith, nat_tests))
         by_test false is = ap (λ (b : Bool). if b then Some said.answer else None) is
 
-    by_told : (place : ℕ) (o : Option (Option Said)) → slice_get told place ≡ o →
+    by_told : (place : ℕ) (o : Option (Option Said)) → slice_get told.said place ≡ o →
         IsTrue (is_some (told_at_lem told (Some 0) place)) → IsTrue (has_run_lem lines (first_state ranks) place)
     by_told place None at is =
         absurd (false≢true
@@ -172,16 +173,37 @@ map_or_none : {X : Type 0} (f : X → Bool) (o : Option X) → o ≡ None → op
 map_or_none f None is = refl
 map_or_none f (Some x) is = absurd (no_some x (sym is))
 
-pub rest_behind : (lines : List Line) (state ranks : List RankState) (k i : ℕ) → ranks ≡ state → length ranks ≤ k →
-    ((i : ℕ) → i < k → IsTrue (rests_lem lines state i)) → IsTrue (rests_lem lines state i)
-rest_behind lines state ranks k i same past each = by_order (cases_lt i k)
+pub rest_behind : (lines : List Line) (told : Report) (state ranks : List RankState) (k i : ℕ) → ranks ≡ state →
+    length ranks ≤ k → ((i : ℕ) → i < k → IsTrue (rests_lem lines told state i)) → IsTrue (rests_lem lines told state i)
+rest_behind lines told state ranks k i same past each = by_order (cases_lt i k)
   where
-    by_order : (i < k) ⊎ (k ≤ i) → IsTrue (rests_lem lines state i)
+    by_wait : (o : Option (Option ℕ)) → slice_get state i ≡ None →
+        option_map_or
+        (λ (wait : Option ℕ). option_map_or
+        (λ (rank : RankState). rests_at_lem lines state i rank (next_of_lem lines i rank.at) wait) (slice_get state i) true)
+        o true ≡ true
+    by_wait None none = refl
+    by_wait (Some wait) none =
+        map_or_none (λ (rank : RankState). rests_at_lem lines state i rank (next_of_lem lines i rank.at) wait)
+        (slice_get state i) none
+
+    by_order : (i < k) ⊎ (k ≤ i) → IsTrue (rests_lem lines told state i)
     by_order (inl low) = each i low
     by_order (inr high) =
         let long = ap (λ (xs : List RankState). length xs) same in
-        map_or_none
-        (λ (rank : RankState). option_map_or
-        (λ (place : ℕ). option_map_or (λ (l : Line). is_held_lem state i rank l.command) (slice_get lines place) false)
-        (next_of_lem lines i rank.at) true)
-        (slice_get state i) (slice_get_past state i (omega (arith, past, high, long)))
+        by_wait (slice_get told.waits i) (slice_get_past state i (omega (arith, past, high, long)))
+
+-- .. below all, where those below as many or more can
+pub rests_end : (lines : List Line) (told : Report) (ranks i n : ℕ) → n ≡ length told.waits → n ≤ i →
+    RestsBelow lines told ranks i → RestsBelow lines told ranks n
+rests_end lines told ranks i n is past (inl none) = inl (omega (arith, none, past))
+rests_end lines told ranks i n is past (inr may) =
+    inr (subst (λ (waits : List (Option ℕ)). IsLawful lines (report_lem told.said waits) ranks)
+    (take_all i told.waits (omega (arith, is, past)) ∙ sym (take_all n told.waits (omega (arith, is)))) may)
+
+-- where the ranks below one more than all can rest as is said, all can
+pub rests_all : (lines : List Line) (said : List (Option Said)) (waits : List (Option ℕ)) (ranks i : ℕ) →
+    length waits ≤ i → MayRest lines (report_lem said waits) ranks (i + 1) → IsLawful lines (report_lem said waits) ranks
+rests_all lines said waits ranks i past may =
+    subst (λ (w : List (Option ℕ)). IsLawful lines (report_lem said w) ranks)
+    (take_all (i + 1) waits (omega (arith, past))) may

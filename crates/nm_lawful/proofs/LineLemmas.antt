@@ -1,5 +1,5 @@
 -- The next line of a rank.
-use Rattle.std.proofs.Common.{◌≡◌, ℕ, ◌+◌, ◌==◌, ◌<◌, ◌≤◌, None, List, length, drop, ap, arith}
+use Rattle.std.proofs.Common.{◌≡◌, ℕ, ◌+◌, ◌==◌, ◌<◌, ◌≤◌, None, List, length, ap, arith}
 use Rattle.std.specs.Prelude.{option_map}
 use Rattle.std.specs.List.{position}
 use Rattle.std.proofs.Math.ListN.{drop_of_length-le}

@@ -1,12 +1,12 @@
 -- What a search has found.
-use Rattle.std.proofs.Common.{◌≡◌, ◌⊎◌, inl, inr, ℕ, zero, suc, ◌+◌, ◌<◌, ◌≤◌, Option, Some, None, List, [], ◌∷◌, ◌++◌}
-use Rattle.std.proofs.Common.{get_or, length, refl, sym, ◌∙◌, ap, subst, arith}
+use Rattle.std.proofs.Common.{◌≡◌, ◌⊎◌, inl, inr, ℕ, zero, suc, ◌+◌, ◌<◌, ◌≤◌, Option, Some, List, [], ◌∷◌, ◌++◌}
+use Rattle.std.proofs.Common.{get_or, length, refl, sym, ◌∙◌, subst, arith}
 use Rattle.std.proofs.lemmas.Option.{get_or_from_slice_get}
 use Rattle.std.specs.Prelude.{option_and_then}
 use Rattle.std.specs.List.{slice_get}
 use Rattle.nm_types.specs.declared.scripts.Line.{Line}
 use Rattle.nm_types.proofs.ListLemmas.{place_below}
-use Rattle.nm_types.proofs.OptionLemmas.{mapped_some, no_some}
+use Rattle.nm_types.proofs.OptionLemmas.{mapped_some}
 use Rattle.nm_lawful.specs.declared.messages.Request.{Request}
 use Rattle.nm_lawful.specs.declared.moves.Move.{Move}
 use Rattle.nm_lawful.specs.declared.moves.Move.TheVariants as move

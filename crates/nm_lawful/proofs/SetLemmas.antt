@@ -1,14 +1,8 @@
 -- Sets of states.
-use Rattle.std.proofs.Common.{◌≡◌, ◌⊎◌, inl, inr, ℕ, ◌<◌, Bool, true, false, Some, List, [], ◌∷◌, ◌++◌, get_or}
-use Rattle.std.proofs.Common.{refl, sym, ◌∙◌, ap, arith}
-use Rattle.std.specs.Prelude.{if◌then◌else◌, nat_lt}
-use Rattle.std.specs.List.{IsDistinct, list_any, slice_get}
-use Rattle.std.proofs.lemmas.Bool.{false≢true}
-use Rattle.std.proofs.lemmas.Bool.Decides.{nat_tests}
-use Rattle.std.proofs.lemmas.Map.Keys.{apart_from_distinct}
-use Rattle.std.proofs.lemmas.Option.{get_or_from_slice_get}
+use Rattle.std.proofs.Common.{◌≡◌, ◌⊎◌, ℕ, true, Some, List, [], ◌∷◌, ◌++◌}
+use Rattle.std.proofs.Common.{sym, ◌∙◌, ap}
+use Rattle.std.specs.List.{IsDistinct, slice_get}
 use Rattle.indexmap.specs.IndexSet.{insert_key}
-use Rattle.nm_types.proofs.ListLemmas.{place_below}
 use Rattle.nm_search.specs.Lists.{Has, StandOnce}
 use Rattle.nm_search.proofs.SetLemmas.{inserted, once_in}
 use Rattle.nm_lawful.specs.Ranks.{RankState}

@@ -20,9 +20,15 @@ use Rattle.nm_lawful.specs.Ranks.{receiver_of_lem, request_at_lem}
 use Rattle.nm_lawful.specs.Replies.{act_of_lem}
 use Rattle.nm_lawful.specs.States.{after_lem}
 
--- What is told: at the place of each line its answer, with its number in the order of time.
-abbrev pub Report : Type 0
-Report = List (Option Said)
+-- What is told: at the place of each line its answer, with its number in the order of time; and of ranks, by
+-- number, at which line each waits in the end, or that it is at its end.
+pub record Report : Type 0 where
+  pub said : List (Option Said)
+  pub waits : List (Option ℕ)
+
+-- .. these answers and waits
+abbrev pub report_lem : List (Option Said) → List (Option ℕ) → Report
+report_lem said waits = record { said = said; waits = waits }
 
 -- the answer counts: of all, or of those before a moment
 abbrev pub counts_lem : Option ℕ → ℕ → Bool
@@ -35,7 +41,7 @@ counted_lem until said = if counts_lem until said.at then Some said.answer else 
 
 -- what is told of the line at a place
 abbrev pub told_at_lem : Report → Option ℕ → ℕ → Option Answer
-told_at_lem told until place = option_and_then (λ o. option_and_then (counted_lem until) o) (slice_get told place)
+told_at_lem told until place = option_and_then (λ o. option_and_then (counted_lem until) o) (slice_get told.said place)
 
 -- the place of the first line of a rank from one on
 abbrev pub next_of_lem : List Line → ℕ → ℕ → Option ℕ

@@ -1,7 +1,6 @@
 -- Numbers that tell states apart, mostly.
 use Rattle.std.specs.Prelude.{ℕ, List, fold}
 use Rattle.nm_search.specs.Numbers.{mixed_lem}
-use Rattle.nm_lawful.specs.declared.messages.Message.{Message}
 use Rattle.nm_lawful.specs.declared.messages.Request.{Request}
 use Rattle.nm_lawful.specs.declared.messages.Standing.{Standing}
 use Rattle.nm_lawful.specs.declared.messages.Standing.TheVariants as standing

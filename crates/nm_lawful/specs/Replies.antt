@@ -1,7 +1,7 @@
 -- What a command may answer, and what it does with that answer. MPI 3.1, 3.4 (a synchronous send is complete
 -- only with its receive, a standard one may be before), 3.7.3 (wait and test), 3.8.1 to 3.8.3 (probes), 3.8.4 (cancel).
 use Rattle.std.specs.Prelude.{ℕ, ◌==◌, ◌&&◌, ◌||◌, Bool, true, false, not, is_some, nat_eq, nat_le, nat_lt}
-use Rattle.std.specs.Prelude.{if◌then◌else◌, Option, Some, None, List, [], option_and_then, option_map}
+use Rattle.std.specs.Prelude.{if◌then◌else◌, Option, Some, None, List, option_and_then, option_map}
 use Rattle.std.specs.Cmp.Lexicographic.{pointwise}
 use Rattle.std.specs.List.{list_any, slice_get}
 use Rattle.std.specs.Option.{option_map_or}
@@ -18,13 +18,12 @@ use Rattle.nm_types.specs.Bodies.{body_len, bytes_of}
 use Rattle.nm_history.specs.Totals.{is_sent}
 use Rattle.nm_lawful.specs.declared.messages.Act.{Act}
 use Rattle.nm_lawful.specs.declared.messages.Act.TheVariants as act
-use Rattle.nm_lawful.specs.declared.messages.Claim.{Claim}
 use Rattle.nm_lawful.specs.declared.messages.Message.{Message}
 use Rattle.nm_lawful.specs.declared.messages.Pattern.{Pattern}
 use Rattle.nm_lawful.specs.declared.messages.Request.{Request}
 use Rattle.nm_lawful.specs.declared.messages.Standing.{Standing}
 use Rattle.nm_lawful.specs.declared.messages.Standing.TheVariants as standing
-use Rattle.nm_lawful.specs.Ranks.{RankState, first_to_lem, handle_lem, is_waiting_lem, live_lem, shown_to_lem}
+use Rattle.nm_lawful.specs.Ranks.{RankState, handle_lem, is_waiting_lem, live_lem, shown_to_lem}
 
 -- these are the bytes that a command sends
 abbrev pub sends_bytes_lem : Command → List ℕ → Bool
@@ -35,11 +34,13 @@ sends_bytes_lem _ bytes = false
 abbrev pub has_bytes_lem : List Line → ℕ → List ℕ → Bool
 has_bytes_lem lines place bytes = option_map_or (λ l. sends_bytes_lem l.command bytes) (slice_get lines place) false
 
--- a receive that has this message ends so; of one that was too short for it the length is open (3.2.4, 8.3)
+-- A receive that has this message ends so (3.2.4). Behind a message that was cut the length is open by the letter (8.3):
+-- the length 0, which no such message has, stands for any.
 abbrev pub is_result_lem : List Line → ℕ → Message → Answer → Bool
 is_result_lem lines cap m (answer.Got from tag bytes) =
     nat_le m.len cap && (m.from == from && (m.tag == tag && has_bytes_lem lines m.place bytes))
-is_result_lem lines cap m (answer.Cut from tag len) = nat_lt cap m.len && (m.from == from && m.tag == tag)
+is_result_lem lines cap m (answer.Cut from tag len) =
+    nat_lt cap m.len && (m.from == from && (m.tag == tag && (len == 0 || len == m.len)))
 is_result_lem lines cap m _ = false
 
 -- an answer says that a request was cancelled

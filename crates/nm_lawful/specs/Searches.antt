@@ -1,5 +1,5 @@
 -- What a search has found, and what it says.
-use Rattle.std.specs.Prelude.{◌≡◌, ℕ, ◌+◌, ◌<◌, ◌≤◌, Bool, true, false, IsTrue, Option, Some, None, List, [], length}
+use Rattle.std.specs.Prelude.{◌≡◌, ℕ, ◌+◌, ◌<◌, ◌≤◌, Bool, true, false, IsTrue, Option, Some, List, [], length}
 use Rattle.std.specs.List.{slice_get}
 use Rattle.nm_types.specs.declared.scripts.Line.{Line}
 use Rattle.nm_lawful.specs.declared.judging.Judged.{Judged}
@@ -10,9 +10,9 @@ use Rattle.nm_lawful.specs.declared.searches.Found.{Found}
 use Rattle.nm_lawful.specs.declared.searches.Found.TheVariants as found
 use Rattle.nm_lawful.specs.declared.searches.Step.{Step}
 use Rattle.nm_lawful.specs.declared.searches.Step.TheVariants as step
-use Rattle.nm_lawful.specs.Lawful.{CanTell, IsEnd, IsLawful, IsPath, MayTell, rests_lem}
+use Rattle.nm_lawful.specs.Lawful.{CanTell, IsEnd, IsLawful, IsPath, MayRest, MayTell, RestsBelow, rests_lem}
 use Rattle.nm_search.specs.Lists.{AddsOnly, Extends, Has, StandOnce}
-use Rattle.nm_lawful.specs.Moves.{Goes, Report}
+use Rattle.nm_lawful.specs.Moves.{Goes, Report, report_lem}
 use Rattle.nm_lawful.specs.Ranks.{RankState}
 use Rattle.nm_lawful.specs.States.{first_state}
 
@@ -32,10 +32,11 @@ pub record HasMovesOf (i : ℕ) (rank : RankState) (moves : List Move) : Type 0 
 abbrev pub HasAllMoves : List RankState → List Move → Type 0
 HasAllMoves state moves = (i : ℕ) (rank : RankState) → slice_get state i ≡ Some rank → HasMovesOf i rank moves
 
--- moves lead to none of these states, which are all, and each rank is at its end or held up
-pub record IsStill (lines : List Line) (state : List RankState) (states : List (List RankState)) : Type 0 where
+-- moves lead to none of these states, which are all, and each rank rests as it is said to
+pub record IsStill (lines : List Line) (told : Report) (state : List RankState) (states : List (List RankState))
+    : Type 0 where
   pub none : states ≡ []
-  pub held : (i : ℕ) → IsTrue (rests_lem lines state i)
+  pub held : (i : ℕ) → IsTrue (rests_lem lines told state i)
 
 -- moves lead to the state from the first one
 abbrev pub IsMet : List Line → Report → ℕ → Option ℕ → List RankState → Type 0
@@ -100,12 +101,16 @@ is_too_many_lem found.TooMany = true
 is_too_many_lem _ = false
 
 -- What is said of a report: that it is lawful; that it isn't, and which answer is the first in time up to
--- which no run can have told it; or that all answers can be told, but not with this rest.
+-- which no run can have told it; or that all answers can be told, and the ranks below this one can rest as is said,
+-- but it can't with them.
 abbrev pub JudgedSays : List Line → Report → ℕ → ℕ → ℕ → Judged → Type 0
 JudgedSays lines told ranks count limit judged.Lawful = IsLawful lines told ranks
 JudgedSays lines told ranks count limit (judged.Unlawful moment) =
     (IsLawful lines told ranks → ⊥) × MayTell lines told ranks moment × (MayTell lines told ranks (moment + 1) → ⊥)
-JudgedSays lines told ranks count limit judged.NoRest =
-    (IsLawful lines told ranks → ⊥) × MayTell lines told ranks count
+JudgedSays lines told ranks count limit (judged.NoRest i) =
+    (IsLawful lines told ranks → ⊥)
+    × MayTell lines told ranks count
+    × RestsBelow lines told ranks i
+    × (MayRest lines told ranks (i + 1) → ⊥)
 JudgedSays lines told ranks count limit judged.TooMany =
-    (until : Option ℕ) × AreTooMany lines told ranks until limit
+    (waits : List (Option ℕ)) × (until : Option ℕ) × AreTooMany lines (report_lem told.said waits) ranks until limit

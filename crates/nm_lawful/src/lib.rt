@@ -10,13 +10,15 @@
 //! `specs/Replies.antt` what a command may answer, each with MPI's section, and `specs/Moves.antt` the four
 //! moves: a rank runs its next line with the answer that is told of it, a message and a receive become a
 //! pair, a send or a receive is cancelled. `specs/Lawful.antt` says when a report is lawful: moves lead from
-//! the first state to one at rest, by which all is told (`IsLawful`), and when the answers before a moment can have been
-//! told by then (`MayTell`). `specs/Searches.antt` has what a search says.
+//! the first state to one by which all is told and each rank rests as is said (`IsLawful`), when the answers before a
+//! moment can have been told by then (`MayTell`), and when the first ranks can rest as is said (`MayRest`).
+//! `specs/Searches.antt` has what a search says.
 //! # What is proved
 //! - `judge` says that a report is lawful exactly where it is, unless it answers that there are too many
 //!   states: so where moves lead to more states than the limit, which all differ.
 //! - Where it names an answer, the report isn't lawful, a run can have told the answers before that one in
-//!   time, and none can have told those up to it. Where it names the rest, all answers can be told.
+//!   time, and none can have told those up to it. Where it names a rank, all answers can be told, and the ranks below it
+//!   can rest as is said, but not this one with them.
 //! # What is only tested
 //! That reports which MPI allows are lawful, and others are not (`tests`).
 #![tactic(auto)]

@@ -8,7 +8,7 @@ ghost use Rattle.std.specs.Prelude.{false};
 ghost use Rattle.nm_lawful.specs.declared.states.Deed.TheVariants as deed;
 ghost use Rattle.nm_lawful.specs.Moves.{counted_lem, counts_lem, deed_of_lem, is_first_lem, is_recalled_lem};
 ghost use Rattle.nm_lawful.specs.Moves.{next_lem, next_of_lem, off_by_lem, pair_by_lem, pair_of_lem, run_by_lem};
-ghost use Rattle.nm_lawful.specs.Moves.{told_at_lem, withdrawal_of_lem};
+ghost use Rattle.nm_lawful.specs.Moves.{report_lem, told_at_lem, withdrawal_of_lem};
 
 use crate::messages::{Message, Pattern, Request, Standing};
 use crate::ranks::{Rank, cap_of, pattern_of};
@@ -17,19 +17,21 @@ use crate::states::{Deed, State};
 use nm_types::{Answer, Line, Memory};
 use std::alloc::Global;
 
-/// An answer, with its number in the order of time.
+/// An answer, with its number in the order of time. The length 0 of a message that was cut stands for any; words
+/// that are no answer stand as `Started`, which no command tells.
 #[derive(Drop)]
 pub struct Said {
     pub at: u32,
     pub answer: Answer,
 }
 
-/// A script, and what is told: at the place of each line its answer. All of these count, or those before a
-/// moment.
+/// A script, and what is told: at the place of each line its answer, and of ranks, by number, at the place of
+/// which line each waits in the end. All answers count, or those before a moment.
 #[derive(Clone, Copy)]
 pub struct Report<'a> {
     pub lines: &'a [Line],
     pub told: &'a [Option<Said>],
+    pub waits: &'a [Option<usize>],
     pub until: Option<u32>,
 }
 
@@ -67,7 +69,7 @@ fn counted(until: Option<u32>, said: &Said) -> Option<&Answer>
 impl<'a> Report<'a> {
     /// What is told of the line at a place.
     pub fn told_at(&self, place: usize) -> Option<&'a Answer>
-        ensures { option_copied result ≡ told_at_lem self.now.told.now self.now.until place }
+        ensures { option_copied result ≡ told_at_lem (report_lem self.now.told.now self.now.waits.now) self.now.until place }
     {
         match self.told.get(place) {
             Some(Some(said)) => counted(self.until, said),
@@ -100,7 +102,7 @@ pub fn next_of(lines: &[Line], rank: u8, at: usize) -> Option<usize>
 
 /// A rank runs its next line.
 fn run_by(report: Report, state: &State, i: u8, rank: &Rank) -> Option<Deed>
-    ensures { result ≡ run_by_lem report.entry.lines.now report.entry.told.now report.entry.until state.now i rank.now }
+    ensures { result ≡ run_by_lem report.entry.lines.now (report_lem report.entry.told.now report.entry.waits.now) report.entry.until state.now i rank.now }
 {
     let place = next_of(report.lines, i, rank.at())?;
     let view = View {
@@ -191,7 +193,7 @@ fn off_by(i: u8, r: &Request) -> Option<Deed>
 
 /// What a move does, if it can be made.
 fn deed_of(report: Report, state: &State, by: Move) -> Option<Deed>
-    ensures { result ≡ deed_of_lem report.entry.lines.now report.entry.told.now report.entry.until state.now by }
+    ensures { result ≡ deed_of_lem report.entry.lines.now (report_lem report.entry.told.now report.entry.waits.now) report.entry.until state.now by }
 {
     match by {
         Move::Run(i) => run_by(report, state, i, state.rank(i)?),
@@ -210,7 +212,7 @@ fn deed_of(report: Report, state: &State, by: Move) -> Option<Deed>
 /// The state behind a move.
 pub fn next(alloc: Global, report: Report, state: &State, by: Move) -> Result<Option<State>, Memory>
     ensures { IfOk result (λ next. next
-        ≡ next_lem report.entry.lines.now report.entry.told.now report.entry.until state.now by) }
+        ≡ next_lem report.entry.lines.now (report_lem report.entry.told.now report.entry.waits.now) report.entry.until state.now by) }
 {
     match deed_of(report, state, by) {
         Some(deed) => {

@@ -1,6 +1,6 @@
 //! What a command may answer, and what it does with that answer.
 
-ghost use Rattle.std.specs.Prelude.{◌≡◌, ◌==◌, ◌&&◌, false, is_some, length, nat_eq, option_copied};
+ghost use Rattle.std.specs.Prelude.{◌≡◌, ◌==◌, ◌&&◌, ◌||◌, false, is_some, length, nat_eq, option_copied};
 ghost use Rattle.std.specs.Prelude.{if◌then◌else◌, None, Some};
 ghost use Rattle.std.specs.Cmp.Lexicographic.{pointwise};
 ghost use Rattle.nm_types.specs.declared.scripts.Body.TheVariants as body;
@@ -84,7 +84,12 @@ fn is_result(lines: &[Line], cap: u32, m: &Message, answer: &Answer) -> bool
                 && m.tag == *tag
                 && has_bytes(lines, m.place, body.as_slice())
         }
-        Answer::Cut { from, tag, .. } => (cap as usize) < m.len && m.from == *from && m.tag == *tag,
+        Answer::Cut { from, tag, len } => {
+            (cap as usize) < m.len
+                && m.from == *from
+                && m.tag == *tag
+                && (*len == 0 || *len as usize == m.len)
+        }
         _ => false,
     }
 }

@@ -2,9 +2,9 @@
 
 ghost use Rattle.std.specs.Prelude.{◌≡◌, ◌⊎◌, ℕ, ◌<◌, IfOk, IsTrue, List, OnOk, Some, false, is_some, length};
 ghost use Rattle.std.specs.Prelude.{option_copied, slice_get, ◌∷◌, [], ◌++◌};
-ghost use Rattle.nm_lawful.specs.Lawful.{AllTold, IsEnd, has_run_lem, rests_lem};
+ghost use Rattle.nm_lawful.specs.Lawful.{AllTold, IsEnd, has_run_lem, rests_at_lem, rests_lem};
 ghost use Rattle.nm_search.specs.Lists.{AddsOnly, Extends, Has, StandOnce};
-ghost use Rattle.nm_lawful.specs.Moves.{Goes, next_lem};
+ghost use Rattle.nm_lawful.specs.Moves.{Goes, next_lem, next_of_lem, report_lem};
 ghost use Rattle.nm_lawful.specs.Ranks.{RankState};
 ghost use Rattle.nm_lawful.specs.Searches.{HasAllMoves, HasMoves, HasMovesOf, IsStill, SearchSays, StepSays};
 ghost use Rattle.nm_lawful.specs.declared.moves.Move.TheVariants as move_lem;
@@ -14,7 +14,7 @@ use crate::ranks::Rank;
 use crate::replies::is_held;
 use crate::states::State;
 use indexmap::IndexSet;
-use nm_types::Memory;
+use nm_types::{Line, Memory};
 use std::alloc::Global;
 use std::marker::Model;
 
@@ -166,10 +166,10 @@ fn push_next(
 ) -> Result<(), Memory>
     ensures kept { OnOk result (Extends states.old.items states.new.items) }
     ensures added { OnOk result ((t : List RankState) →
-        next_lem report.entry.lines.now report.entry.told.now report.entry.until state.now by ≡ Some t →
+        next_lem report.entry.lines.now (report_lem report.entry.told.now report.entry.waits.now) report.entry.until state.now by ≡ Some t →
         Has states.new.items t) }
     ensures only { OnOk result (AddsOnly (λ t.
-        next_lem report.entry.lines.now report.entry.told.now report.entry.until state.now by ≡ Some t)
+        next_lem report.entry.lines.now (report_lem report.entry.told.now report.entry.waits.now) report.entry.until state.now by ≡ Some t)
         states.old.items states.new.items) }
 {
     if let Some(t) = next(alloc, report, state, by)? {
@@ -181,9 +181,9 @@ fn push_next(
 /// The states that the moves of one lead to.
 fn successors(alloc: Global, report: Report, state: &State) -> Result<Vec<State>, Memory>
     ensures all { IfOk result (λ states. (t : List RankState) →
-        Goes report.entry.lines.now report.entry.told.now report.entry.until state.now t → Has states.items t) }
+        Goes report.entry.lines.now (report_lem report.entry.told.now report.entry.waits.now) report.entry.until state.now t → Has states.items t) }
     ensures only { IfOk result (λ states. (t : List RankState) → Has states.items t →
-        Goes report.entry.lines.now report.entry.told.now report.entry.until state.now t) }
+        Goes report.entry.lines.now (report_lem report.entry.told.now report.entry.waits.now) report.entry.until state.now t) }
 {
     let moves = all_moves(alloc, state)?;
     let mut states = Vec::new(alloc);
@@ -209,8 +209,8 @@ fn has_run(report: Report, state: &State, place: usize) -> bool
 /// Whether each line has run of which an answer is told that counts.
 fn is_told(report: Report, state: &State) -> bool
     ensures yes { IsTrue result →
-        AllTold report.entry.lines.now report.entry.told.now report.entry.until state.now }
-    ensures no { AllTold report.entry.lines.now report.entry.told.now report.entry.until state.now →
+        AllTold report.entry.lines.now (report_lem report.entry.told.now report.entry.waits.now) report.entry.until state.now }
+    ensures no { AllTold report.entry.lines.now (report_lem report.entry.told.now report.entry.waits.now) report.entry.until state.now →
         IsTrue result }
 {
     for place in 0..report.told.len() {
@@ -221,23 +221,47 @@ fn is_told(report: Report, state: &State) -> bool
     true
 }
 
-/// Whether the next line of a rank is held up, if there is one.
-fn rests(report: Report, state: &State, i: u8) -> bool
-    ensures { result ≡ rests_lem report.entry.lines.now state.now i }
+/// Whether a rank is said to wait at the line at a place, which is its next one, and is held up.
+fn waits_at(lines: &[Line], ranks: &[Rank], i: u8, rank: &Rank, place: usize, wait: Option<usize>) -> bool
+    requires { place < length lines.now }
+    ensures { result ≡ rests_at_lem lines.now ranks.now i rank.now (Some place) wait }
 {
-    let Some(rank) = state.rank(i) else {
-        return true;
-    };
-    match next_of(report.lines, i, rank.at()) {
-        Some(place) => is_held(state.as_slice(), i, rank, &report.lines[place].command),
+    match wait {
+        Some(wait) => place == wait && is_held(ranks, i, rank, &lines[place].command),
+        None => false,
+    }
+}
+
+/// Whether a rank rests as it is said to.
+fn rests_so(lines: &[Line], ranks: &[Rank], i: u8, rank: &Rank, wait: Option<usize>) -> bool
+    ensures { result ≡ rests_at_lem lines.now ranks.now i rank.now (next_of_lem lines.now i rank.now.at) wait }
+{
+    match next_of(lines, i, rank.at()) {
+        Some(place) => waits_at(lines, ranks, i, rank, place, wait),
+        None => match wait {
+            Some(_) => false,
+            None => true,
+        },
+    }
+}
+
+/// .. if that is said of it.
+fn rests(report: Report, state: &State, i: u8) -> bool
+    ensures { result ≡ rests_lem report.entry.lines.now (report_lem report.entry.told.now report.entry.waits.now) state.now i }
+{
+    match report.waits.get(i as usize) {
+        Some(wait) => match state.rank(i) {
+            Some(rank) => rests_so(report.lines, state.as_slice(), i, rank, *wait),
+            None => true,
+        },
         None => true,
     }
 }
 
-/// Whether each rank is at its end or held up.
+/// Whether each rank rests as it is said to.
 fn all_rest(report: Report, state: &State) -> bool
-    ensures yes { IsTrue result → (i : ℕ) → IsTrue (rests_lem report.entry.lines.now state.now i) }
-    ensures no { ((i : ℕ) → IsTrue (rests_lem report.entry.lines.now state.now i)) → IsTrue result }
+    ensures yes { IsTrue result → (i : ℕ) → IsTrue (rests_lem report.entry.lines.now (report_lem report.entry.told.now report.entry.waits.now) state.now i) }
+    ensures no { ((i : ℕ) → IsTrue (rests_lem report.entry.lines.now (report_lem report.entry.told.now report.entry.waits.now) state.now i)) → IsTrue result }
 {
     for i in 0..state.as_slice().len() {
         if !rests(report, state, i as u8) {
@@ -247,10 +271,10 @@ fn all_rest(report: Report, state: &State) -> bool
     true
 }
 
-/// Whether no move leads anywhere, and each rank is at its end or held up.
+/// Whether no move leads anywhere, and each rank rests as it is said to.
 fn is_still(report: Report, state: &State, states: &[State]) -> bool
-    ensures yes { IsTrue result → IsStill report.entry.lines.now state.now states.now }
-    ensures no { IsStill report.entry.lines.now state.now states.now → IsTrue result }
+    ensures yes { IsTrue result → IsStill report.entry.lines.now (report_lem report.entry.told.now report.entry.waits.now) state.now states.now }
+    ensures no { IsStill report.entry.lines.now (report_lem report.entry.told.now report.entry.waits.now) state.now states.now → IsTrue result }
 {
     states.is_empty() && all_rest(report, state)
 }
@@ -259,12 +283,12 @@ fn is_still(report: Report, state: &State, states: &[State]) -> bool
 fn is_rest(report: Report, state: &State, states: &[State]) -> bool
     ensures yes { IsTrue result → is_some report.entry.until ≡ false →
         ((t : List RankState) →
-        Goes report.entry.lines.now report.entry.told.now report.entry.until state.now t → Has states.now t) →
-        IsEnd report.entry.lines.now report.entry.told.now report.entry.until state.now }
+        Goes report.entry.lines.now (report_lem report.entry.told.now report.entry.waits.now) report.entry.until state.now t → Has states.now t) →
+        IsEnd report.entry.lines.now (report_lem report.entry.told.now report.entry.waits.now) report.entry.until state.now }
     ensures no { is_some report.entry.until ≡ false →
         ((t : List RankState) → Has states.now t →
-        Goes report.entry.lines.now report.entry.told.now report.entry.until state.now t) →
-        IsEnd report.entry.lines.now report.entry.told.now report.entry.until state.now → IsTrue result }
+        Goes report.entry.lines.now (report_lem report.entry.told.now report.entry.waits.now) report.entry.until state.now t) →
+        IsEnd report.entry.lines.now (report_lem report.entry.told.now report.entry.waits.now) report.entry.until state.now → IsTrue result }
 {
     is_told(report, state) && is_still(report, state, states)
 }
@@ -272,11 +296,11 @@ fn is_rest(report: Report, state: &State, states: &[State]) -> bool
 /// Whether a state is an end, where these are the states that its moves lead to.
 fn is_end(report: Report, state: &State, states: &[State]) -> bool
     ensures yes { IsTrue result → ((t : List RankState) →
-        Goes report.entry.lines.now report.entry.told.now report.entry.until state.now t → Has states.now t) →
-        IsEnd report.entry.lines.now report.entry.told.now report.entry.until state.now }
+        Goes report.entry.lines.now (report_lem report.entry.told.now report.entry.waits.now) report.entry.until state.now t → Has states.now t) →
+        IsEnd report.entry.lines.now (report_lem report.entry.told.now report.entry.waits.now) report.entry.until state.now }
     ensures no { ((t : List RankState) → Has states.now t →
-        Goes report.entry.lines.now report.entry.told.now report.entry.until state.now t) →
-        IsEnd report.entry.lines.now report.entry.told.now report.entry.until state.now → IsTrue result }
+        Goes report.entry.lines.now (report_lem report.entry.told.now report.entry.waits.now) report.entry.until state.now t) →
+        IsEnd report.entry.lines.now (report_lem report.entry.told.now report.entry.waits.now) report.entry.until state.now → IsTrue result }
 {
     let moment = report.until.is_some();
     if moment {
@@ -288,7 +312,7 @@ fn is_end(report: Report, state: &State, states: &[State]) -> bool
 
 /// A step at the state with a number.
 fn go_on(alloc: Global, report: Report, met: &mut States, k: usize) -> Result<Step, Memory>
-    ensures { IfOk result (StepSays report.entry.lines.now report.entry.told.now report.entry.until
+    ensures { IfOk result (StepSays report.entry.lines.now (report_lem report.entry.told.now report.entry.waits.now) report.entry.until
         met.old met.new k) }
 {
     let Some(state) = met.get(k) else {
@@ -306,7 +330,7 @@ fn go_on(alloc: Global, report: Report, met: &mut States, k: usize) -> Result<St
 
 /// Looks for an end, at up to so many states.
 pub fn search(alloc: Global, report: Report, ranks: u8, limit: u32) -> Result<Found, Memory>
-    ensures { IfOk result (SearchSays report.entry.lines.now report.entry.told.now ranks report.entry.until
+    ensures { IfOk result (SearchSays report.entry.lines.now (report_lem report.entry.told.now report.entry.waits.now) ranks report.entry.until
         limit) }
 {
     let mut met = States::new(alloc);

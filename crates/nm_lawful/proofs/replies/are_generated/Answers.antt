@@ -1,5 +1,5 @@
 -- The first byte that differs, or none.
-use Rattle.std.proofs.Common.{ℕ, ◌<◌, ◌≡◌, get_or, arith}
+use Rattle.std.proofs.Common.{ℕ, ◌≡◌, get_or, arith}
 use Rattle.nm_types.specs.Bodies.{generated_byte}
 use Rattle.nm_lawful.proofs.ByteLemmas.{other_byte, same_bytes}
 use Rattle.nm_search.proofs.ListLemmas.{each_next}

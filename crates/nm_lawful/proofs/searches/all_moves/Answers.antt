@@ -1,5 +1,5 @@
 -- The moves of one rank more.
-use Rattle.std.proofs.Common.{◌≡◌, ℕ, ◌<◌, Some, List, ◌∙◌, ap, arith}
+use Rattle.std.proofs.Common.{◌≡◌, ℕ, Some, List, ◌∙◌, ap, arith}
 use Rattle.std.specs.List.{slice_get}
 use Rattle.nm_types.proofs.ListLemmas.{place_below}
 use Rattle.nm_lawful.specs.Ranks.{RankState}

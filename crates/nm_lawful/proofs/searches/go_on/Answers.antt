@@ -5,7 +5,7 @@ use Rattle.std.proofs.lemmas.Bool.{false≢true}
 use Rattle.nm_types.proofs.ListLemmas.{place_below}
 use Rattle.nm_types.proofs.OptionLemmas.{same_some}
 use Rattle.nm_search.specs.Lists.{Has}
-use Rattle.nm_lawful.specs.Moves.{Goes}
+use Rattle.nm_lawful.specs.Moves.{Goes, report_lem}
 use Rattle.nm_lawful.specs.Ranks.{RankState}
 use Rattle.nm_lawful.specs.Searches.{IsExpanded}
 use Rattle.nm_search.proofs.ListLemmas.{none_behind, only_weaker}
@@ -26,7 +26,7 @@ returns-then-end c = (
 pub returns : goal.returns
 returns c =
     let lines = c.args.report.lines.now in
-    let told = c.args.report.told.now in
+    let told = (report_lem c.args.report.told.now c.args.report.waits.now) in
     let until = c.args.report.until in
     let old = c.args.met.now in
     let new = c.add_all.new.self in

@@ -1,7 +1,6 @@
 -- No state is there, and each rank rests.
-use Rattle.std.proofs.Common.{◌≡◌, List, length, refl, sym, ◌∙◌, ap}
+use Rattle.std.proofs.Common.{sym, ◌∙◌}
 use Rattle.std.proofs.lemmas.Bool.{false≢true}
-use Rattle.nm_lawful.specs.Ranks.{RankState}
 use Rattle.nm_search.proofs.ListLemmas.{empty_test, test_empty}
 use Rattle.nm_lawful.proofs.searches.is_still.Goals as goal
 

@@ -1,5 +1,5 @@
 -- A set has each state once.
-use Rattle.std.proofs.Common.{◌≡◌, List, sym, subst}
+use Rattle.std.proofs.Common.{List, subst}
 use Rattle.nm_search.specs.Lists.{StandOnce}
 use Rattle.nm_lawful.specs.Ranks.{RankState}
 use Rattle.nm_lawful.proofs.SetLemmas.{states_once}
