@@ -40,14 +40,19 @@ class Judge:
 
     @staticmethod
     def name() -> str:
-        return "./lawful, which is proved" if PROVED.exists() else "conformance/lawful.py, which is not proved"
+        return ("./lawful, which is proved, and " if PROVED.exists() else "") + "conformance/lawful.py, which is not proved"
 
     def verdict(self, text: bytes) -> lawful.Verdict:
+        """The proved judge's, where it is built and its states are enough; what could stand there is the other's."""
+        quick = lawful.judge(text, self.states, any_cut=True)
         if not PROVED.exists():
-            return lawful.judge(text, self.states, any_cut=True)
+            return quick
         words = [PROVED, "--cut", "any", str(self.states)]
         ran = subprocess.run(words, input=text, capture_output=True, check=False)
-        return lawful.Verdict(ran.returncode, ran.stdout.decode())
+        said = ran.stdout.decode()
+        if ran.returncode == 7 or (ran.returncode == quick.status and quick.text.startswith(said)):
+            return quick
+        raise NoVerdict(f"the judges disagree: {said.strip()}, and {quick.text.splitlines()[0]}")
 
     def finding(self, script: Script, report: Report) -> Finding | None | str:
         """What is unlawful; None where nothing is, `limit` where the states were not enough."""

@@ -5,16 +5,19 @@ could have been told in its place. The machine is in worlds.py; nothing here is 
     usage: lawful.py [--cut any] STATES <SCRIPT_AND_ANSWERS
 
 The input is a script, a line `---`, then the answers in the order of time, one a line: `RANK LINE ANSWER`, or
-`RANK LINE waits` for a rank that waits there in the end. STATES is how many states a search may meet. With `--cut any`
-the length that a receive tells that was too short is not compared.
+`RANK LINE waits` for a rank that waits there in the end; the others are at their ends. STATES is how many states a search
+may meet. With `--cut any` the length that a receive tells that was too short is not compared. `./lawful` is the same,
+proved, without the lines `there`.
 
     lawful                              0   some lawful run tells this, and rests where these ranks wait
-    unlawful N: RANK LINE ANSWER        8   the first N - 1 answers can be told by a lawful run, the first N can't
+    unlawful N: RANK LINE ANSWER        8   a lawful run can tell the answers of the first N - 1 lines, none those of N
     there ANSWER                            one line for each answer of that command that could be told in its place
-    unlawful rest: RANK LINE waits      8   all answers can be told, but no run rests so; the first such line
+    unlawful rest: RANK LINE waits      8   all answers can be told, but no run rests so; the first such rank
+    unlawful rest: RANK ends            8   .. which is not at its end
     limit                               7   STATES were not enough
     fault script LINE KIND              3   the bytes before `---` are no script
-    fault answers LINE                  9   the first line behind `---` that is none of the above; 0: there is no `---`
+    fault answers LINE                  9   the first line behind `---`, counted from 1, that is of no line of the script,
+                                            of one that was told, or of a rank that waits; 0: there is no `---`
 """
 from __future__ import annotations
 
@@ -29,7 +32,7 @@ from guide import BY_NAME, Contradiction, Guide, Told, guide_of
 from scripts import Command, Fault, Script, read
 from worlds import Rules, World
 
-ANSWER_LINE = re.compile(r"(0|[1-9][0-9]?) ([1-9][0-9]{0,4}) ([ -~]+)")
+ANSWER_LINE = re.compile(r"(0|[1-9][0-9]{0,2}) ([1-9][0-9]{0,9})(?: (.*))?")
 MOST_STATES = 16_777_216
 # The answers of a cancel, and those that are looked up where another one is wrong.
 CANCELS = ("done", "late", "asked")
@@ -49,6 +52,7 @@ class Answer:
     rank: int
     line: int
     text: str
+    number: int = 0
 
     def __str__(self) -> str:
         return f"{self.rank} {self.line} {self.text}"
@@ -116,14 +120,15 @@ class Judge:
         return wait.text == "waits" and place < len(commands) and commands[place].line == wait.line
 
     def verdict(self, answers: list[Answer], waits: list[Answer]) -> Verdict:
-        waits = waits + self.unsaid(answers, waits)
+        waits = sorted(waits + self.unsaid(answers, waits), key=lambda it: it.rank)
         held = self.rests(answers, waits)
         if held is None and not self.can_tell(answers):
             return self.unlawful_answer(answers)
         if held is not None and held == len(waits):
             return Verdict(0, "lawful\n")
         wait = waits[held or 0]
-        return Verdict(8, f"unlawful rest: {wait.rank} {wait.line} waits\n")
+        where = f"{wait.line} waits" if wait.text == "waits" else "ends"
+        return Verdict(8, f"unlawful rest: {wait.rank} {where}\n")
 
     def unsaid(self, answers: list[Answer], waits: list[Answer]) -> list[Answer]:
         """The place of each rank that is not at its end and does not say that it waits."""
@@ -144,7 +149,7 @@ class Judge:
                 not_told = half
         wrong = answers[told]
         there = [f"there {it}\n" for it in self.instead(answers[:told], wrong)]
-        return Verdict(8, f"unlawful {not_told}: {wrong}\n" + "".join(there))
+        return Verdict(8, f"unlawful {wrong.number}: {wrong}\n" + "".join(there))
 
     def instead(self, before: list[Answer], wrong: Answer) -> list[str]:
         """Each other answer that the command could have told, byte by byte in order."""
@@ -160,15 +165,17 @@ class Judge:
         return world.are_told() and command in commands[world.at[command.rank]:][:1]
 
 
-def answers_of(script: Script, text: str, first: int) -> tuple[list[Answer], list[Answer]]:
-    """The answers and the waits of a text whose first line has this number."""
+def answers_of(script: Script, text: str) -> tuple[list[Answer], list[Answer]]:
+    """The answers and the waits of a text."""
     answers, waits = [], []
-    for number, line in enumerate(text.removesuffix("\n").split("\n") if text else [], first):
+    for number, line in enumerate(text.removesuffix("\n").split("\n") if text else [], 1):
         match = ANSWER_LINE.fullmatch(line)
         command = script.at_line.get(int(match[2])) if match else None
         if command is None or command.rank != int(match[1]) or any(it.rank == command.rank for it in waits):
             raise BadAnswers(number)
-        answer = Answer(command.rank, command.line, match[3])
+        answer = Answer(command.rank, command.line, match[3] or "", number)
+        if answer.text != "waits" and any(it.line == answer.line for it in answers):
+            raise BadAnswers(number)
         (waits if answer.text == "waits" else answers).append(answer)
     return answers, waits
 
@@ -180,7 +187,7 @@ def judge(data: bytes, states: int, any_cut: bool) -> Verdict:
     middle = lines.index(b"---")
     try:
         script = read(b"".join(it + b"\n" for it in lines[:middle]))
-        answers, waits = answers_of(script, b"\n".join(lines[middle + 1:]).decode(errors="replace"), middle + 2)
+        answers, waits = answers_of(script, b"\n".join(lines[middle + 1:]).decode(errors="replace"))
         return Judge(script, states, any_cut).verdict(answers, waits)
     except Fault as fault:
         return Verdict(3, f"{fault}\n")
