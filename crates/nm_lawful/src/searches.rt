@@ -222,7 +222,14 @@ fn is_told(report: Report, state: &State) -> bool
 }
 
 /// Whether a rank is said to wait at the line at a place, which is its next one, and is held up.
-fn waits_at(lines: &[Line], ranks: &[Rank], i: u8, rank: &Rank, place: usize, wait: Option<usize>) -> bool
+fn waits_at(
+    lines: &[Line],
+    ranks: &[Rank],
+    i: u8,
+    rank: &Rank,
+    place: usize,
+    wait: Option<usize>,
+) -> bool
     requires { place < length lines.now }
     ensures { result ≡ rests_at_lem lines.now ranks.now i rank.now (Some place) wait }
 {
