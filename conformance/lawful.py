@@ -55,7 +55,7 @@ class Answer:
     number: int = 0
 
     def __str__(self) -> str:
-        return f"{self.rank} {self.line} {self.text}"
+        return f"{self.rank} {self.line}" + (f" {self.text}" if self.text else "")
 
 
 @dataclass(frozen=True)

@@ -1,5 +1,5 @@
 -- What a status says of the input.
-use Rattle.std.proofs.Common.{◌≡◌, ℕ, ◌⊎◌, inl, inr, List, Option, Some, None, refl, sym, ◌∙◌, subst, arith}
+use Rattle.std.proofs.Common.{◌≡◌, ℕ, inl, inr, List, Option, Some, None, refl, sym, ◌∙◌, subst, arith}
 use Rattle.std.specs.Option.{IfSome}
 use Rattle.nm_types.proofs.OptionLemmas.{if_each, if_some, no_some, same_some}
 use Rattle.nm_check.specs.Answers.{read_of}

@@ -1,5 +1,5 @@
 -- What the program answers: a text and a status.
-use Rattle.std.specs.Prelude.{◌≡◌, ℕ, ◌<◌, ◌⊎◌, List, [], Option, Ok, Err, IfSome, length}
+use Rattle.std.specs.Prelude.{◌≡◌, ℕ, ◌<◌, ◌⊎◌, List, Option, Ok, Err, IfSome, length}
 use Rattle.nm_outside.specs.Told.{Rose}
 use Rattle.nm_types.specs.declared.scripts.Line.{Line}
 use Rattle.nm_script.specs.Rules.{IsFirstFault}

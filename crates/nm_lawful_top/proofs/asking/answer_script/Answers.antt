@@ -1,5 +1,5 @@
 -- What was read is what the text tells.
-use Rattle.std.proofs.Common.{◌≡◌, length, refl}
+use Rattle.std.proofs.Common.{length, refl}
 use Rattle.nm_lawful.specs.Moves.{report_lem}
 use Rattle.nm_lawful_top.proofs.ReadingLemmas.{read_whole}
 use Rattle.nm_lawful_top.proofs.asking.answer_script.Goals as goal

@@ -1,5 +1,5 @@
 -- What is judged is what the lines tell.
-use Rattle.std.proofs.Common.{◌≡◌, ℕ, List, Option, ap, ◌∙◌}
+use Rattle.std.proofs.Common.{ℕ, List, Option, ap, ◌∙◌}
 use Rattle.nm_lawful.specs.Moves.{report_lem}
 use Rattle.nm_lawful_top.specs.Texts.{named_wait}
 use Rattle.nm_lawful_top.proofs.InputLemmas.{judged_as}
