@@ -17,6 +17,7 @@ use Rattle.nm_outcomes.specs.RankStates.{Spot}
 use Rattle.nm_explored.specs.declared.choices.moves.Move.TheVariants as move
 use Rattle.nm_explored.specs.declared.choices.moves.Turn.{Turn}
 use Rattle.nm_explored.specs.Successors.{begun_in, is_withdrawn_next}
+use Rattle.nm_search.proofs.ListLemmas.{only_then, only_weaker}
 use Rattle.nm_search.specs.Lists.{AddsOnly, Has, Extends}
 use Rattle.nm_explored.specs.Moves.{IsAct, IsChoiceOf, IsDeedOf, IsNextMessage, IsRecalled, IsTurn, IsTurnOf}
 use Rattle.nm_explored.specs.Moves.{no_in, reply_in}
