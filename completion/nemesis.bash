@@ -26,3 +26,9 @@ _verdict_words() {
     mapfile -t COMPREPLY < <(compgen -W "$words" -- "$word")
 }
 complete -o default -F _verdict_words verdict ./verdict
+
+_lawful_words() {
+    local word=${COMP_WORDS[COMP_CWORD]} words="--cut"
+    mapfile -t COMPREPLY < <(compgen -W "$words" -- "$word")
+}
+complete -o default -F _lawful_words lawful ./lawful
