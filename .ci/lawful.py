@@ -1,5 +1,5 @@
 """Judges a trace against MPI's matching, with plain lists and nothing else: each rank's events are gone through in order,
-and each pair, answer and body has to be what the rules say (docs/definitions.md). It shares no line with the program."""
+and each pair, answer and body has to be what the rules say (docs/know/definitions.md). It shares no line with the program."""
 import collections
 
 DONE, LATE = "done", "late"

@@ -1,4 +1,4 @@
-"""Random plans, each with the report that it has (docs/plans.md)."""
+"""Random plans, each with the report that it has (docs/use/plans.md)."""
 from lawful import body_of
 
 

@@ -1,4 +1,4 @@
-"""All reports that the runs of a small script can have, found event by event by the rules of docs/definitions.md: each
+"""All reports that the runs of a small script can have, found event by event by the rules of docs/know/definitions.md: each
 rank keeps what its history tells in plain tuples, and each event that may come next is tried, quiet ones too. It shares
 no line with the program."""
 import collections

@@ -1,5 +1,5 @@
 #!/usr/bin/env python3
-"""Runs scripts on an MPI library, and says whether what each command answered is what MPI allows (docs/conform.md)."""
+"""Runs scripts on an MPI library, and says whether what each command answered is what MPI allows (docs/use/conform.md)."""
 from __future__ import annotations
 
 import argparse

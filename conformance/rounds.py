@@ -27,7 +27,7 @@ class Report:
     waits: tuple[Answer, ...]
 
     def text(self, script: Script) -> str:
-        """As `run` of docs/script.md writes it, without the line of cells."""
+        """As `run` of docs/use/script.md writes it, without the line of cells."""
         lines = sorted([*self.answers, *self.waits], key=lambda it: (it.rank, it.line))
         return "".join(f"{it}\n" for it in lines) + ("stuck\n" if self.waits else "done\n")
 

@@ -1,4 +1,4 @@
-/* A rank's commands of a script (docs/script.md), as they stand in a file that the launcher has found to be a script. */
+/* A rank's commands of a script (docs/use/script.md), as they stand in a file that the launcher has found to be a script. */
 #include <stdio.h>
 #include <stdlib.h>
 #include <string.h>

@@ -1,4 +1,4 @@
-"""Scripts (docs/script.md): their commands, the messages and receives that these start, and the first fault of a text
+"""Scripts (docs/use/script.md): their commands, the messages and receives that these start, and the first fault of a text
 that is no script."""
 from __future__ import annotations
 
