@@ -108,7 +108,8 @@ def of_finding(script: Script, group: Group) -> list[str]:
     command = script.at_line[finding.line]
     place = f"  line {finding.line}, rank {finding.rank}, `{short(str(command))}`"
     if finding.before is None:
-        return [f"{place} waits for ever; lawful there: to go on"]
+        return [f"{place} " + ("has no answer, and the rank is at its end" if finding.answer == "ends" else
+                               "waits for ever; lawful there: to go on")]
     there = ", ".join(f"`{short(it)}`" for it in finding.there[:MOST_SHOWN]) or (
         "to wait" if command.word in ("wait", "await") else "no answer")
     told = [f"`{short(str(it), NARROW)}`" for it in group.report.answers[:finding.before][-MOST_LINES:]]

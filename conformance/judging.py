@@ -15,7 +15,7 @@ TOP = HERE.parent
 PROVED = TOP / "built/proved/lawful"
 OUTCOMES = [TOP / "built/proved/outcomes", TOP / "built/unproved/outcomes"]
 LISTED_STATES, LISTED_SECONDS = 20_000, 20
-FIRST = re.compile(r"unlawful (\d+|rest): (\d+) (\d+) (.*)")
+FIRST = re.compile(r"unlawful (\d+|rest): (\d+) (?:(\d+) )?(.*)")
 
 
 class NoVerdict(Exception):
@@ -66,8 +66,16 @@ class Judge:
         match = FIRST.fullmatch(said[0]) if said and verdict.status == 8 else None
         if match is None:
             raise NoVerdict(f"the judge ended with status {verdict.status}: {' '.join(said[:1])}")
-        before = None if match[1] == "rest" else int(match[1]) - 1
-        return Finding(before, int(match[2]), int(match[3]), match[4], tuple(it.removeprefix("there ") for it in said[1:]))
+        before, rank = None if match[1] == "rest" else int(match[1]) - 1, int(match[2])
+        line = int(match[3]) if match[3] else unanswered(script, report, rank)
+        return Finding(before, rank, line, match[4], tuple(it.removeprefix("there ") for it in said[1:]))
+
+
+def unanswered(script: Script, report: Report, rank: int) -> int:
+    """The line of a rank's first command without an answer; that of its last command where each has one."""
+    told = {int(str(it).split()[1]) for it in report.answers}
+    own = [it.line for it in script.of_rank[rank]]
+    return next((it for it in own if it not in told), own[-1])
 
 
 def without_lengths(report: str) -> str:
