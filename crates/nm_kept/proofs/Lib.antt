@@ -1,1 +1,2 @@
-mod WindowLemmas
+pub mod EntryLemmas
+pub mod WindowLemmas
