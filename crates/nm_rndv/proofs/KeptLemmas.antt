@@ -82,6 +82,11 @@ module _ (ds ds' : List Destined) (order : List (ℕ × ℕ)) (first reserved ro
 
 module _ (ds : List Destined) (order : List (ℕ × ℕ)) (first reserved room : ℕ)
     (kept : OffersInvariant ds order first reserved room) where
+  -- with more room
+  pub more_room : (room' : ℕ) → room ≤ room' → OffersInvariant ds order first reserved room'
+  more_room room' le = kept_steady ds ds order first reserved room kept (λ m. refl) (λ m. refl) reserved room'
+      kept.counted (omega (arith, kept.fits, le))
+
   -- where none leaves in the order, none leaves at all
   pub all_out : IsNone (slice_get order first) → (to n : ℕ) → leaves ds (to, n) ≡ false
   all_out none to n = by (leaves ds (to, n)) refl

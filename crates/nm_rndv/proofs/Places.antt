@@ -7,7 +7,6 @@ use Rattle.std.proofs.Common.{arith, ◌⊎◌, inl, inr}
 use Rattle.std.proofs.lemmas.Bool.{cases_lt}
 use Rattle.std.specs.List.{position_or_len}
 use Rattle.std.specs.Option.{option_map_or}
-use Rattle.std.specs.Map.{lookup, set_value}
 use Rattle.std.proofs.lemmas.List.Sums.{fails_before_first, passes_at_first, prefix_len-le-length}
 use Rattle.std.proofs.lemmas.Option.{get_or_from_slice_get, slice_get-get_or, slice_get_within}
 use Rattle.std.proofs.lemmas.List.Folds.{find_at}
@@ -96,40 +95,6 @@ position_or_len-append_le p [] ys = omega arith
 position_or_len-append_le p (x ∷ xs) ys =
     step-le (p x) (p x) (position_or_len p xs) (position_or_len p (xs ++ ys)) (λ h. h)
     (position_or_len-append_le p xs ys)
-
-module _ {X : Type 0} (q : X → Bool) (test : ℕ → Bool) (w : X) where
-  -- a value that passes only where the one before it did moves the first place on, if at all
-  pub position_or_len-set_value_le : (es : List (ℕ × X)) (v : X) → lookup test es ≡ Some v →
-      (q w ≡ true → q v ≡ true) → position_or_len (λ e. q e.1) es ≤ position_or_len (λ e. q e.1)
-      (set_value test es w)
-  position_or_len-set_value_le [] v at less = omega arith
-  position_or_len-set_value_le (e ∷ es) v at less = by (test e.0) at
-      (λ there. position_or_len-set_value_le es v there less)
-    where
-      by : (b : Bool) → cond b (Some e.1) (lookup test es) ≡ Some v →
-          (lookup test es ≡ Some v → position_or_len (λ e. q e.1) es ≤ position_or_len (λ e. q e.1)
-          (set_value test es w)) → position_or_len (λ e. q e.1) (e ∷ es) ≤ position_or_len (λ e. q e.1)
-          (cond b ((e.0, w) ∷ es) (e ∷ set_value test es w))
-      by true at rest =
-          let same : e.1 ≡ v = cc in
-          step-le (q e.1) (q w) (position_or_len (λ e. q e.1) es) (position_or_len (λ e. q e.1) es)
-          (λ h. ap q same ∙ less h) (omega arith)
-      by false at rest = step-le (q e.1) (q e.1) _ _ (λ h. h) (rest at)
-
-  -- a value that passes as the one before it did leaves the first place
-  pub position_or_len-set_value : (es : List (ℕ × X)) (v : X) → lookup test es ≡ Some v → q w ≡ q v →
-      position_or_len (λ e. q e.1) (set_value test es w) ≡ position_or_len (λ e. q e.1) es
-  position_or_len-set_value [] v at same = refl
-  position_or_len-set_value (e ∷ es) v at same = by (test e.0) at (λ there. position_or_len-set_value es v there same)
-    where
-      by : (b : Bool) → cond b (Some e.1) (lookup test es) ≡ Some v →
-          (lookup test es ≡ Some v → position_or_len (λ e. q e.1) (set_value test es w) ≡ position_or_len
-          (λ e. q e.1) es) → position_or_len (λ e. q e.1)
-          (cond b ((e.0, w) ∷ es) (e ∷ set_value test es w)) ≡ position_or_len (λ e. q e.1) (e ∷ es)
-      by true at rest =
-          let is : e.1 ≡ v = cc in
-          ap (λ b. cond (not b) (1 + position_or_len (λ e. q e.1) es) 0) (same ∙ ap q (sym is))
-      by false at rest = ap (λ m. cond (not (q e.1)) (1 + m) 0) (rest at)
 
 -- a later test that passes only where an earlier one did has its first place no earlier
 pub position_or_len-le : {X : Type 0} (p q : X → Bool) (xs : List X) →

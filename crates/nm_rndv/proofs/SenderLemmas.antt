@@ -1,6 +1,6 @@
 -- One sender among all, before and after it changed.
 use Rattle.std.proofs.Common.{◌≡◌, ℕ, ◌<◌, List, [], length, get_or, set, map, All, sym, ap, ◌∙◌}
-use Rattle.std.proofs.Common.{cond, length-set, subst, sum_by}
+use Rattle.std.proofs.Common.{Bool, true, false, cond, length-set, nat_eq, subst, sum_by, refl}
 use Rattle.std.proofs.Common.{arith, ◌+◌, ◌≤◌, ◌≢◌, ◌⊎◌, inl, inr, Option, Some, None}
 use Rattle.std.proofs.lemmas.Bool.{cases_lt}
 use Rattle.std.proofs.lemmas.List.{map-set, get_or-map, length-map, get_or-set_other}
@@ -11,6 +11,7 @@ use Rattle.nm_types.specs.declared.packets.Piece.{Piece}
 use Rattle.nm_rndv.specs.Grants.{Granted, FromSender, Granting, seen, grants_from, IsReady, IsReadyFor}
 use Rattle.nm_rndv.specs.Grants.{Continues}
 use Rattle.nm_rndv.specs.Grants.{count_unfinished, expected_in, has_unfinished}
+use Rattle.nm_rndv.proofs.StateLemmas.{apart, equal}
 
 module _ (ss : List FromSender) (v : Granting) (i : ℕ) (view : seen ss ≡ v) (within : i < length v.grants) where
   -- the place is one of the senders
@@ -101,12 +102,33 @@ module _ (ss : List FromSender) (v : Granting) (i : ℕ) (view : seen ss ≡ v) 
           ∙ ap (λ (x : FromSender). x.spare) (get_or-set_same ss i y y sender_within) in
           subst (λ n. 0 < n) (sym there) room
 
-      -- after a change with the same room, all have room as before
-      pub ready-set : y.spare ≡ s.spare → IsReady v → All (λ n. 0 < n) (map (λ x. x.spare) (set ss i y))
-      ready-set same ready =
-          let as_before = map-set_same (λ (x : FromSender). x.spare) ss i y s
-          (same ∙ ap (λ (x : FromSender). x.spare) at) ∙ ap (λ (w : Granting). w.spare) view in
-          subst (λ ns. All (λ n. 0 < n) ns) (sym as_before) ready
+      -- after a change with no less room, all have room as before
+      pub ready-set : s.spare ≤ y.spare → IsReady v → All (λ n. 0 < n) (map (λ x. x.spare) (set ss i y))
+      ready-set le ready k d lt = subst (λ ns. 0 < get_or ns k d) (sym now) (by (nat_eq k i) refl)
+        where
+          spares : List ℕ
+          spares = map (λ (x : FromSender). x.spare) ss
+
+          now : map (λ (x : FromSender). x.spare) (set ss i y) ≡ set spares i y.spare
+          now = map-set (λ (x : FromSender). x.spare) ss i y
+
+          many : length (map (λ (x : FromSender). x.spare) (set ss i y)) ≡ length spares
+          many = ap length now ∙ length-set spares i y.spare
+
+          within' : i < length spares
+          within' = omega (arith, sender_within, length-map ss (λ (x : FromSender). x.spare))
+
+          before : All (λ n. 0 < n) spares
+          before = subst (λ ns. All (λ n. 0 < n) ns) (sym (ap (λ (w : Granting). w.spare) view)) ready
+
+          by : (b : Bool) → nat_eq k i ≡ b → 0 < get_or (set spares i y.spare) k d
+          by true e =
+              subst (λ j. 0 < get_or (set spares i y.spare) j d) (sym (equal k i e))
+              (subst (λ n. 0 < n) (sym (get_or-set_same spares i y.spare d within'))
+              (omega (arith, le, ready_there ready)))
+          by false e =
+              subst (λ n. 0 < n) (sym (get_or-set_other spares i k y.spare d (apart k i e)))
+              (before k d (omega (arith, lt, many)))
 
 -- so many senders are counted at most
 pub counted_within : (ss : List FromSender) → count_unfinished (map (λ x. x.grants) ss) ≤ length ss

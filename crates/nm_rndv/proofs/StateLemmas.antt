@@ -13,7 +13,7 @@ use Rattle.std.proofs.lemmas.List.Sums.{sum_by-set, sum_by_push, get_or-le-sum_b
 use Rattle.std.proofs.lemmas.Map.{lookup-set_value}
 use Rattle.std.proofs.lemmas.Map.Entries.{sum_by-set_value}
 use Rattle.std.specs.Map.{lookup, set_value, values_of}
-use Rattle.std.specs.Option.{option_map_or}
+use Rattle.std.specs.Option.{option_and_then, option_map_or}
 use Rattle.nm_types.specs.declared.scripts.Body.{Body}
 use Rattle.nm_rndv.specs.declared.asked.State.{State}
 use Rattle.nm_rndv.specs.declared.asked.State.TheVariants.{Asked, Cleared, Out, Withdrawn}
@@ -21,7 +21,10 @@ use Rattle.nm_rndv.specs.Cuts.{Cut, start_of}
 use Rattle.nm_rndv.specs.Offers.{Destined, untold, state_in, state_at, leaves, is_waiting}
 use Rattle.nm_rndv.specs.Offers.{is_leaving, was_cleared, with_step, with_asked, is_out}
 use Rattle.nm_rndv.specs.Kept.{waiting_in}
-use Rattle.nm_rndv.specs.Offers.{leaving_or_out, after_withdrawal, Offering, state_of, is_asked}
+use Rattle.std.proofs.lemmas.Map.Steps.{set_value_same}
+use Rattle.nm_kept.specs.Entering.{kept_if}
+use Rattle.nm_rndv.specs.Offers.{has_body, leaving_or_out, after_withdrawal, Offering, state_of, is_asked}
+use Rattle.nm_rndv.specs.Offers.{next_in, withdrawn_in}
 use Rattle.nm_types.specs.Bodies.{body_len}
 
 -- how much a state adds to the number of those that wait
@@ -199,6 +202,59 @@ module _ (d d' : Destined) (n : ℕ) (step : State → State) (s : State) (was :
   state-with_step is =
       state-set_value d d' n s (step s) was (asked-with_step is) n
       ∙ ap (λ b. cond b (Some (step s)) (state_in d n)) ((Decides-eqb n n).1 refl)
+
+-- to set what a step makes of a message's state is that step
+pub with_step-set : (d : Destined) (n : ℕ) (step : State → State) (s : State) → state_in d n ≡ Some s →
+    (asked : List (ℕ × State)) → asked ≡ set_value (nat_eq n) d.asked (step s) →
+    record { asked = asked; recalls = d.recalls } ≡ with_step d n step
+with_step-set d n step s was asked is = rw (is, was) refl
+
+-- a message that waits has its body, and so has one that leaves
+pub waiting_has_body : (o : Option State) → option_map_or is_waiting o false ≡ true → option_map_or has_body o false ≡ true
+waiting_has_body o h = ap (λ x. option_map_or has_body x false) (waiting_is_asked o h).1
+
+pub leaving_has_body : (o : Option State) → option_map_or is_leaving o false ≡ true → option_map_or has_body o false ≡ true
+leaving_has_body o h = ap (λ x. option_map_or has_body x false) (leaving_is_cleared o h).1
+
+-- one without a body neither waits nor leaves
+pub bare_waits : (s : State) → has_body s ≡ false → is_waiting s ≡ false
+bare_waits (Asked body) h = absurd (true≢false h)
+bare_waits (Cleared cut) h = absurd (true≢false h)
+bare_waits Out h = refl
+bare_waits Withdrawn h = refl
+
+pub bare_leaves : (s : State) → has_body s ≡ false → is_leaving s ≡ false
+bare_leaves (Asked body) h = absurd (true≢false h)
+bare_leaves (Cleared cut) h = absurd (true≢false h)
+bare_leaves Out h = refl
+bare_leaves Withdrawn h = refl
+
+-- nor has a next piece
+pub next_kept : (o : Option State) → option_and_then next_in (kept_if has_body o) ≡ option_and_then next_in o
+next_kept None = refl
+next_kept (Some (Asked body)) = refl
+next_kept (Some (Cleared cut)) = refl
+next_kept (Some Out) = refl
+next_kept (Some Withdrawn) = refl
+
+-- the withdrawal of a message that waits, and of one that does not
+pub withdrawn_waiting : (es : List (ℕ × State)) (n : ℕ) → option_map_or is_waiting (lookup (nat_eq n) es) false ≡ true →
+    withdrawn_in es n ≡ set_value (nat_eq n) es Withdrawn
+withdrawn_waiting es n h =
+    ap (λ o. option_map_or (λ s. set_value (nat_eq n) es (after_withdrawal s)) o es)
+    (waiting_is_asked (lookup (nat_eq n) es) h).1
+
+pub withdrawn_other : (es : List (ℕ × State)) (n : ℕ) → option_map_or is_waiting (lookup (nat_eq n) es) false ≡ false →
+    withdrawn_in es n ≡ es
+withdrawn_other es n h = by (lookup (nat_eq n) es) refl h
+  where
+    by : (o : Option State) → lookup (nat_eq n) es ≡ o → option_map_or is_waiting o false ≡ false →
+        option_map_or (λ s. set_value (nat_eq n) es (after_withdrawal s)) o es ≡ es
+    by None at h = refl
+    by (Some (Asked body)) at h = absurd (true≢false h)
+    by (Some (Cleared cut)) at h = set_value_same (nat_eq n) es (Cleared cut) at
+    by (Some Out) at h = set_value_same (nat_eq n) es Out at
+    by (Some Withdrawn) at h = set_value_same (nat_eq n) es Withdrawn at
 
 module _ (ds : List Destined) (order : List (ℕ × ℕ)) (v : Offering)
     (view : ◌≡◌ {A = Offering} (record { destinations = ds; order = order }) v) (to : ℕ)

@@ -43,6 +43,10 @@ came g = option_map_or length g.bytes 0
 abbrev pub due_of : Granted → ℕ
 due_of g = g.len - came g
 
+-- the bytes that came of it were not taken
+abbrev pub has_bytes : Granted → Bool
+has_bytes g = is_some g.bytes
+
 -- the message is not whole
 abbrev pub is_open : Granted → Bool
 is_open g = option_map_or (λ bytes. nat_lt (length bytes) g.len) g.bytes false

@@ -1,10 +1,10 @@
 -- What the fields of the offers and of the grants keep, which no contract of theirs shows.
-use Rattle.std.specs.Prelude.{◌≡◌, ℕ, ◌+◌, ◌≤◌, true, length, List, All, Contains, count_by, sum_by}
+use Rattle.std.specs.Prelude.{◌≡◌, ℕ, ◌+◌, ◌≤◌, true, length, List, All, Contains, count_by, sum_by, filter}
 use Rattle.std.specs.List.{position_or_len}
 use Rattle.std.specs.Map.{keys_of, values_of}
-use Rattle.nm_rndv.specs.Grants.{Granted, is_unfinished}
+use Rattle.nm_kept.specs.Entering.{Entering, AreLive}
+use Rattle.nm_rndv.specs.Grants.{Granted, has_bytes, is_unfinished}
 use Rattle.nm_rndv.specs.Offers.{Destined, is_waiting, leaves, cleared_at}
-use Rattle.nm_rndv.specs.Placing.{Placing, ArePlaces}
 
 -- how many messages to a destination wait for their clearance
 abbrev pub waiting_in : Destined → ℕ
@@ -20,7 +20,8 @@ pub record OffersInvariant (ds : List Destined) (order : List (ℕ × ℕ)) (fir
   pub counted : sum_by waiting_in ds ≤ reserved
   pub fits : length order + reserved ≤ room
 
--- What a sender's grants keep: each has its place, and the first one that is not whole is known.
-pub record SenderInvariant (grants : List (ℕ × Granted)) (places : Placing) (first : ℕ) : Type 0 where
-  pub placed : ArePlaces places (keys_of grants)
-  pub first_is : first ≡ position_or_len is_unfinished grants
+-- What a sender's grants keep: memory holds those that have their bytes, and the numbers of those that are
+-- not whole, in order.
+pub record SenderInvariant (grants : Entering Granted) (unfinished : List ℕ) : Type 0 where
+  pub live : AreLive has_bytes grants
+  pub numbers : unfinished ≡ keys_of (filter is_unfinished grants.entries)

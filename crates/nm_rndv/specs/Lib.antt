@@ -3,4 +3,3 @@ pub mod Grants
 pub mod Kept
 pub mod Offers
 pub mod Pieces
-pub mod Placing

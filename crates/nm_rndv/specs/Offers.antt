@@ -48,6 +48,12 @@ abbrev pub is_out : State → Bool
 is_out Out = true
 is_out _ = false
 
+-- waits or leaves, so that its body is kept
+abbrev pub has_body : State → Bool
+has_body (Asked body) = true
+has_body (Cleared cut) = true
+has_body _ = false
+
 -- was cleared, whether or not it is out
 abbrev pub was_cleared : State → Bool
 was_cleared (Cleared cut) = true
@@ -94,6 +100,11 @@ with_step d n step = record {
   asked = option_map_or (λ s. set_value (nat_eq n) d.asked (step s)) (state_in d n) d.asked;
   recalls = d.recalls;
 }
+
+-- the messages after the withdrawal of message n was done
+abbrev pub withdrawn_in : List (ℕ × State) → ℕ → List (ℕ × State)
+withdrawn_in asked n =
+    option_map_or (λ s. set_value (nat_eq n) asked (after_withdrawal s)) (lookup (nat_eq n) asked) asked
 
 -- one message more was asked
 abbrev pub with_asked : Destined → ℕ → Body → Destined

@@ -1,7 +1,10 @@
 //! How far a message that was asked for has come.
 
-ghost use Rattle.std.specs.Prelude.{◌≡◌};
-ghost use Rattle.nm_rndv.specs.Offers.{after_clearance, after_piece, after_withdrawal};
+ghost use Rattle.std.specs.Prelude.{◌≡◌, option_map};
+ghost use Rattle.nm_rndv.specs.Cuts.{offset_of, next_bytes};
+ghost use Rattle.nm_rndv.specs.Offers.{after_clearance, after_piece, next_in};
+ghost use Rattle.nm_rndv.specs.Offers.{is_waiting as is_waiting_lem, is_leaving as is_leaving_lem};
+ghost use Rattle.nm_rndv.specs.Offers.{is_out as is_out_lem, has_body as has_body_lem};
 ghost use Rattle.nm_rndv.specs.Offers.{leaving_or_out as leaving_or_out_lem};
 
 use crate::cuts::{Leaving, LongBody};
@@ -40,6 +43,45 @@ pub fn cleared(state: State) -> State
 }
 
 impl State {
+    /// Whether it waits for its clearance.
+    pub fn is_waiting(&self) -> bool
+        ensures { result ≡ is_waiting_lem self.now }
+    {
+        matches!(self, State::Asked(_))
+    }
+
+    /// Whether it was cleared and is not out.
+    pub fn is_leaving(&self) -> bool
+        ensures { result ≡ is_leaving_lem self.now }
+    {
+        matches!(self, State::Cleared(_))
+    }
+
+    /// Whether it is out.
+    pub fn is_out(&self) -> bool
+        ensures { result ≡ is_out_lem self.now }
+    {
+        matches!(self, State::Out)
+    }
+
+    /// Whether it waits or leaves, so that its body is kept.
+    pub fn has_body(&self) -> bool
+        ensures { result ≡ has_body_lem self.now }
+    {
+        matches!(self, State::Asked(_) | State::Cleared(_))
+    }
+
+    /// What is left to be sent, where it was cleared and is not out.
+    pub fn leaving(&self) -> Option<&Leaving>
+        ensures { option_map (λ left. (offset_of left.now, next_bytes left.now)) result
+            ≡ next_in self.now }
+    {
+        match self {
+            State::Cleared(leaving) => Some(leaving),
+            _ => None,
+        }
+    }
+
     /// Counts one piece more as sent.
     #[inline(always)]
     pub fn pop(&mut self)
@@ -53,15 +95,5 @@ impl State {
         } else {
             leaving.pop();
         }
-    }
-}
-
-/// The state after a withdrawal that was done.
-pub fn withdrawn(state: State) -> State
-    ensures { result ≡ after_withdrawal state }
-{
-    match state {
-        State::Asked(_) => State::Withdrawn,
-        other => other,
     }
 }

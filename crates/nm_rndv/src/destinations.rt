@@ -1,61 +1,120 @@
 //! What was asked of one destination, and what was recalled from it.
 
-ghost use Rattle.std.specs.Prelude.{◌≡◌, ℕ, false, Some, None, nat_eq, if◌then◌else◌, IsSome};
-ghost use Rattle.std.specs.Prelude.{OnOk, OnErr};
+ghost use Rattle.std.specs.Prelude.{◌≡◌, ℕ, ◌++◌, ◌∷◌, [], true, false, Some, None, nat_eq};
+ghost use Rattle.std.specs.Prelude.{if◌then◌else◌, IsSome, OnOk, OnErr, count_by};
+ghost use Rattle.std.specs.Map.{lookup, set_value, values_of};
 ghost use Rattle.std.specs.Option.{option_copied, option_map, option_map_or, option_and_then};
+ghost use Rattle.nm_kept.specs.Entering.{AreLive, SameOthers, kept_if};
 ghost use Rattle.nm_rndv.specs.Cuts.{offset_of, next_bytes};
-ghost use Rattle.nm_rndv.specs.Offers.{untold, state_in, recall_in, is_waiting};
-ghost use Rattle.nm_rndv.specs.Offers.{is_leaving as is_leaving_lem, is_out as is_out_lem};
-ghost use Rattle.nm_rndv.specs.Offers.{was_cleared as was_cleared_lem, is_unanswered, next_in};
+ghost use Rattle.nm_rndv.specs.Offers.{untold, state_in, recall_in, is_waiting, has_body};
+ghost use Rattle.nm_rndv.specs.Offers.{is_leaving as is_leaving_lem, is_out};
+ghost use Rattle.nm_rndv.specs.Offers.{is_unanswered, next_in, withdrawn_in};
 ghost use Rattle.nm_rndv.specs.Offers.{with_asked, with_recall, with_step, with_answer};
-ghost use Rattle.nm_rndv.specs.Offers.{after_clearance, after_piece, after_withdrawal};
+ghost use Rattle.nm_rndv.specs.Offers.{after_clearance, after_piece};
 
-use crate::asked::{State, cleared, withdrawn};
+use crate::asked::{State, cleared};
 use crate::cuts::{Leaving, LongBody};
-use crate::placing::Places;
-use crate::recalls::Recalls;
-use nm_types::Memory;
+use nm_kept::Entries;
+use nm_types::{Body, Memory};
 use std::alloc::Global;
 use std::marker::Model;
-use std::mem;
 
 /// The messages asked of one destination and those recalled from it, each by its number, in order.
+/// Memory holds those that wait or leave, and the recalls that were not answered.
 pub struct Destination {
-    asked: Vec<(u64, State)>,
-    // where each message stands among those asked
-    places: Places,
-    recalls: Recalls,
+    asked: Entries<State>,
+    recalls: Entries<Option<bool>>,
 }
 
 impl Drop for Destination {
     fn drop(self) {
         let Destination {
             asked: _,
-            places: _,
             recalls: _,
         } = self;
     }
 }
 
 impl Model for Destination {
-    ghost use Rattle.std.specs.Map.{keys_of};
-    ghost use Rattle.nm_rndv.specs.Offers.{Destined};
-    ghost use Rattle.nm_rndv.specs.Placing.{ArePlaces};
+    ghost use Rattle.nm_kept.specs.Entering.{AreLive};
+    ghost use Rattle.nm_rndv.specs.Offers.{Destined, has_body, is_unanswered};
 
     ghost Value = { Destined };
 
-    ghost view = { λ d. record { asked = d.asked.items; recalls = d.recalls } };
+    ghost view = { λ d. record { asked = d.asked.entries; recalls = d.recalls.entries } };
 
-    ghost invariant = { λ d. ArePlaces d.places (keys_of d.asked.items) };
+    ghost invariant = { λ d. AreLive has_body d.asked × AreLive is_unanswered d.recalls };
+}
+
+/// A message that waits, without bytes.
+fn stand_in() -> State
+    ensures { has_body result ≡ true }
+{
+    State::Asked(LongBody::new(Body::Gen(0)))
+}
+
+/// Takes the state of a message in memory out, to be changed and set.
+#[inline(always)]
+fn lift(asked: &mut Entries<State>, n: u64) -> State
+    requires live { AreLive has_body asked.old }
+    requires there { option_map_or has_body (lookup (nat_eq n) asked.old.entries) false ≡ true }
+    ensures live { AreLive has_body asked.new }
+    ensures there { option_map_or has_body (lookup (nat_eq n) asked.new.entries) false ≡ true }
+    ensures value { lookup (nat_eq n) asked.old.entries ≡ Some result }
+    ensures others { SameOthers n asked.old.entries asked.new.entries }
+{
+    asked.replace(n, stand_in())
+}
+
+/// Sets the state of a message in memory, which is let go where it has no body then.
+#[inline(always)]
+fn set(asked: &mut Entries<State>, n: u64, state: State)
+    requires live { AreLive has_body asked.old }
+    requires there { option_map_or has_body (lookup (nat_eq n) asked.old.entries) false ≡ true }
+    ensures live { AreLive has_body asked.new }
+    ensures entries { asked.new.entries ≡ set_value (nat_eq n) asked.old.entries state }
+{
+    if state.has_body() {
+        let _before = asked.replace(n, state);
+        return;
+    }
+    asked.end(n, state);
+}
+
+/// Whether the message waits for its clearance.
+#[inline(always)]
+fn waits(asked: &Entries<State>, n: u64) -> bool
+    requires { AreLive has_body asked.now }
+    ensures { result ≡ option_map_or is_waiting (lookup (nat_eq n) asked.now.entries) false }
+{
+    match asked.get(n) {
+        Some(state) => state.is_waiting(),
+        None => false,
+    }
+}
+
+/// Withdraws a message that waits, if its recall was done.
+fn withdraw_if(asked: &mut Entries<State>, n: u64, done: bool)
+    requires { AreLive has_body asked.old }
+    ensures live { AreLive has_body asked.new }
+    ensures entries { asked.new.entries ≡ (if done
+        then withdrawn_in asked.old.entries n else asked.old.entries) }
+{
+    if !done {
+        return;
+    }
+    if !waits(asked, n) {
+        return;
+    }
+    set(asked, n, State::Withdrawn);
 }
 
 impl Destination {
-    /// How far the message has come, if it was asked.
+    /// How far the message has come, if it waits or leaves.
     fn state(&self, n: u64) -> Option<&State>
-        ensures { option_copied result ≡ state_in self.now n }
+        ensures { option_copied result ≡ kept_if has_body (state_in self.now n) }
     {
-        let place = self.places.get(n)?;
-        Some(&self.asked[place].1)
+        self.asked.get(n)
     }
 
     /// Nothing was asked, and nothing recalled.
@@ -63,10 +122,23 @@ impl Destination {
         ensures { result ≡ untold }
     {
         Destination {
-            asked: Vec::new(alloc),
-            places: Places::new(alloc),
-            recalls: Recalls::new(alloc),
+            asked: Entries::new(alloc),
+            recalls: Entries::new(alloc),
         }
+    }
+
+    /// How many messages are in memory: those that wait or leave.
+    pub fn held(&self) -> usize
+        ensures { result ≡ count_by has_body (values_of self.now.asked) }
+    {
+        self.asked.held()
+    }
+
+    /// How many recalls are in memory: those that were not answered.
+    pub fn held_recalls(&self) -> usize
+        ensures { result ≡ count_by is_unanswered (values_of self.now.recalls) }
+    {
+        self.recalls.held()
     }
 
     /// Notes that the receiver was asked to clear a message.
@@ -77,9 +149,7 @@ impl Destination {
             ≡ (if nat_eq n q then Some (State.Asked body) else state_in self.old q)) }
         ensures err { OnErr result (self.new ≡ self.old) }
     {
-        self.asked.reserve(1)?;
-        self.places.note(n, self.asked.len())?;
-        self.asked.push_reserved((n, State::Asked(body)));
+        self.asked.put(n, State::Asked(body))?;
         Ok(())
     }
 
@@ -87,7 +157,7 @@ impl Destination {
     pub fn is_asked(&self, n: u64) -> bool
         ensures { result ≡ option_map_or is_waiting (state_in self.now n) false }
     {
-        matches!(self.state(n), Some(State::Asked(_)))
+        waits(&self.asked, n)
     }
 
     /// Whether the message was cleared and is not out.
@@ -95,22 +165,10 @@ impl Destination {
     pub fn is_leaving(&self, n: u64) -> bool
         ensures { result ≡ option_map_or is_leaving_lem (state_in self.now n) false }
     {
-        matches!(self.state(n), Some(State::Cleared(_)))
-    }
-
-    /// Whether the message was cleared, also where it is out.
-    pub fn was_cleared(&self, n: u64) -> bool
-        ensures { result ≡ option_map_or was_cleared_lem (state_in self.now n) false }
-    {
-        matches!(self.state(n), Some(State::Cleared(_) | State::Out))
-    }
-
-    /// Whether the message is out.
-    #[inline(always)]
-    pub fn is_out(&self, n: u64) -> bool
-        ensures { result ≡ option_map_or is_out_lem (state_in self.now n) false }
-    {
-        matches!(self.state(n), Some(State::Out))
+        match self.state(n) {
+            Some(state) => state.is_leaving(),
+            None => false,
+        }
     }
 
     /// What is left to be sent of a message that was cleared and is not out.
@@ -119,39 +177,34 @@ impl Destination {
             ≡ option_and_then next_in (state_in self.now n) }
     {
         match self.state(n) {
-            Some(State::Cleared(leaving)) => Some(leaving),
-            _ => None,
+            Some(state) => state.leaving(),
+            None => None,
         }
     }
 
-    /// Clears a message.
-    pub fn clear(&mut self, n: u64)
-        requires { IsSome (state_in self.old n) }
-        ensures { self.new ≡ with_step self.old n after_clearance }
+    /// Clears a message. The answer is whether it is out at once.
+    pub fn clear(&mut self, n: u64) -> bool
+        requires { option_map_or has_body (state_in self.old n) false ≡ true }
+        ensures step { self.new ≡ with_step self.old n after_clearance }
+        ensures out { result ≡ option_map_or is_out (state_in self.new n) false }
     {
-        let place = self.places.get(n).unwrap();
-        let state = &mut self.asked[place].1;
-        *state = cleared(mem::replace(state, State::Out));
+        let state = cleared(lift(&mut self.asked, n));
+        let is_out = state.is_out();
+        set(&mut self.asked, n, state);
+        is_out
     }
 
-    /// Counts one piece more of a message as sent.
-    pub fn pop(&mut self, n: u64)
-        requires { IsSome (state_in self.old n) }
-        ensures { self.new ≡ with_step self.old n after_piece }
+    /// Counts one piece more of a message as sent. The answer is whether it is out.
+    pub fn pop(&mut self, n: u64) -> bool
+        requires { option_map_or has_body (state_in self.old n) false ≡ true }
+        ensures step { self.new ≡ with_step self.old n after_piece }
+        ensures out { result ≡ option_map_or is_out (state_in self.new n) false }
     {
-        let place = self.places.get(n).unwrap();
-        self.asked[place].1.pop();
-    }
-
-    /// Withdraws a message, if it was asked.
-    fn withdraw(&mut self, n: u64)
-        ensures { self.new ≡ with_step self.old n after_withdrawal }
-    {
-        let Some(place) = self.places.get(n) else {
-            return;
-        };
-        let state = &mut self.asked[place].1;
-        *state = withdrawn(mem::replace(state, State::Out));
+        let mut state = lift(&mut self.asked, n);
+        state.pop();
+        let is_out = state.is_out();
+        set(&mut self.asked, n, state);
+        is_out
     }
 
     /// Notes that a message was recalled.
@@ -160,24 +213,23 @@ impl Destination {
         ensures ok { OnOk result (self.new ≡ with_recall self.old n) }
         ensures err { OnErr result (self.new ≡ self.old) }
     {
-        self.recalls.add(n)
+        self.recalls.put(n, None)?;
+        Ok(())
     }
 
     /// Whether the message was recalled, and the recall not answered.
     pub fn is_recalled(&self, n: u64) -> bool
         ensures { result ≡ option_map_or is_unanswered (recall_in self.now n) false }
     {
-        matches!(self.recalls.get(n), Some(None))
+        self.recalls.get(n).is_some()
     }
 
-    /// Notes the answer of a recall.
+    /// Notes the answer of a recall. Where it was done, a message that waits is withdrawn.
     pub fn answer(&mut self, n: u64, done: bool)
-        requires { IsSome (recall_in self.old n) }
+        requires { option_map_or is_unanswered (recall_in self.old n) false ≡ true }
         ensures { self.new ≡ with_answer self.old n done }
     {
-        self.recalls.answer(n, done);
-        if done {
-            self.withdraw(n);
-        }
+        self.recalls.end(n, Some(done));
+        withdraw_if(&mut self.asked, n, done);
     }
 }

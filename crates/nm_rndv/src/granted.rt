@@ -2,7 +2,7 @@
 
 ghost use Rattle.std.specs.Prelude.{◌≡◌, true, Some, OnOk, OnErr};
 ghost use Rattle.nm_rndv.specs.Grants.{fresh, came as came_lem, due_of, is_open as is_open_lem};
-ghost use Rattle.nm_rndv.specs.Grants.{is_whole as is_whole_lem, with_more, without_bytes};
+ghost use Rattle.nm_rndv.specs.Grants.{is_whole as is_whole_lem, has_bytes, with_more, without_bytes};
 
 use nm_types::{Bytes, Memory};
 use std::alloc::Global;
@@ -79,6 +79,7 @@ impl Grant {
     pub fn add(&mut self, more: &[u8]) -> Result<(), Memory>
         ensures ok { OnOk result (self.new ≡ with_more self.old more.now) }
         ensures err { OnErr result (self.new ≡ self.old) }
+        ensures kept { has_bytes self.new ≡ has_bytes self.old }
     {
         let len = self.len as usize;
         if let Some(bytes) = &mut self.bytes {

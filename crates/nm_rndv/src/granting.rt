@@ -4,8 +4,10 @@ ghost use Rattle.std.specs.Prelude.{◌≡◌, ◌+◌, ◌^◌, ◌<◌, ◌≤
 ghost use Rattle.std.specs.Prelude.{if◌then◌else◌, All};
 ghost use Rattle.std.specs.Prelude.{length, slice_set, replicate, IsOk, IsNone, IsTrue, IfOk, OnOk};
 ghost use Rattle.std.specs.Prelude.{OnErr};
+ghost use Rattle.std.specs.Prelude.{count_by};
+ghost use Rattle.std.specs.Map.{values_of};
 ghost use Rattle.std.specs.Option.{option_and_then};
-ghost use Rattle.nm_rndv.specs.Grants.{fresh, is_unfinished, grant_in, grants_from, expected_in};
+ghost use Rattle.nm_rndv.specs.Grants.{fresh, has_bytes, is_unfinished, grant_in, grants_from, expected_in};
 ghost use Rattle.nm_rndv.specs.Grants.{due_in, is_open_in, is_whole_in, taken_in, with_piece};
 ghost use Rattle.nm_rndv.specs.Pieces.{piece_size};
 ghost use Rattle.nm_rndv.specs.Grants.{joined_by, AllWhole, Continues, IsReady, IsReadyFor};
@@ -65,6 +67,14 @@ impl Grants {
             senders,
             unfinished: 0,
         })
+    }
+
+    /// How many grants of a sender are in memory: those whose bytes were not taken.
+    pub fn held(&self, from: u8) -> usize
+        requires { from < length self.now.grants }
+        ensures { result ≡ count_by has_bytes (values_of (grants_from self.now from)) }
+    {
+        self.senders[from as usize].held()
     }
 
     /// Makes room for one grant more, of whichever sender. No grant changes.

@@ -14,8 +14,9 @@
 //! were popped; out; or withdrawn. A recall has its answer, or none yet. `Grants` is seen as a list
 //! by sender of its grants in order, each with its message's number, its length and its bytes so
 //! far, which are `None` once they were taken; and as the room for more grants of each sender.
-//! Entries stay for good, in these lists and in memory. The body of a message that is out or
-//! withdrawn stays in neither, nor do bytes that were taken.
+//! Entries stay for good in these lists. Memory holds the messages that wait or leave, the recalls that
+//! were not answered, the grants whose bytes were not taken, and the order of clearance from the first
+//! message on that is not out: `held`, `held_recalls` and `held_order` tell how many they are.
 //! # What is proved
 //! - Only `cleared` makes a message cleared. It puts it at the end of the order.
 //! - `next_piece` fills a place of its caller's with the next piece of the first message in the order
@@ -38,8 +39,6 @@ mod granted;
 mod granting;
 pub mod laws;
 mod offering;
-mod placing;
-mod recalls;
 mod senders;
 
 pub use granting::Grants;

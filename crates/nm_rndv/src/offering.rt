@@ -1,13 +1,15 @@
 //! The sender's side: what was asked of all destinations.
 
-ghost use Rattle.std.specs.Prelude.{◌≡◌, ◌<◌, ◌≤◌, ◌↔◌, true, false, None, Some, length};
+ghost use Rattle.std.specs.Prelude.{◌≡◌, ◌+◌, ◌<◌, ◌≤◌, ◌↔◌, true, false, None, Some, length};
 ghost use Rattle.std.specs.Prelude.{slice_get, IsNone, IsSome, IfSome, IsTrue, IfOk, OnOk, OnErr};
+ghost use Rattle.std.specs.Prelude.{count_by};
+ghost use Rattle.std.specs.Map.{values_of};
 ghost use Rattle.std.specs.List.{position_or_len};
 ghost use Rattle.std.specs.Option.{option_map, option_map_or, option_and_then};
 ghost use Rattle.nm_types.specs.Bodies.{body_len};
 ghost use Rattle.nm_types.specs.declared.limits.TheConstants.{MAX_BODY};
 ghost use Rattle.nm_rndv.specs.Offers.{no_offers, destined, state_of, recall_in, leaves};
-ghost use Rattle.nm_rndv.specs.Offers.{cleared_at};
+ghost use Rattle.nm_rndv.specs.Offers.{cleared_at, has_body, is_unanswered};
 ghost use Rattle.nm_rndv.specs.Offers.{is_asked as is_asked_lem, is_recalled as is_recalled_lem};
 ghost use Rattle.nm_rndv.specs.Offers.{asked_len, with_destined, with_asked, with_clearance};
 ghost use Rattle.nm_rndv.specs.Offers.{with_popped, with_recall, with_answer, offered};
@@ -16,6 +18,7 @@ ghost use Rattle.nm_rndv.specs.Offers.{out_by_piece, AllOut};
 
 use crate::cuts::LongBody;
 use crate::destinations::Destination;
+use nm_kept::Kept;
 use nm_types::{Body, Memory, Piece};
 use std::alloc::Global;
 use std::marker::Model;
@@ -23,10 +26,9 @@ use std::marker::Model;
 /// The messages that a sender has asked to be cleared, for all destinations, and its recalls.
 pub struct Offers {
     destinations: Vec<Destination>,
-    // Every message that was cleared, also those that are out.
-    order: Vec<(u8, u64)>,
-    // The place of the first in the order that is not out, so that no look-up walks over the rest.
-    first: usize,
+    // Every message that was cleared. Those before the first that is not out are let go, so that no
+    // look-up walks over them.
+    order: Kept<(u8, u64)>,
     // How many places of the order are kept free: at least one for each message that waits.
     reserved: usize,
 }
@@ -36,14 +38,12 @@ impl Drop for Offers {
         let Offers {
             destinations: _,
             order: _,
-            first: _,
             reserved: _,
         } = self;
     }
 }
 
 impl Model for Offers {
-    ghost use Rattle.std.specs.Prelude.{vec_capacity};
     ghost use Rattle.nm_rndv.specs.Kept.{OffersInvariant};
     ghost use Rattle.nm_rndv.specs.Offers.{Offering};
 
@@ -51,23 +51,25 @@ impl Model for Offers {
 
     ghost view = { λ a. record { destinations = a.destinations.items; order = a.order.items } };
 
-    ghost invariant = { λ a.
-        OffersInvariant a.destinations.items a.order.items a.first a.reserved (vec_capacity a.order) };
+    ghost invariant = { λ a. OffersInvariant a.destinations.items a.order.items a.order.forgotten
+        a.reserved a.order.places };
 }
 
-/// The message at this place of the order.
-fn message_at(order: &[(u8, u64)], place: usize) -> Option<(u8, u64)>
-    ensures { result ≡ slice_get order.now place }
-{
-    order.get(place).copied()
-}
-
-/// Whether the message at this place of the order was cleared and is not out.
+/// The first message of the order in memory.
 #[inline(always)]
-fn leaves_at(destinations: &[Destination], order: &[(u8, u64)], place: usize) -> bool
-    ensures { result ≡ option_map_or (leaves destinations.now) (slice_get order.now place) false }
+fn first_in(order: &Kept<(u8, u64)>) -> Option<(u8, u64)>
+    ensures { result ≡ slice_get order.now.items order.now.forgotten }
 {
-    match message_at(order, place) {
+    order.first().copied()
+}
+
+/// Whether the first message of the order in memory was cleared and is not out.
+#[inline(always)]
+fn first_leaves(destinations: &[Destination], order: &Kept<(u8, u64)>) -> bool
+    ensures { result ≡ option_map_or (leaves destinations.now)
+        (slice_get order.now.items order.now.forgotten) false }
+{
+    match first_in(order) {
         Some((to, n)) => match destinations.get(to as usize) {
             Some(destination) => destination.is_leaving(n),
             None => false,
@@ -76,19 +78,22 @@ fn leaves_at(destinations: &[Destination], order: &[(u8, u64)], place: usize) ->
     }
 }
 
-/// The place of the first message that leaves, which is not before this place, or the length of the
-/// order.
+/// Lets go the messages at the front of the order up to the first that leaves. None of those that were
+/// let go before leaves.
 #[inline(always)]
-fn first_leaving(destinations: &[Destination], order: &[(u8, u64)], from: usize) -> usize
-    requires { from ≤ position_or_len (leaves destinations.now) order.now }
-    ensures { result ≡ position_or_len (leaves destinations.now) order.now }
+fn let_go(destinations: &[Destination], order: &mut Kept<(u8, u64)>)
+    requires { order.old.forgotten ≤ position_or_len (leaves destinations.now) order.old.items }
+    ensures same { order.new.items ≡ order.old.items }
+    ensures first { order.new.forgotten
+        ≡ position_or_len (leaves destinations.now) order.old.items }
+    ensures room { order.old.places ≤ order.new.places }
 {
-    for place in from..order.len() {
-        if leaves_at(destinations, order, place) {
-            return place;
+    for _gone in 0..order.held() {
+        if first_leaves(destinations, order) {
+            return;
         }
+        order.forget_first();
     }
-    order.len()
 }
 
 impl Offers {
@@ -102,8 +107,7 @@ impl Offers {
         }
         Ok(Offers {
             destinations,
-            order: Vec::new(alloc),
-            first: 0,
+            order: Kept::new(alloc),
             reserved: 0,
         })
     }
@@ -119,9 +123,12 @@ impl Offers {
             (self.new ≡ with_destined self.old to (with_asked (destined self.old to) n body)) }
         ensures err { OnErr result (self.new ≡ self.old) }
     {
-        self.order.reserve(self.reserved + 1)?;
+        let Some(reserved) = self.reserved.checked_add(1) else {
+            return Err(Memory);
+        };
+        self.order.reserve(reserved)?;
         self.destinations[to as usize].ask(n, LongBody::new(body))?;
-        self.reserved += 1;
+        self.reserved = reserved;
         Ok(())
     }
 
@@ -133,12 +140,37 @@ impl Offers {
         self.destinations[to as usize].is_asked(n)
     }
 
-    /// Whether the message was cleared, also where it is out.
-    pub fn was_cleared(&self, to: u8, n: u64) -> bool
+    /// Whether the message was cleared and is not out.
+    pub fn is_leaving(&self, to: u8, n: u64) -> bool
         requires { to < length self.now.destinations }
-        ensures { result ≡ cleared_at self.now.destinations (to, n) }
+        ensures { result ≡ leaves self.now.destinations (to, n) }
     {
-        self.destinations[to as usize].was_cleared(n)
+        self.destinations[to as usize].is_leaving(n)
+    }
+
+    /// How many messages to a destination are in memory: those that wait or leave.
+    pub fn held(&self, to: u8) -> usize
+        requires { to < length self.now.destinations }
+        ensures { result ≡ count_by has_body (values_of (destined self.now to).asked) }
+    {
+        self.destinations[to as usize].held()
+    }
+
+    /// How many recalls from a destination are in memory: those that were not answered.
+    pub fn held_recalls(&self, to: u8) -> usize
+        requires { to < length self.now.destinations }
+        ensures { result ≡ count_by is_unanswered (values_of (destined self.now to).recalls) }
+    {
+        self.destinations[to as usize].held_recalls()
+    }
+
+    /// How many places of the order of clearance are in memory: those from the first message on that is
+    /// not out.
+    pub fn held_order(&self) -> usize
+        ensures { position_or_len (leaves self.now.destinations) self.now.order + result
+            ≡ length self.now.order }
+    {
+        self.order.held()
     }
 
     /// Clears a message, which goes to the end of the order of clearance. The answer is whether it
@@ -150,11 +182,10 @@ impl Offers {
         ensures empty { IsTrue result ↔ (asked_len self.old to n ≡ 0) }
     {
         let destination = &mut self.destinations[to as usize];
-        destination.clear(n);
-        let is_out = destination.is_out(n);
+        let is_out = destination.clear(n);
         self.order.push_reserved((to, n));
         self.reserved -= 1;
-        self.first = first_leaving(&self.destinations, &self.order, self.first);
+        let_go(&self.destinations, &mut self.order);
         is_out
     }
 
@@ -166,7 +197,7 @@ impl Offers {
         ensures leaves { IfSome result (λ m. leaves self.now.destinations m ≡ true) }
         ensures none { IsNone result → AllOut self.now }
     {
-        message_at(&self.order, self.first)
+        first_in(&self.order)
     }
 
     /// The destination of the next piece, without the piece, if there is one.
@@ -202,9 +233,8 @@ impl Offers {
     {
         let (to, n) = self.front().unwrap();
         let destination = &mut self.destinations[to as usize];
-        destination.pop(n);
-        let is_out = destination.is_out(n);
-        self.first = first_leaving(&self.destinations, &self.order, self.first);
+        let is_out = destination.pop(n);
+        let_go(&self.destinations, &mut self.order);
         is_out.then_some((to, n))
     }
 

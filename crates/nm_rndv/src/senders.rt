@@ -1,84 +1,127 @@
 //! What was granted to one sender.
 
-ghost use Rattle.std.specs.Prelude.{◌≡◌, ◌<◌, ◌≤◌, ◌++◌, [], ◌∷◌, ◌↔◌, true, false, Some, None};
-ghost use Rattle.std.specs.Prelude.{length, slice_get, IsOk, IsTrue, IfOk, OnOk, OnErr};
-ghost use Rattle.std.specs.List.{position_or_len};
-ghost use Rattle.std.specs.Option.{option_map, option_map_or, option_and_then};
-ghost use Rattle.std.specs.Option.{option_copied};
-ghost use Rattle.nm_rndv.specs.Grants.{fresh, is_unfinished, grant_in, is_open_in, is_whole_in};
-ghost use Rattle.nm_rndv.specs.Grants.{expected_in, due_in, taken_in, with_piece};
+ghost use Rattle.std.specs.Prelude.{◌≡◌, ◌+◌, ◌<◌, ◌≤◌, ◌++◌, [], ◌∷◌, ◌↔◌, ℕ, true, false, Some, None};
+ghost use Rattle.std.specs.Prelude.{length, drop, nat_eq, if◌then◌else◌, slice_get};
+ghost use Rattle.std.specs.Prelude.{IsOk, IsTrue, IfOk, IfSome, OnOk, OnErr, count_by};
+ghost use Rattle.std.specs.Map.{lookup, set_value, values_of};
+ghost use Rattle.std.specs.Option.{option_map, option_map_or, option_and_then, option_copied};
+ghost use Rattle.std.specs.VecDeque.{deque_capacity};
+ghost use Rattle.nm_kept.specs.Entering.{AreLive, SameOthers, kept_if};
+ghost use Rattle.nm_rndv.specs.Grants.{fresh, has_bytes, is_open as is_open_lem, grant_in, is_open_in};
+ghost use Rattle.nm_rndv.specs.Grants.{is_whole_in, first_unfinished, expected_in, due_in};
+ghost use Rattle.nm_rndv.specs.Grants.{taken_in, with_piece};
 ghost use Rattle.nm_rndv.specs.Grants.{has_unfinished as has_unfinished_lem};
 
 use crate::granted::Grant;
-use crate::placing::Places;
+use nm_kept::Entries;
 use nm_types::{Bytes, Memory, Piece};
 use std::alloc::Global;
+use std::collections::VecDeque;
 use std::marker::Model;
 
-/// The grants of one sender in order, each by its message's number.
+/// The grants of one sender in order, each by its message's number. Memory holds those whose bytes were
+/// not taken.
 pub struct Sender {
-    grants: Vec<(u64, Grant)>,
-    // where the grant of each message stands
-    places: Places,
-    // The place of the first that is not whole: an empty message may be whole behind it.
-    first_open: usize,
+    grants: Entries<Grant>,
+    // the numbers of those that are not whole, in order: pieces are of the first of them
+    unfinished: VecDeque<u64>,
 }
 
 impl Drop for Sender {
     fn drop(self) {
         let Sender {
             grants: _,
-            places: _,
-            first_open: _,
+            unfinished: _,
         } = self;
     }
 }
 
 impl Model for Sender {
-    ghost use Rattle.std.specs.Prelude.{◌-◌, length, min, vec_capacity};
+    ghost use Rattle.std.specs.Prelude.{◌-◌, length, min};
+    ghost use Rattle.std.specs.VecDeque.{deque_capacity};
     ghost use Rattle.nm_rndv.specs.Grants.{FromSender};
     ghost use Rattle.nm_rndv.specs.Kept.{SenderInvariant};
 
     ghost Value = { FromSender };
 
     ghost view = { λ s. record {
-      grants = s.grants.items;
-      spare = min (vec_capacity s.grants - length s.grants.items) s.places.spare;
+      grants = s.grants.entries;
+      spare = min s.grants.spare (deque_capacity s.unfinished - length s.unfinished.items);
     } };
 
-    ghost invariant = { λ s. SenderInvariant s.grants.items s.places s.first_open };
+    ghost invariant = { λ s. SenderInvariant s.grants s.unfinished.items };
 }
 
-/// The grant at this place, with its message's number.
-fn grant_at(grants: &[(u64, Grant)], place: usize) -> Option<(u64, &Grant)>
-    ensures { option_map (λ e. (e.0, e.1.now)) result ≡ slice_get grants.now place }
+/// Takes a grant in memory out, to be changed and set.
+#[inline(always)]
+fn lift(alloc: Global, grants: &mut Entries<Grant>, n: u64) -> Grant
+    requires live { AreLive has_bytes grants.old }
+    requires there { option_map_or has_bytes (grant_in grants.old.entries n) false ≡ true }
+    ensures live { AreLive has_bytes grants.new }
+    ensures there { option_map_or has_bytes (grant_in grants.new.entries n) false ≡ true }
+    ensures value { grant_in grants.old.entries n ≡ Some result }
+    ensures others { SameOthers n grants.old.entries grants.new.entries }
+    ensures room { grants.new.spare ≡ grants.old.spare }
 {
-    let (n, grant) = grants.get(place)?;
-    Some((*n, grant))
+    grants.replace(n, Grant::new(alloc, 0))
 }
 
-/// Whether the grant at this place is unfinished.
-fn is_open_at(grants: &[(u64, Grant)], place: usize) -> bool
-    ensures { result ≡ option_map_or is_unfinished (slice_get grants.now place) false }
+/// Sets a grant in memory, which has its bytes.
+#[inline(always)]
+fn set(grants: &mut Entries<Grant>, n: u64, grant: Grant)
+    requires live { AreLive has_bytes grants.old }
+    requires there { option_map_or has_bytes (grant_in grants.old.entries n) false ≡ true }
+    requires bytes { has_bytes grant ≡ true }
+    ensures live { AreLive has_bytes grants.new }
+    ensures entries { grants.new.entries ≡ set_value (nat_eq n) grants.old.entries grant }
+    ensures room { grants.new.spare ≡ grants.old.spare }
 {
-    match grant_at(grants, place) {
-        Some((_, grant)) => grant.is_open(),
-        None => false,
+    let _before = grants.replace(n, grant);
+}
+
+/// Sets a grant in memory, whose bytes were taken, and lets it go.
+#[inline(always)]
+fn end(grants: &mut Entries<Grant>, n: u64, grant: Grant)
+    requires live { AreLive has_bytes grants.old }
+    requires there { option_map_or has_bytes (grant_in grants.old.entries n) false ≡ true }
+    requires bytes { has_bytes grant ≡ false }
+    ensures live { AreLive has_bytes grants.new }
+    ensures entries { grants.new.entries ≡ set_value (nat_eq n) grants.old.entries grant }
+    ensures room { grants.old.spare ≤ grants.new.spare }
+{
+    grants.end(n, grant);
+}
+
+/// Puts a number behind those that are not whole, if it is not. There is room for it.
+#[inline(always)]
+fn open_if(numbers: &mut VecDeque<u64>, is_open: bool, n: u64)
+    requires { length numbers.old.items < deque_capacity numbers.old }
+    ensures items { numbers.new.items ≡ numbers.old.items ++ (if is_open then n ∷ [] else []) }
+    ensures room { deque_capacity numbers.new ≡ deque_capacity numbers.old }
+{
+    if is_open {
+        numbers.push_back_reserved(n);
     }
 }
 
-/// The place of the first unfinished grant, which is not before this place; or the number of all
-/// grants.
-fn first_open(grants: &[(u64, Grant)], from: usize) -> usize
-    requires { from ≤ position_or_len is_unfinished grants.now }
-    ensures { result ≡ position_or_len is_unfinished grants.now }
+/// Takes the first number away, if its message is whole.
+#[inline(always)]
+fn close_if(numbers: &mut VecDeque<u64>, is_whole: bool)
+    ensures items { numbers.new.items ≡ (if is_whole then drop 1 numbers.old.items else numbers.old.items) }
+    ensures fewer { length numbers.new.items ≤ length numbers.old.items }
+    ensures room { deque_capacity numbers.new ≡ deque_capacity numbers.old }
 {
-    for place in from..grants.len() {
-        if is_open_at(grants, place) {
-            return place;
-        }
+    if is_whole {
+        let _number = numbers.pop_front();
     }
-    grants.len()
+}
+
+/// The first number, if there is one.
+#[inline(always)]
+fn first_of(numbers: &VecDeque<u64>) -> Option<u64>
+    ensures { result ≡ slice_get numbers.now.items 0 }
+{
+    numbers.front().copied()
 }
 
 impl Sender {
@@ -87,10 +130,16 @@ impl Sender {
         ensures { result.grants ≡ [] }
     {
         Sender {
-            grants: Vec::new(alloc),
-            places: Places::new(alloc),
-            first_open: 0,
+            grants: Entries::new(alloc),
+            unfinished: VecDeque::new(alloc),
         }
+    }
+
+    /// How many grants are in memory: those whose bytes were not taken.
+    pub fn held(&self) -> usize
+        ensures { result ≡ count_by has_bytes (values_of self.now.grants) }
+    {
+        self.grants.held()
     }
 
     /// Makes room for one grant more.
@@ -100,8 +149,8 @@ impl Sender {
         ensures same { self.new.grants ≡ self.old.grants }
         ensures kept { self.old.spare ≤ self.new.spare }
     {
-        self.grants.reserve(1)?;
-        self.places.reserve()
+        self.unfinished.reserve(1)?;
+        self.grants.reserve()
     }
 
     /// Grants a message of this length. The answer is whether it is whole already.
@@ -113,11 +162,10 @@ impl Sender {
         ensures err { OnErr result (self.new.grants ≡ self.old.grants) }
         ensures succeeds { 0 < self.old.spare → IsOk result }
     {
-        let alloc = *self.grants.allocator();
-        self.grants.reserve(1)?;
-        self.places.note(n, self.grants.len())?;
-        self.grants.push_reserved((n, Grant::new(alloc, len)));
-        self.first_open = first_open(&self.grants, self.first_open);
+        let alloc = *self.unfinished.allocator();
+        self.unfinished.reserve(1)?;
+        self.grants.put(n, Grant::new(alloc, len))?;
+        open_if(&mut self.unfinished, len > 0, n);
         Ok(len == 0)
     }
 
@@ -125,36 +173,53 @@ impl Sender {
     pub fn has_unfinished(&self) -> bool
         ensures { result ≡ has_unfinished_lem self.now.grants }
     {
-        self.first_open < self.grants.len()
+        self.unfinished.len() > 0
     }
 
-    /// The grant of a message.
+    /// The grant of a message whose bytes were not taken.
     fn grant_of(&self, n: u64) -> Option<&Grant>
-        ensures { option_copied result ≡ grant_in self.now.grants n }
+        ensures { option_copied result ≡ kept_if has_bytes (grant_in self.now.grants n) }
     {
-        let place = self.places.get(n)?;
-        Some(&self.grants[place].1)
+        self.grants.get(n)
+    }
+
+    /// The first grant that is not whole, with its message's number.
+    #[inline(always)]
+    fn first(&self) -> Option<(u64, &Grant)>
+        ensures first { option_map (λ e. (e.0, e.1.now)) result
+            ≡ first_unfinished self.now.grants }
+        ensures unfinished { IfSome result (λ e. is_open_lem e.1.now ≡ true) }
+    {
+        let n = first_of(&self.unfinished)?;
+        let grant = self.grants.get(n)?;
+        Some((n, grant))
     }
 
     /// Whether the message was granted and is not whole.
     pub fn is_open(&self, n: u64) -> bool
         ensures { result ≡ is_open_in self.now.grants n }
     {
-        self.grant_of(n).is_some_and(|grant| grant.is_open())
+        match self.grant_of(n) {
+            Some(grant) => grant.is_open(),
+            None => false,
+        }
     }
 
     /// Whether the message is whole and was not taken.
     pub fn is_whole(&self, n: u64) -> bool
         ensures { result ≡ is_whole_in self.now.grants n }
     {
-        self.grant_of(n).is_some_and(|grant| grant.is_whole())
+        match self.grant_of(n) {
+            Some(grant) => grant.is_whole(),
+            None => false,
+        }
     }
 
     /// Message and offset that the next piece must have.
     pub fn expected(&self) -> Option<(u64, u32)>
         ensures { result ≡ expected_in self.now.grants }
     {
-        let (n, grant) = grant_at(&self.grants, self.first_open)?;
+        let (n, grant) = self.first()?;
         Some((n, grant.came()))
     }
 
@@ -162,7 +227,7 @@ impl Sender {
     pub fn due(&self) -> u32
         ensures { result ≡ due_in self.now.grants }
     {
-        match grant_at(&self.grants, self.first_open) {
+        match self.first() {
             Some((_, grant)) => grant.due(),
             None => 0,
         }
@@ -174,11 +239,15 @@ impl Sender {
         ensures ok { OnOk result
             (self.new.grants ≡ with_piece self.old.grants p.now.n p.now.bytes) }
         ensures err { OnErr result (self.new.grants ≡ self.old.grants) }
-        ensures room { self.new.spare ≡ self.old.spare }
+        ensures room { self.old.spare ≤ self.new.spare }
     {
-        self.grants[self.first_open].1.add(p.bytes.as_slice())?;
-        self.first_open = first_open(&self.grants, self.first_open);
-        Ok(())
+        let alloc = *self.unfinished.allocator();
+        let mut grant = lift(alloc, &mut self.grants, p.n);
+        let added = grant.add(p.bytes.as_slice());
+        let is_open = grant.is_open();
+        set(&mut self.grants, p.n, grant);
+        close_if(&mut self.unfinished, !is_open);
+        added
     }
 
     /// The bytes of a whole message.
@@ -189,9 +258,12 @@ impl Sender {
         ensures gone { self.new.grants ≡ taken_in self.old.grants n }
         ensures unfinished { has_unfinished_lem self.new.grants
             ≡ has_unfinished_lem self.old.grants }
-        ensures room { self.new.spare ≡ self.old.spare }
+        ensures room { self.old.spare ≤ self.new.spare }
     {
-        let place = self.places.get(n).unwrap();
-        self.grants[place].1.take()
+        let alloc = *self.unfinished.allocator();
+        let mut grant = lift(alloc, &mut self.grants, n);
+        let bytes = grant.take();
+        end(&mut self.grants, n, grant);
+        bytes
     }
 }

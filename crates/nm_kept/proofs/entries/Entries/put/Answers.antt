@@ -1,4 +1,4 @@
-use Rattle.std.proofs.Common.{◌≡◌, ◌++◌, ◌∷◌, [], ◌∙◌, None, ap, nat_eq}
+use Rattle.std.proofs.Common.{◌++◌, ◌∷◌, [], ◌∙◌, ap, nat_eq}
 use Rattle.std.specs.Map.{lookup}
 use Rattle.nm_kept.specs.Entering.{Entering, noted}
 use Rattle.nm_kept.proofs.EntryLemmas.{insert_new, noted_new}

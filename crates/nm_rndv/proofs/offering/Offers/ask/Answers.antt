@@ -1,4 +1,5 @@
-use Rattle.std.proofs.Common.{◌≡◌, ◌<◌, None, length, sym, ap, ◌∙◌, arith}
+use Rattle.std.proofs.Common.{◌≡◌, ◌+◌, ◌<◌, ℕ, None, length, sym, ap, ◌∙◌, arith}
+use Rattle.nm_kept.specs.Keeping.{Keeping}
 use Rattle.nm_rndv.specs.Offers.{Offering, state_in, state_at}
 use Rattle.nm_rndv.proofs.KeptLemmas.{kept_asked}
 use Rattle.nm_rndv.proofs.StateLemmas.{state_there}
@@ -17,6 +18,9 @@ invariant_of-self-2 c =
     ) in
     let was : state_in d c.args.n ≡ None = sym (state_there ds c.args.to within d at c.args.n)
     ∙ ap (λ (v : Offering). state_at v.destinations (c.args.to, c.args.n)) c.self.view_is ∙ c.requires.is_new in
-    rw c.in_ok-reserve.ensures.items (kept_asked ds a.order.items a.first a.reserved _ c.self.invariant c.args.to
+    let items = ap (λ (k : Keeping (ℕ × ℕ)). k.items) c.in_ok-reserve.ensures.same in
+    let forgotten = ap (λ (k : Keeping (ℕ × ℕ)). k.forgotten) c.in_ok-reserve.ensures.same in
+    let more : c.in-Some.reserved ≡ a.reserved + 1 = c.in-Some.ensures.1 in
+    rw (items, forgotten, more) (kept_asked ds a.order.items a.order.forgotten a.reserved _ c.self.invariant c.args.to
     within d at c.ask.new.self c.args.n c.new.result was c.in_ok-ask.ensures.states c.in_ok-ask.ensures.ok _
-    (omega (arith, c.in_ok-reserve.ensures.ok, c.in_ok-reserve.ensures.len, a.order.ok.0)))
+    (omega (arith, c.in_ok-reserve.ensures.ok, ap length items)))

@@ -1,73 +1,52 @@
-use Rattle.std.proofs.Common.{◌≡◌, ◌∙◌, Some, sym, ap, nat_eq, arith}
-use Rattle.std.specs.Option.{option_map}
-use Rattle.std.specs.List.{position_or_len}
+use Rattle.std.proofs.Common.{◌≡◌, ◌∙◌, Some, ap, sym, nat_eq, false, cond, not, drop}
+use Rattle.std.specs.Option.{option_map, option_map_or}
 use Rattle.std.proofs.lemmas.Map.Steps.{set_value_same}
-use Rattle.nm_types.proofs.ResultLemmas.{on_err}
-use Rattle.nm_rndv.specs.Grants.{FromSender, expected_in, is_open, is_unfinished, with_grant, with_more}
-use Rattle.nm_rndv.proofs.GrantLemmas.{grant_there, kept_written, opens_there, within_there, written_there}
-use Rattle.nm_rndv.proofs.Places.{position_or_len-set_value, position_or_len-set_value_le}
+use Rattle.std.proofs.lemmas.Result.{on_ok_weaker, on_err_weaker}
+use Rattle.nm_rndv.specs.Grants.{FromSender, expected_in, has_bytes, is_open, with_grant, with_more}
+use Rattle.nm_rndv.proofs.GrantLemmas.{expected_there, open_has_bytes, open_in, open_set}
 use Rattle.nm_rndv.proofs.senders.Sender.add.Goals as goal
 
-pub index_mut-requires : goal.index_mut-requires
-index_mut-requires c =
-    let es = c.self.inside.grants.items in let kept = c.self.invariant in
+pub lift-grant-requires-clause-there : goal.lift-grant-requires-clause-there
+lift-grant-requires-clause-there c =
     let named = ap (λ (v : FromSender). option_map (λ at. at.0) (expected_in v.grants)) c.self.view_is ∙ c.requires in
-    omega (arith, within_there es c.self.inside.first_open kept.first_is kept.placed.distinct c.args.p.now.n named)
+    let e = expected_there c.self.inside.grants.entries c.self.invariant.live.distinct c.args.p.now.n named in
+    ap (λ o. option_map_or has_bytes o false) e.2 ∙ open_has_bytes e.0 e.3
+
+pub set-requires-clause-bytes : goal.set-requires-clause-bytes
+set-requires-clause-bytes c =
+    let named = ap (λ (v : FromSender). option_map (λ at. at.0) (expected_in v.grants)) c.self.view_is ∙ c.requires in
+    let e = expected_there c.self.inside.grants.entries c.self.invariant.live.distinct c.args.p.now.n named in
+    let same : Some e.0 ≡ Some c.lift-grant.result = sym e.2 ∙ c.lift-grant.ensures.value in
+    let is : e.0 ≡ c.lift-grant.result = cc in
+    c.add-added.ensures.kept ∙ ap has_bytes (sym is) ∙ open_has_bytes e.0 e.3
 
 pub invariant_of-self : goal.invariant_of-self
 invariant_of-self c =
-    let es = c.self.inside.grants.items in let kept = c.self.invariant in
-    let first = c.self.inside.first_open in let n = c.args.p.now.n in
+    let es = c.self.inside.grants.entries in let n = c.args.p.now.n in let w = c.add-added.new.self in
     let named = ap (λ (v : FromSender). option_map (λ at. at.0) (expected_in v.grants)) c.self.view_is ∙ c.requires in
-    let x = c.index_mut.result.now in let w = c.add.new.self in
-    let there = grant_there es first kept.first_is kept.placed.distinct n named x c.index_mut.ensures.value in
-    let wrote = written_there es first kept.first_is kept.placed.distinct n named x c.index_mut.ensures.value w in
-    let first' = kept.first_is
-    ∙ sym (position_or_len-set_value is_open (nat_eq n) w es x.1 there (ap is_open c.in_err-add.ensures.err)) in
-    kept_written es _ c.self.inside.places n w first kept.placed wrote (rw wrote first')
-
-pub returns-in_err-add-clause-err : goal.returns-in_err-add-clause-err
-returns-in_err-add-clause-err c =
-    let es = c.self.inside.grants.items in let kept = c.self.invariant in
-    let first = c.self.inside.first_open in let n = c.args.p.now.n in
-    let named = ap (λ (v : FromSender). option_map (λ at. at.0) (expected_in v.grants)) c.self.view_is ∙ c.requires in
-    let x = c.index_mut.result.now in let w = c.add.new.self in
-    let there = grant_there es first kept.first_is kept.placed.distinct n named x c.index_mut.ensures.value in
-    let wrote = written_there es first kept.first_is kept.placed.distinct n named x c.index_mut.ensures.value w in
-    let same = there ∙ ap Some (sym c.in_err-add.ensures.err) in
-    on_err c.from_residual.result (wrote ∙ set_value_same (nat_eq n) es w same
-    ∙ ap (λ (v : FromSender). v.grants) c.self.view_is)
-
-pub first_open-self-inside-requires : goal.first_open-self-inside-requires
-first_open-self-inside-requires c =
-    let es = c.self.inside.grants.items in let kept = c.self.invariant in
-    let first = c.self.inside.first_open in let n = c.args.p.now.n in
-    let named = ap (λ (v : FromSender). option_map (λ at. at.0) (expected_in v.grants)) c.self.view_is ∙ c.requires in
-    let x = c.index_mut.result.now in let w = c.add.new.self in
-    let there = grant_there es first kept.first_is kept.placed.distinct n named x c.index_mut.ensures.value in
-    let wrote = written_there es first kept.first_is kept.placed.distinct n named x c.index_mut.ensures.value w in
-    let open' = opens_there es first kept.first_is kept.placed.distinct n named x c.index_mut.ensures.value in
-    rw (c.deref.ensures.value, wrote)
-    (rw kept.first_is (position_or_len-set_value_le is_open (nat_eq n) w es x.1 there (λ _. open')))
-
-pub invariant_of-self-2 : goal.invariant_of-self-2
-invariant_of-self-2 c =
-    let es = c.self.inside.grants.items in let kept = c.self.invariant in
-    let first = c.self.inside.first_open in let n = c.args.p.now.n in
-    let named = ap (λ (v : FromSender). option_map (λ at. at.0) (expected_in v.grants)) c.self.view_is ∙ c.requires in
-    let x = c.index_mut.result.now in let w = c.add.new.self in
-    let wrote = written_there es first kept.first_is kept.placed.distinct n named x c.index_mut.ensures.value w in
-    kept_written es _ c.self.inside.places n w c.first_open-self-inside.result kept.placed wrote
-    (c.first_open-self-inside.ensures ∙ ap (position_or_len is_unfinished) c.deref.ensures.value)
+    let e = expected_there es c.self.invariant.live.distinct n named in
+    let entries = c.set.ensures.entries ∙ c.lift-grant.ensures.others w in
+    record {
+      live = c.set.ensures.live;
+      numbers = c.close_if.ensures.items
+          ∙ ap (λ b. cond (not b) (drop 1 c.self.inside.unfinished.items) c.self.inside.unfinished.items) c.is_open-is_open.ensures
+          ∙ ap (λ ns. cond (not (is_open w)) (drop 1 ns) ns) c.self.invariant.numbers
+          ∙ sym (ap open_in entries ∙ open_set n w es e.0 e.1 e.2 e.3);
+    }
 
 pub returns-clause-ok : goal.returns-clause-ok
 returns-clause-ok c =
-    let es = c.self.inside.grants.items in let kept = c.self.invariant in
-    let first = c.self.inside.first_open in let n = c.args.p.now.n in
-    let named = ap (λ (v : FromSender). option_map (λ at. at.0) (expected_in v.grants)) c.self.view_is ∙ c.requires in
-    let x = c.index_mut.result.now in let w = c.add.new.self in
-    let there = grant_there es first kept.first_is kept.placed.distinct n named x c.index_mut.ensures.value in
-    let wrote = written_there es first kept.first_is kept.placed.distinct n named x c.index_mut.ensures.value w in
-    let is : w ≡ with_more x.1 c.args.p.now.bytes =
-    c.in_ok-add.ensures.ok ∙ ap (with_more x.1) c.as_slice.ensures.value in
-    wrote ∙ rw (← c.self.view_is, there) (ap (with_grant es n) is)
+    let es = c.self.inside.grants.entries in let n = c.args.p.now.n in let w = c.add-added.new.self in
+    let entries = c.set.ensures.entries ∙ c.lift-grant.ensures.others w in
+    let there = c.lift-grant.ensures.value in
+    on_ok_weaker c.add-added.result
+    (λ is. entries ∙ rw (← c.self.view_is, there)
+    (ap (with_grant es n) (is ∙ ap (with_more c.lift-grant.result) c.as_slice.ensures.value))) c.add-added.ensures.ok
+
+pub returns-clause-err : goal.returns-clause-err
+returns-clause-err c =
+    let es = c.self.inside.grants.entries in let n = c.args.p.now.n in let w = c.add-added.new.self in
+    let entries = c.set.ensures.entries ∙ c.lift-grant.ensures.others w in
+    on_err_weaker c.add-added.result
+    (λ same. entries ∙ set_value_same (nat_eq n) es w (c.lift-grant.ensures.value ∙ ap Some (sym same))
+    ∙ ap (λ (v : FromSender). v.grants) c.self.view_is) c.add-added.ensures.err

@@ -1,21 +1,14 @@
-use Rattle.std.proofs.Common.{◌∙◌, sym, ap, slice_get}
-use Rattle.nm_rndv.proofs.GrantLemmas.{due_in-none, due_in-some, open_there}
+use Rattle.std.proofs.Common.{◌∙◌, ℕ, ap}
+use Rattle.std.specs.Option.{option_map_or}
+use Rattle.nm_rndv.specs.Grants.{Granted, due_of}
 use Rattle.nm_rndv.proofs.senders.Sender.due.Goals as goal
 
 pub due-requires : goal.due-requires
-due-requires c =
-    let a = c.self.inside in
-    open_there a.grants.items a.first_open c.self.invariant.first_is _
-    (ap (λ es. slice_get es a.first_open) (sym c.deref.ensures.value) ∙ sym c.in-Some.ensures)
+due-requires c = c.in-Some.ensures.unfinished
 
 pub returns-in-Some : goal.returns-in-Some
 returns-in-Some c =
-    let a = c.self.inside in
-    rw (← c.self.view_is, c.due.ensures) (sym (due_in-some a.grants.items a.first_open c.self.invariant.first_is _
-    (ap (λ es. slice_get es a.first_open) (sym c.deref.ensures.value) ∙ sym c.in-Some.ensures)))
+    c.due.ensures ∙ ap (λ o. option_map_or (λ (e : ℕ × Granted). due_of e.1) o 0) c.in-Some.ensures.first
 
 pub returns-in-None : goal.returns-in-None
-returns-in-None c =
-    let a = c.self.inside in
-    rw (← c.self.view_is) (sym (due_in-none a.grants.items a.first_open c.self.invariant.first_is
-    (ap (λ es. slice_get es a.first_open) (sym c.deref.ensures.value) ∙ sym c.in-None.ensures)))
+returns-in-None c = ap (λ o. option_map_or (λ (e : ℕ × Granted). due_of e.1) o 0) c.in-None.ensures.first

@@ -1,24 +1,35 @@
-use Rattle.std.proofs.Common.{◌≡◌, ◌∙◌, None, ap, arith, length}
-use Rattle.std.specs.List.{position_or_len}
-use Rattle.nm_rndv.specs.Grants.{FromSender, is_unfinished, grant_in}
-use Rattle.nm_rndv.proofs.PlacingLemmas.{entry_more, no_place}
+use Rattle.std.proofs.Common.{◌≡◌, ◌∙◌, None, ap, sym, cond, [], ◌∷◌, ◌++◌, nat_lt}
+use Rattle.nm_kept.proofs.EntryLemmas.{absent, live_put, live_same}
+use Rattle.nm_rndv.specs.Grants.{FromSender, grant_in, has_bytes, is_open}
+use Rattle.nm_rndv.proofs.GrantLemmas.{open_in, open_more}
 use Rattle.nm_rndv.proofs.senders.Sender.grant.Goals as goal
 
-pub note-requires : goal.note-requires
-note-requires c =
-    let a = c.self.inside in
-    no_place a.places a.grants.items c.self.invariant.placed c.args.n
+pub put-requires-clause-is_absent : goal.put-requires-clause-is_absent
+put-requires-clause-is_absent c =
+    absent has_bytes c.self.inside.grants c.self.invariant.live c.args.n
     (ap (λ (v : FromSender). grant_in v.grants c.args.n) c.self.view_is ∙ c.requires)
+
+pub invariant_of-self-in_err-put : goal.invariant_of-self-in_err-put
+invariant_of-self-in_err-put c =
+    let a = c.self.inside in
+    record {
+      live = live_same has_bytes a.grants c.put.new.self c.self.invariant.live c.in_err-put.ensures.err
+          c.in_err-put.ensures.err_live;
+      numbers = c.reserve.ensures.items ∙ c.self.invariant.numbers ∙ sym (ap open_in c.in_err-put.ensures.err);
+    }
 
 pub invariant_of-self-2 : goal.invariant_of-self-2
 invariant_of-self-2 c =
     let a = c.self.inside in
-    let absent : grant_in a.grants.items c.args.n ≡ None =
+    let new : grant_in a.grants.entries c.args.n ≡ None =
     ap (λ (v : FromSender). grant_in v.grants c.args.n) c.self.view_is ∙ c.requires in
-    let end' : c.len.result ≡ length a.grants.items = omega arith in
     record {
-      placed = rw (c.push_reserved.ensures.items, c.reserve.ensures.items) (entry_more a.places a.grants.items
-          c.self.invariant.placed c.args.n c.note.new.self c.len.result c.new.result absent
-          c.in_ok-note.ensures.ok end');
-      first_is = c.first_open-self-inside.ensures ∙ ap (position_or_len is_unfinished) c.deref.ensures.value;
+      live = live_put has_bytes a.grants c.self.invariant.live c.args.n c.put.new.self c.new.result new
+          (ap has_bytes c.new.ensures) c.in_ok-put.ensures.entries c.in_ok-put.ensures.live;
+      numbers = c.open_if.ensures.items
+          ∙ ap (λ ns. ns ++ cond (nat_lt 0 c.args.len) (c.args.n ∷ []) [])
+          (c.reserve.ensures.items ∙ c.self.invariant.numbers)
+          ∙ sym (ap open_in c.in_ok-put.ensures.entries
+          ∙ open_more a.grants.entries c.args.n c.new.result
+          ∙ ap (λ g. open_in a.grants.entries ++ cond (is_open g) (c.args.n ∷ []) []) c.new.ensures);
     }
