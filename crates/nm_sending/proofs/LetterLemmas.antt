@@ -111,21 +111,21 @@ numbered-append from number (p ∷ ps) qs are more =
       numbered-append from (number + 1) ps qs are.2 (subst (λ (k : ℕ). AreNumbered from k qs) next more),
     )
 
--- the fields of an empty outbox
-zeros : (n to : ℕ) → get_or (replicate {A = ℕ} n 0) to 0 ≡ 0
-zeros n to =
-    ⊎_elim (λ below. get_or-replicate n to 0 0 below)
-    (λ past. get_or_past (replicate {A = ℕ} n 0) to 0 (omega (arith, length-replicate {A = ℕ} n 0)))
-    (cases_lt to n)
+-- in a list of equal items each is that, and so is what is read behind the last
+pub alike : {X : Type 0} (n i : ℕ) (x : X) → get_or (replicate n x) i x ≡ x
+alike n i x =
+    ⊎_elim (λ below. get_or-replicate n i x x below)
+    (λ past. get_or_past (replicate n x) i x (omega (arith, length-replicate n x))) (cases_lt i n)
 
+-- the fields of an empty outbox
 pub fields-none : (me n : ℕ) (letters : List Letter) (popped put : List ℕ) (most : ℕ) → letters ≡ [] →
     popped ≡ replicate n 0 → put ≡ replicate n 0 → AreFields me letters popped put most
 fields-none me n letters popped put most none fresh fresh' =
     rw (none, fresh, fresh') (record {
       lawful = record { in_range = tt; numbered = λ to. tt };
       ranks = refl;
-      counts = λ to. rw (zeros n to) (omega arith);
-      bounded = λ to. rw (zeros n to) (omega arith);
+      counts = λ to. rw (alike {X = ℕ} n to 0) (omega arith);
+      bounded = λ to. rw (alike {X = ℕ} n to 0) (omega arith);
     })
 
 -- the fields after so many letters more to one rank

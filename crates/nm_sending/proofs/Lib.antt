@@ -8,6 +8,7 @@ pub mod LetterLemmas
 mod MessageLemmas
 mod MostLemmas
 mod NoteLemmas
+mod NothingLemmas
 mod OfferLemmas
 mod OtherLemmas
 mod OutboxLemmas
