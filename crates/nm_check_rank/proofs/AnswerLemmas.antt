@@ -1,19 +1,22 @@
 -- The rule on answers, by what the command asks for and what was found.
-use Rattle.std.proofs.Common.{◌≡◌, ℕ, Bool, Option, Some, List, sym, ◌∙◌, ap, subst}
-use Rattle.std.specs.Prelude.{IsSomeAnd, option_and_then, option_map}
+use Rattle.std.proofs.Common.{◌≡◌, ℕ, Option, Some, None, List, refl, ◌∙◌, ap}
+use Rattle.std.specs.Prelude.{IsSomeAnd, MatchOption, option_and_then, option_map}
+use Rattle.std.proofs.lemmas.Option.{none-some}
 use Rattle.nm_types.specs.declared.answers.Answer.{Answer}
 use Rattle.nm_types.specs.declared.messages.Arrival.{Arrival}
 use Rattle.nm_types.specs.declared.scripts.Command.{Command}
 use Rattle.nm_types.specs.Commands.{Numbered, command_at}
 use Rattle.nm_history.specs.declared.events.Event.{Event}
 use Rattle.nm_history.specs.declared.events.Happened.TheVariants as happening
-use Rattle.nm_history.specs.Answers.{answer_of, live, without_bytes}
-use Rattle.nm_history.specs.RankRun.{AnswerAt}
+use Rattle.nm_history.specs.declared.events.Happened.{Happened}
+use Rattle.nm_history.specs.Answers.{answer_of, live}
 use Rattle.nm_lookups.specs.Looks.{found_by, look_of}
-use Rattle.nm_lookups.specs.Deciding.{Decides}
 use Rattle.nm_lookups.specs.AskedFor.{asked_request, meant_by, name_of}
 use Rattle.nm_lookups.specs.declared.asked.requests.Request.{Request}
+use Rattle.nm_check_rank.specs.Dues.{IsDueAt}
 use Rattle.nm_check_rank.specs.Handles.{IsOfName}
+use Rattle.nm_check_rank.specs.OwnBreaks.{NextAt}
+use Rattle.nm_check_rank.specs.declared.paired.dues.Due.{Due}
 
 -- the request of the name of the command of a line
 pub of_name : (commands : List Numbered) (before : List Event) (line : ℕ) (answer : Answer) (c : Command)
@@ -33,12 +36,28 @@ pub found_of : (commands : List Numbered) (before : List Event) (line : ℕ) (an
 found_of commands before line answer c found at is =
     is ∙ ap (λ (o : Option Command). option_and_then (found_by before) o) at
 
-module _ (commands : List Numbered) (before : List Event) (line : ℕ) (given : Answer) (r : Bool) where
-  -- an answer, by the one that the command has
-  pub answer_decided : (o : Option Command) (c : Command) → o ≡ Some c → o ≡ command_at commands line →
-      Decides r (answer_of commands before line c ≡ Some (without_bytes given)) →
-      Decides r (AnswerAt commands before (happening.Ran line given))
-  answer_decided o c is at right =
-      subst (λ (o : Option Command). Decides r (IsSomeAnd o
-      (λ c. answer_of commands before line c ≡ Some (without_bytes given))))
-      (sym is ∙ at) right
+-- an answer is right, by the one that is told
+module _ (commands : List Numbered) (before : List Event) (line : ℕ) (given : Answer) where
+  abbrev Given : Option Command → Option Answer
+  Given o = option_and_then (λ c. answer_of commands before line c) o
+
+  pub answer_of_told : (o : Option Command) → Given o ≡ Some given →
+      IsSomeAnd o (λ c. answer_of commands before line c ≡ Some given)
+  answer_of_told None is = absurd (none-some given is)
+  answer_of_told (Some c) is = is
+
+  pub told_of_answer : (o : Option Command) → IsSomeAnd o (λ c. answer_of commands before line c ≡ Some given) →
+      Given o ≡ Some given
+  told_of_answer None is = absurd is
+  told_of_answer (Some c) is = is
+
+-- what stands against an event by the rule on answers
+abbrev pub IsAnswerDue : List Numbered → List Event → Happened → Option Due → Type 0
+IsAnswerDue commands before w found =
+    MatchOption found (NextAt commands before w)
+    (λ due. (NextAt commands before w → ⊥) × IsDueAt commands before w (Some due))
+
+pub other_next : (commands : List Numbered) (before : List Event) (w : Happened) →
+    ((line : ℕ) (answer : Answer) → w ≡ happening.Ran line answer → ⊥) → IsAnswerDue commands before w None
+other_next commands before (happening.Ran line answer) not = absurd (not line answer refl)
+other_next commands before w not = tt

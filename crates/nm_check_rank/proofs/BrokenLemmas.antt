@@ -54,8 +54,7 @@ use Rattle.nm_check_rank.specs.declared.paired.objections.Objection.{Objection}
 use Rattle.nm_check_rank.specs.declared.paired.objections.Objection.TheVariants as against
 use Rattle.nm_check_rank.proofs.CancelLemmas.{is_that_recall, some_of_kind}
 use Rattle.nm_check_rank.proofs.DecideLemmas.{decides_both, decides_nat}
-use Rattle.nm_check_rank.proofs.KindLemmas.{same_head}
-use Rattle.nm_check_rank.proofs.ManyLemmas.{passed_head}
+use Rattle.nm_check_rank.proofs.ManyLemmas.{passed_head, same_head}
 use Rattle.nm_check_rank.proofs.PushLemmas.{since_happened}
 
 -- what is told where it breaks
@@ -63,10 +62,10 @@ pub some_told : {X : Type 0} (P : Type 0) (o : Option X) → (o ≡ None → P) 
 some_told P None keeps not = absurd (not (keeps refl))
 some_told P (Some x) keeps not = refl
 
-not_none : {X : Type 0} (x : X) → Some x ≡ None → ⊥
+pub not_none : {X : Type 0} (x : X) → Some x ≡ None → ⊥
 not_none x same = none-some x (sym same)
 
-no_item : {X : Type 0} (x : X) → [] ≡ x ∷ [] → ⊥
+pub no_item : {X : Type 0} (x : X) → [] ≡ x ∷ [] → ⊥
 no_item x same = let both : 0 ≡ length (x ∷ []) = ap length same in omega (arith, both)
 
 abbrev nothing : Option Due

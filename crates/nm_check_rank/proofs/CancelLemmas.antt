@@ -1,29 +1,22 @@
 -- The rule on cancels, by the cancels since the last answer.
-use Rattle.std.proofs.Common.{◌≡◌, ℕ, ◌+◌, ◌≤◌, ◌||◌, Bool, true, false, cond, Option, Some}
+use Rattle.std.proofs.Common.{◌≡◌, ℕ, ◌+◌, ◌≤◌, ◌||◌, Bool, true, false, cond, Some}
 use Rattle.std.proofs.Common.{List, [], ◌∷◌, ◌++◌}
 use Rattle.std.proofs.Common.{length, refl, sym, ◌∙◌, ap, subst, arith, length-append, append-nil}
-use Rattle.std.specs.Prelude.{All, MatchOption, option_and_then}
+use Rattle.std.specs.Prelude.{All}
 use Rattle.std.specs.List.{filter, list_any}
 use Rattle.std.proofs.lemmas.Bool.{false≢true}
 use Rattle.std.proofs.lemmas.List.Elements.{All-head, All-pop, All-same, filter-append}
-use Rattle.nm_types.specs.declared.answers.Answer.{Answer}
-use Rattle.nm_types.specs.declared.scripts.Command.{Command}
-use Rattle.nm_types.specs.declared.scripts.Command.TheVariants as command
-use Rattle.nm_types.specs.Commands.{Numbered, command_at}
+use Rattle.nm_types.specs.Commands.{Numbered}
 use Rattle.nm_history.specs.declared.events.Event.{Event}
 use Rattle.nm_history.specs.declared.events.Happened.{Happened}
 use Rattle.nm_history.specs.declared.events.Happened.TheVariants as happening
-use Rattle.nm_history.specs.Answers.{live}
 use Rattle.nm_history.specs.AtEach.{AtEach}
-use Rattle.nm_history.specs.Completion.{Request as Meant}
 use Rattle.nm_history.specs.Happens.{happened, is_recall}
-use Rattle.nm_history.specs.RankRun.{CancelAt, CancelsFor, CancelsOf, cancels_since, is_cancelling, since_after}
-use Rattle.nm_history.specs.RankRun.{is_canceller, since_command}
+use Rattle.nm_history.specs.RankRun.{CancelAt, cancels_since, is_cancelling, since_after}
+use Rattle.nm_history.specs.RankRun.{since_command}
 use Rattle.nm_history.proofs.AtEachLemmas.{AtEach-front, AtEach-split}
 use Rattle.nm_history.proofs.OnceLemmas.{eqb_self}
 use Rattle.nm_history.proofs.RankRunLemmas.{since-push}
-use Rattle.nm_lookups.specs.Deciding.{Decides}
-use Rattle.nm_lookups.specs.AskedFor.{asked_request, name_of}
 use Rattle.nm_check_rank.proofs.PushLemmas.{by_pushes, since_happened}
 
 module _ (commands : List Numbered) (to n : ℕ) where
@@ -129,23 +122,3 @@ module _ (commands : List Numbered) (to n : ℕ) where
   pub no_two_recalls : (h : List Event) → AtEach (λ before e. CancelAt commands before e.what) h →
       2 ≤ length (cancels_since h) → All Is (cancels_since h) → ⊥
   no_two_recalls h each two all = let one = few_recalls h each all in omega (arith, one, two)
-
--- the cancels of a command
-module _ (commands : List Numbered) (before : List Event) (line : ℕ) where
-  for_command : (r : Bool) (c : Command) (request : Option Meant) → is_canceller c ≡ true →
-      request ≡ option_and_then (live commands before) (name_of c) →
-      Decides r (CancelsOf before request) → Decides r (CancelsFor commands before c)
-  for_command r (command.Cancel q) request is same right =
-      subst (λ (o : Option Meant). Decides r (CancelsOf before o)) same right
-  for_command r c request is same right = absurd (false≢true is)
-
-  pub command_decided : (r : Bool) (c : Command) (request : Option Meant) (answer : Answer) →
-      Some c ≡ command_at commands line → is_canceller c ≡ true →
-      request ≡ asked_request commands before (happening.Ran line answer) →
-      Decides r (CancelsOf before request) → Decides r (CancelAt commands before (happening.Ran line answer))
-  command_decided r c request answer at is asked right =
-      subst (λ (o : Option Command). Decides r (MatchOption o (cancels_since before ≡ [])
-      (CancelsFor commands before))) at
-      (for_command r c request is
-      (asked ∙ ap (λ (o : Option Command). option_and_then (live commands before) (option_and_then name_of o))
-      (sym at)) right)

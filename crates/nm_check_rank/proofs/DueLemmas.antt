@@ -1,14 +1,13 @@
 -- What is called for at an event that was read.
-use Rattle.std.proofs.Common.{◌≡◌, ℕ, ◌<◌, Some, None, List, get_or, length, refl, sym, ◌∙◌}
-use Rattle.std.specs.Prelude.{slice_get}
+use Rattle.std.proofs.Common.{◌≡◌, ℕ, ◌<◌, Bool, true, false, cond, Some, None, List, get_or, length, refl, sym, ◌∙◌}
+use Rattle.std.specs.Prelude.{is_some, nat_lt, slice_get}
 use Rattle.std.proofs.lemmas.Option.{slice_get_read}
 use Rattle.nm_types.proofs.OptionLemmas.{same_some}
-use Rattle.nm_types.specs.declared.answers.Answer.{Answer}
-use Rattle.nm_types.specs.Commands.{Numbered}
 use Rattle.nm_history.specs.declared.events.Event.{Event}
 use Rattle.nm_history.specs.declared.events.Happened.{Happened}
-use Rattle.nm_history.specs.declared.events.Happened.TheVariants.{Ran}
-use Rattle.nm_check_rank.specs.Dues.{IsDueAt}
+use Rattle.nm_history.specs.declared.events.Happened.TheVariants as what
+use Rattle.nm_history.specs.RankRun.{NumberAt}
+use Rattle.nm_check_rank.specs.Dues.{next_number, number_due, number_of, numbers_due, stranger}
 
 -- the event that was read
 pub same_event : (h : List Event) (k : ℕ) (x e : Event) → k < length h → x ≡ get_or h k x → slice_get h k ≡ Some e →
@@ -16,8 +15,16 @@ pub same_event : (h : List Event) (k : ℕ) (x e : Event) → k < length h → x
 same_event h k x e inside is here =
     sym is ∙ same_some x e (sym (slice_get_read h (length h) k x refl inside is) ∙ here)
 
--- nothing is called for where no command ran
-pub no_due : (commands : List Numbered) (before : List Event) (w : Happened) →
-    ((line : ℕ) (answer : Answer) → w ≡ Ran line answer → ⊥) → IsDueAt commands before w None
-no_due commands before (Ran line answer) not = absurd (not line answer refl)
-no_due commands before w not = refl
+-- a number that is not the next one, or a rank that there isn't
+pub number_told : (ranks : ℕ) (before : List Event) (w : Happened) → (NumberAt ranks before w → ⊥) →
+    is_some (number_due ranks (stranger ranks w) (numbers_due (next_number before w) (number_of w))) ≡ true
+number_told ranks before (what.Send to n tag ctx len how line) not = refl
+number_told ranks before (what.Post p line) not = refl
+number_told ranks before (what.Match number from n cap line) not = refl
+number_told ranks before (what.Arrive a) not = by_test (nat_lt a.env.from ranks)
+  where
+    by_test : (b : Bool) → is_some (number_due ranks (cond b None (Some a.env.from))
+        (numbers_due (next_number before (what.Arrive a)) (Some a.n))) ≡ true
+    by_test true = refl
+    by_test false = refl
+number_told ranks before w not = absurd (not tt)

@@ -1,3 +1,4 @@
+mod AgainstLemmas
 mod AnswerLemmas
 mod ArrivalLemmas
 pub mod BreakLemmas
@@ -11,17 +12,18 @@ mod DecideLemmas
 pub mod DifferLemmas
 mod DueLemmas
 pub mod FirstBrokenLemmas
+mod FrontLemmas
 mod GivenLemmas
-mod KindLemmas
 mod ManyLemmas
 mod MismatchLemmas
 mod ObjectionLemmas
 mod OrderLemmas
+pub mod OwnLemmas
 mod PushLemmas
 mod ResultLemmas
 pub mod RuleLemmas
+mod SoFarLemmas
 mod StartLemmas
 mod StartingLemmas
 mod TakenLemmas
-mod ToldDueLemmas
 mod ToldLemmas

@@ -12,6 +12,9 @@ use Rattle.nm_lookups.specs.declared.asked.since.Since.TheVariants as since
 use Rattle.nm_check_rank.specs.Manies.{many_of}
 use Rattle.nm_check_rank.specs.declared.paired.manies.Many.TheVariants as many
 
+pub same_head : {X : Type 0} {a b : X} → (a ∷ []) ≡ (b ∷ []) → a ≡ b
+same_head same = cc
+
 -- two or more
 pub many_more : {X : Type 0} (xs : List X) → 2 ≤ length xs → many.More ≡ many_of xs
 many_more [] few = absurd (omega (arith, few))

@@ -28,8 +28,7 @@ use Rattle.nm_check_rank.specs.declared.paired.arguments.Mismatch.{Mismatch}
 use Rattle.nm_check_rank.specs.declared.paired.dues.Due.{Due}
 use Rattle.nm_check_rank.specs.declared.paired.dues.Due.TheVariants.{Against}
 use Rattle.nm_check_rank.specs.declared.paired.manies.Many.TheVariants as many
-use Rattle.nm_check_rank.proofs.KindLemmas.{same_head}
-use Rattle.nm_check_rank.proofs.ManyLemmas.{one_left, one_more, one_nothing, passed_head}
+use Rattle.nm_check_rank.proofs.ManyLemmas.{one_left, one_more, one_nothing, passed_head, same_head}
 
 -- a test that is told
 pub on_true : (P Q : Type 0) (b : Bool) → true ≡ b → P → MatchBool b P Q

@@ -1,11 +1,9 @@
 -- The request of a command's name, and the message of its handle.
-use Rattle.std.specs.Prelude.{◌≡◌, ℕ, false, Option, Some, option_map, List}
+use Rattle.std.specs.Prelude.{◌≡◌, ℕ, Option, Some, option_map, List}
 use Rattle.nm_types.specs.declared.scripts.Command.{Command}
 use Rattle.nm_types.specs.Commands.{Numbered}
 use Rattle.nm_history.specs.declared.events.Event.{Event}
-use Rattle.nm_history.specs.declared.events.Happened.{Happened}
 use Rattle.nm_history.specs.Answers.{live, live_message}
-use Rattle.nm_history.specs.RankRun.{lacks_message, start_of}
 use Rattle.nm_match.specs.declared.names.Message.{Message}
 use Rattle.nm_lookups.specs.AskedFor.{handle_of, meant_by, message_meant, name_of}
 use Rattle.nm_lookups.specs.declared.asked.requests.Request.{Request}
@@ -21,8 +19,3 @@ abbrev pub IsOfName : List Numbered → List Event → Command → Option Reques
 IsOfName commands before c request =
     (q : ℕ) → name_of c ≡ Some q →
     option_map meant_by request ≡ live commands before q
-
--- these are the sends and receives of the start of a command that was taken
-abbrev pub IsStart : ℕ → List Numbered → List Event → ℕ → Command → List Happened → Type 0
-IsStart eager commands before line c starts =
-    (starts ≡ start_of eager commands before line c) × (lacks_message commands before c ≡ false)

@@ -6,14 +6,16 @@ pub mod Counted
 pub mod Differ
 pub mod Dues
 pub mod FirstBroken
-pub mod Fronts
 pub mod Handles
 pub mod Kinds
 pub mod Manies
 pub mod Objections
 pub mod OwnBreaks
 pub mod OwnClauses
+pub mod Runs
+pub mod SoFar
 pub mod Startings
 pub mod Tabled
 pub mod Takes
 pub mod Told
+pub mod Walks

@@ -8,6 +8,7 @@ use Rattle.nm_history.specs.RankRun.{IsRankRun}
 use Rattle.nm_lookups.specs.AskedFor.{IsAskedOf}
 use Rattle.nm_check_rank.specs.Counted.{AreCounted}
 use Rattle.nm_check_rank.specs.FirstBroken.{IsFirstBroken}
+use Rattle.nm_check_rank.specs.OwnBreaks.{IsBreach}
 use Rattle.nm_check_rank.specs.OwnClauses.{KeepsOwn, own_order}
 use Rattle.nm_lookups.specs.Pairings.{Tells}
 use Rattle.nm_lookups.specs.Placed.{ArePlaces}
@@ -24,9 +25,10 @@ pub record AreRankTables (rank : ℕ) (lines : List Line) (h : List Event) (tabl
   pub asked : IsAskedOf (commands_of rank lines) h tables.asked
 
 -- The verdict on a rank's own run: its tables where it is a run of the rank's first commands, else
--- the first of its rules that is broken.
+-- the first of its rules that is broken, and where it breaks a rule first.
 abbrev pub IsJudged : Sizes → ℕ → List Line → ℕ → List Event → Judged → Type 0
 IsJudged shape rank lines at h (Runs tables) =
     IsRankRun shape (commands_of rank lines) at h × AreRankTables rank lines h tables
-IsJudged shape rank lines at h (Breaks clause) =
+IsJudged shape rank lines at h (Breaks clause first) =
     IsFirstBroken (KeepsOwn shape (commands_of rank lines) at h) own_order clause
+    × IsBreach shape (commands_of rank lines) at h first

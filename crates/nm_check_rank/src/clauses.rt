@@ -1,7 +1,7 @@
 //! The rules of a rank's own run, by name.
 
 ghost use Rattle.std.specs.Prelude.{◌≡◌};
-ghost use Rattle.nm_check_rank.specs.OwnClauses.{own_letter};
+ghost use Rattle.nm_check_rank.specs.OwnClauses.{own_letter, own_order};
 
 /// A rule of a rank's run (MPI 3.1, chapter 3).
 #[derive(Clone, Copy)]
@@ -26,7 +26,26 @@ pub enum OwnClause {
     Claims,
 }
 
+/// All rules, in the order in which they are judged.
+const ORDER: &[OwnClause] = &[
+    OwnClause::Stamps,
+    OwnClause::Numbers,
+    OwnClause::Claims,
+    OwnClause::Starts,
+    OwnClause::Cancels,
+    OwnClause::Wholes,
+    OwnClause::Ends,
+    OwnClause::Answers,
+];
+
 impl OwnClause {
+    /// All rules, in the order in which they are judged.
+    pub(crate) fn order() -> &'static [OwnClause]
+        ensures { result.now ≡ own_order }
+    {
+        ORDER
+    }
+
     /// The letter by which the rule is named: `a` to `h`, in the order above.
     pub fn letter(self) -> char
         ensures { result ≡ own_letter self }

@@ -101,14 +101,6 @@ pub fn first_number(ranks: u8, events: &[Event]) -> Option<usize>
     None
 }
 
-/// Whether sends, receives and arrivals are numbered from 0, and messages come from one of the
-/// ranks.
-pub fn are_numbered(ranks: u8, events: &[Event]) -> bool
-    ensures { Decides result (Always (NumberAt ranks) events.now) }
-{
-    first_number(ranks, events).is_none()
-}
-
 /// The counts of a history.
 pub fn counted(events: &[Event]) -> Counts
     ensures { AreCounted events.now result }

@@ -8,16 +8,17 @@ ghost use Rattle.nm_types.specs.declared.answers.Answer.{Answer};
 ghost use Rattle.nm_types.specs.declared.scripts.Line as script_line;
 ghost use Rattle.nm_history.specs.declared.events.Event as event;
 ghost use Rattle.nm_history.specs.declared.events.Happened.TheVariants.{Cancel, Ran, Recall};
-ghost use Rattle.nm_history.specs.RankRun.{cancels_since, is_canceller as is_canceller_lem};
+ghost use Rattle.nm_history.specs.RankRun.{cancels_since, is_canceller as is_canceller_lem, is_cancelling};
 ghost use Rattle.nm_lookups.specs.AskedFor.{meant_by};
 ghost use Rattle.nm_check_rank.specs.Cancellings as spec;
+ghost use Rattle.nm_check_rank.specs.SoFar.{IsLeft};
 ghost use Rattle.nm_check_rank.specs.Tabled.{AreRankTables};
 ghost use Rattle.nm_check_rank.specs.declared.paired.dues.Due.TheVariants as due;
 ghost use Rattle.nm_check_rank.specs.declared.paired.objections.Objection.TheVariants as against;
 
-use crate::paired::cancels::{Cancelling, is_canceller};
+use crate::paired::cancels::is_canceller;
 use crate::paired::dues::{Due, against};
-use crate::paired::manies::{Many, left, many_due, many_of};
+use crate::paired::manies::{Many, many_due, many_of};
 use crate::paired::objections::{Objection, cancel_objection, word_after};
 use crate::paired::tables::Tables;
 use nm_history::{Event, Happened};
@@ -118,10 +119,10 @@ fn send_there(before: &[Event], place: usize, to: u8, n: u64) -> Option<Due>
 }
 
 /// What is called for where a receive is cancelled.
-fn receive_cancels(before: &[Event], number: u64, paired: bool) -> Option<Due>
+fn receive_cancels(before: &[Event], since: Since, number: u64, paired: bool) -> Option<Due>
+    requires { IsLeft is_cancelling before.now since }
     ensures { result ≡ spec.receive_cancels number paired (cancels_since before.now) }
 {
-    let since = left::<Cancelling>(before);
     match since {
         Since::One(place) => receive_there(before, place, number, paired),
         _ => many_due(Many::One, many_of(since)),
@@ -142,10 +143,11 @@ fn unrecalled(recalled: bool) -> Option<Due>
 }
 
 /// What is called for where a send is cancelled.
-fn send_cancels(before: &[Event], to: u8, n: u64, recalled: bool) -> Option<Due>
+fn send_cancels(before: &[Event], since: Since, to: u8, n: u64, recalled: bool) -> Option<Due>
+    requires { IsLeft is_cancelling before.now since }
     ensures { result ≡ spec.send_cancels to n recalled (cancels_since before.now) }
 {
-    match left::<Cancelling>(before) {
+    match since {
         Since::Nothing => unrecalled(recalled),
         Since::One(place) => send_there(before, place, to, n),
         Since::More => many_due(Many::One, Many::More),
@@ -153,32 +155,52 @@ fn send_cancels(before: &[Event], to: u8, n: u64, recalled: bool) -> Option<Due>
 }
 
 /// What is called for where a request is cancelled.
-fn live_due(before: &[Event], tables: &Tables, k: usize, request: Request) -> Option<Due>
+fn live_due(
+    before: &[Event],
+    tables: &Tables,
+    since: Since,
+    k: usize,
+    request: Request,
+) -> Option<Due>
+    requires { IsLeft is_cancelling before.now since }
     ensures { (rank : ℕ) (lines : List script_line.Line) (h : List event.Event) →
         AreRankTables rank lines h tables.now → before.now ≡ take k h →
         result ≡ spec.cancels_due before.now (Some (meant_by request)) (cancels_since before.now) }
 {
     match request {
         Request::Receiving { number } => {
-            receive_cancels(before, number, tables.pairing.is_paired(number, k))
+            receive_cancels(before, since, number, tables.pairing.is_paired(number, k))
         }
         Request::Sending { to, n } => {
             let recalls = &tables.places.outgoing.recalled.recalls;
-            send_cancels(before, to, n, is_before::<Recalls>(recalls, to, n, k))
+            send_cancels(
+                before,
+                since,
+                to,
+                n,
+                is_before::<Recalls>(recalls, to, n, k),
+            )
         }
     }
 }
 
 /// .. if one is.
-fn cancels_due(before: &[Event], tables: &Tables, k: usize, request: Option<Request>) -> Option<Due>
+fn cancels_due(
+    before: &[Event],
+    tables: &Tables,
+    since: Since,
+    k: usize,
+    request: Option<Request>,
+) -> Option<Due>
+    requires { IsLeft is_cancelling before.now since }
     ensures { (rank : ℕ) (lines : List script_line.Line) (h : List event.Event) →
         AreRankTables rank lines h tables.now → before.now ≡ take k h →
         result ≡ spec.cancels_due before.now (option_map meant_by request)
         (cancels_since before.now) }
 {
     match request {
-        Some(request) => live_due(before, tables, k, request),
-        None => many_due(Many::Nothing, many_of(left::<Cancelling>(before))),
+        Some(request) => live_due(before, tables, since, k, request),
+        None => many_due(Many::Nothing, many_of(since)),
     }
 }
 
@@ -213,8 +235,10 @@ pub(crate) fn cancel_due(
     lines: &[Line],
     events: &[Event],
     tables: &Tables,
+    since: Since,
     k: usize,
 ) -> Option<Due>
+    requires left { IsLeft is_cancelling (take k events.now) since }
     requires told { AreRankTables rank lines.now events.now tables.now }
     requires inside { k < length events.now }
     ensures { (e : event.Event) → slice_get events.now k ≡ Some e →
@@ -224,7 +248,7 @@ pub(crate) fn cancel_due(
     match what {
         Happened::Ran { line, answer: _ } => {
             let request = cancelled(rank, lines, tables, k, *line);
-            cancels_due(&events[..k], tables, k, request)
+            cancels_due(&events[..k], tables, since, k, request)
         }
         _ => against(cancel_objection(tables, k, what)),
     }

@@ -9,11 +9,13 @@ ghost use Rattle.nm_history.specs.RankRun.{claims_since};
 ghost use Rattle.nm_match.specs.Names.{id_of_arrival};
 ghost use Rattle.nm_lookups.specs.Pairings.{Tells};
 ghost use Rattle.nm_check_rank.specs.Claimings as spec;
+ghost use Rattle.nm_check_rank.specs.Kinds.{is_claiming};
+ghost use Rattle.nm_check_rank.specs.SoFar.{IsLeft};
 ghost use Rattle.nm_check_rank.specs.Tabled.{AreRankTables};
 
-use crate::paired::claims::{Claiming, calls_for_claim, claim_line, is_mprobe_line};
+use crate::paired::claims::{calls_for_claim, claim_line, is_mprobe_line};
 use crate::paired::dues::Due;
-use crate::paired::manies::{Many, left, many_due, one_if};
+use crate::paired::manies::{Many, many_due, one_if};
 use crate::paired::tables::Tables;
 use nm_history::{Event, Happened};
 use nm_lookups::asked::since::Since;
@@ -87,11 +89,12 @@ fn line_due(called: bool, line: u32, found: Option<u32>) -> Option<Due>
 }
 
 /// .. of the claims since the answer before.
-fn claims_due(before: &[Event], called: bool, line: u32) -> Option<Due>
+fn claims_due(before: &[Event], since: Since, called: bool, line: u32) -> Option<Due>
+    requires { IsLeft is_claiming before.now since }
     ensures { result
         ≡ spec.claims_due (if called then line ∷ [] else []) (claims_since before.now) }
 {
-    match left::<Claiming>(before) {
+    match since {
         Since::Nothing => line_due(called, line, None),
         Since::One(place) => line_due(called, line, claim_line(before, place)),
         Since::More => many_due(one_if(called), Many::More),
@@ -104,8 +107,10 @@ pub(crate) fn claim_due(
     lines: &[Line],
     events: &[Event],
     tables: &Tables,
+    since: Since,
     k: usize,
 ) -> Option<Due>
+    requires left { IsLeft is_claiming (take k events.now) since }
     requires told { AreRankTables rank lines.now events.now tables.now }
     requires inside { k < length events.now }
     ensures { (e : event.Event) → slice_get events.now k ≡ Some e →
@@ -114,7 +119,7 @@ pub(crate) fn claim_due(
     match &events[k].what {
         Happened::Ran { line, answer } => {
             let called = calls_for_claim(rank, lines, *line, answer);
-            claims_due(&events[..k], called, *line)
+            claims_due(&events[..k], since, called, *line)
         }
         Happened::Claim { from, n, line } => {
             let called = claim_called(rank, lines, &tables.pairing, k, *line);

@@ -1,41 +1,37 @@
 //! What is called for where a rank breaks a rule of its own run.
 
-ghost use Rattle.std.specs.Prelude.{◌≡◌, ◌<◌, IfOk, List, Some, length, option_and_then};
+ghost use Rattle.std.specs.Prelude.{◌≡◌, ◌<◌, List, MatchOption, Some, length, option_and_then};
 ghost use Rattle.std.specs.Prelude.{option_map, slice_get, take};
 ghost use Rattle.nm_types.specs.Commands.{Numbered, command_at, commands_of};
-ghost use Rattle.nm_types.specs.Sizes.{Sizes};
 ghost use Rattle.nm_types.specs.declared.answers.Answer as given_answer;
 ghost use Rattle.nm_history.specs.declared.events.Event as event;
 ghost use Rattle.nm_history.specs.declared.events.Happened.TheVariants.{Ran};
 ghost use Rattle.nm_history.specs.Answers.{answer_of};
-ghost use Rattle.nm_history.specs.RankRun.{last_stamp as last_stamp_lem};
+ghost use Rattle.nm_history.specs.RankRun.{ran_lines};
 ghost use Rattle.nm_lookups.specs.Deciding.{Decides};
 ghost use Rattle.nm_check_rank.specs.Counted.{AreCounted};
 ghost use Rattle.nm_check_rank.specs.Dues as spec;
 ghost use Rattle.nm_check_rank.specs.Dues.{IsDue, IsDueAt, IsOwnDue, next_line as next_line_lem};
+ghost use Rattle.nm_check_rank.specs.OwnBreaks.{NextAt};
+ghost use Rattle.nm_check_rank.specs.Runs.{IsRun, commands_in};
 ghost use Rattle.nm_check_rank.specs.Tabled.{AreRankTables};
 ghost use Rattle.nm_check_rank.specs.Told.{untold};
 ghost use Rattle.nm_check_rank.specs.declared.clauses.OwnClause.TheVariants as own;
-ghost use Rattle.nm_check_rank.specs.declared.paired.dues.Due.TheVariants.{Against};
+ghost use Rattle.nm_check_rank.specs.declared.paired.dues.Due.TheVariants.{Against, Stamp};
 
-use crate::clauses::OwnClause;
 use crate::numbers::{Counts, counted};
-use crate::paired::answers::answer_told;
+use crate::paired::answers::{answer_told, is_answer_told};
 use crate::paired::arguments::Mismatch;
-use crate::paired::cancellings::cancel_due;
-use crate::paired::claimings::claim_due;
 use crate::paired::manies::Many;
-use crate::paired::objections::{Objection, end_objection, whole_objection};
-use crate::paired::order::{lines_ran, own_lines};
-use crate::paired::startings::start_due;
+use crate::paired::objections::Objection;
+use crate::paired::runs::Run;
 use crate::paired::tables::Tables;
 use crate::paired::told::{Told, told_of};
 use nm_history::{Event, Happened};
 use nm_lookups::asked::commands::command_of_line;
 use nm_lookups::asked::requests::Request;
 use nm_lookups::firsts::Message;
-use nm_types::{Answer, Line, Memory, Shape};
-use std::alloc::Global;
+use nm_types::{Answer, Line, Shape};
 
 /// What is called for at an event.
 #[derive(Clone, Copy)]
@@ -100,21 +96,6 @@ pub enum Due {
     },
 }
 
-/// The line of a rank's next command after these events, if one is left.
-fn next_line(
-    alloc: Global,
-    rank: u8,
-    lines: &[Line],
-    before: &[Event],
-) -> Result<Option<u64>, Memory>
-    ensures { IfOk result (λ next.
-        next ≡ next_line_lem (commands_of rank lines.now) before.now) }
-{
-    let own = own_lines(alloc, rank, lines)?;
-    let ran = lines_ran(alloc, before)?;
-    Ok(own.get(ran.len()).copied())
-}
-
 /// The answer that the command of a line has by the events before a place, where it ran.
 fn answer_called(
     rank: u8,
@@ -146,68 +127,65 @@ fn is_next(next: Option<u64>, line: u32) -> bool
     }
 }
 
-/// What is called for at the answer to the command of a line.
-fn due_of_line(called: Option<Told>, next: Option<u64>, line: u32, answer: &Answer) -> Due
+/// What stands against the answer to the command of a line: another one is next, or it has another
+/// answer.
+fn line_due(called: Option<Told>, next: Option<u64>, line: u32, answer: &Answer) -> Option<Due>
     ensures { (commands : List Numbered) (before : List event.Event) →
         next ≡ next_line_lem commands before →
         option_map untold called
         ≡ option_and_then (λ c. answer_of commands before line c) (command_at commands line) →
-        IsDue commands before line answer.now result }
+        MatchOption result (NextAt commands before (Ran line answer.now))
+        (λ due. (¬ NextAt commands before (Ran line answer.now))
+        × IsDue commands before line answer.now due) }
 {
-    if is_next(next, line) {
-        let found = told_of(answer);
-        Due::Answer { called, found }
-    } else {
-        Due::Command { next }
+    if !is_next(next, line) {
+        return Some(Due::Command { next });
     }
+    if is_answer_told(called, answer) {
+        return None;
+    }
+    let found = told_of(answer);
+    Some(Due::Answer { called, found })
 }
 
-/// What is called for at a place, if a command ran there.
-pub fn due_at(
-    alloc: Global,
-    rank: u8,
-    lines: &[Line],
-    events: &[Event],
-    tables: &Tables,
-    k: usize,
-) -> Result<Option<Due>, Memory>
-    requires told { AreRankTables rank lines.now events.now tables.now }
-    requires inside { k < length events.now }
-    ensures { (e : event.Event) → slice_get events.now k ≡ Some e → IfOk result
-        (IsDueAt (commands_of rank lines.now) (take k events.now) e.what) }
+/// The line of the next command, behind so many that ran.
+fn next_line(own: &[u64], ran: usize) -> Option<u64>
+    ensures { result ≡ slice_get own.now ran }
 {
+    own.get(ran).copied()
+}
+
+/// What stands against an event by the rule on answers, where so many commands ran before.
+pub(crate) fn answer_due(run: &Run, ran: usize, k: usize) -> Option<Due>
+    requires run { IsRun run.now }
+    requires inside { k < length run.now.events.now }
+    requires ran { ran ≡ length (ran_lines (take k run.now.events.now)) }
+    ensures { (e : event.Event) → slice_get run.now.events.now k ≡ Some e →
+        MatchOption result (NextAt (commands_in run.now) (take k run.now.events.now) e.what)
+        (λ due. (¬ NextAt (commands_in run.now) (take k run.now.events.now) e.what)
+        × IsDueAt (commands_in run.now) (take k run.now.events.now) e.what (Some due)) }
+{
+    let events = run.events;
     match &events[k].what {
         Happened::Ran { line, answer } => {
-            let next = next_line(alloc, rank, lines, &events[..k])?;
-            let called = answer_called(rank, lines, events, tables, k, *line);
-            Ok(Some(due_of_line(called, next, *line, answer)))
+            let called = answer_called(run.rank, run.lines, events, run.tables, k, *line);
+            let next = next_line(run.own, ran);
+            line_due(called, next, *line, answer)
         }
-        _ => Ok(None),
+        _ => None,
     }
 }
 
-/// The stamp of the last event, 0 where there is none.
-fn last_stamp(before: &[Event]) -> u64
-    ensures { result ≡ last_stamp_lem before.now }
+/// What stands against a stamp: the one before is not less.
+pub(crate) fn stamp_due(last: u64, found: u64) -> Option<Due>
+    ensures { MatchOption result (last < found)
+        (λ due. (¬ (last < found)) × (due ≡ Stamp last found)) }
 {
-    let mut last = 0;
-    for e in before {
-        last = e.stamp;
+    if last < found {
+        None
+    } else {
+        Some(Due::Stamp { last, found })
     }
-    last
-}
-
-/// What the rule on stamps calls for at a place.
-pub fn stamp_due(events: &[Event], k: usize) -> Option<Due>
-    requires inside { k < length events.now }
-    ensures { (shape : Sizes) (commands : List Numbered) (e : event.Event) →
-        slice_get events.now k ≡ Some e →
-        IsOwnDue shape commands own.Stamps (take k events.now) e result }
-{
-    Some(Due::Stamp {
-        last: last_stamp(&events[..k]),
-        found: events[k].stamp,
-    })
 }
 
 /// The number of a send, a receive or an arrival.
@@ -289,34 +267,5 @@ pub(crate) fn against(objection: Option<Objection>) -> Option<Due>
     match objection {
         Some(objection) => Some(Due::Against { objection }),
         None => None,
-    }
-}
-
-/// What a rule calls for at a place that is judged by tables.
-pub fn due_by_tables(
-    alloc: Global,
-    shape: Shape,
-    rank: u8,
-    lines: &[Line],
-    events: &[Event],
-    tables: &Tables,
-    clause: OwnClause,
-    k: usize,
-) -> Result<Option<Due>, Memory>
-    requires told { AreRankTables rank lines.now events.now tables.now }
-    requires inside { k < length events.now }
-    requires judged { ¬ (clause ≡ own.Stamps) × ¬ (clause ≡ own.Numbers) }
-    ensures { (e : event.Event) → slice_get events.now k ≡ Some e → IfOk result
-        (IsOwnDue shape (commands_of rank lines.now) clause (take k events.now) e) }
-{
-    let what = &events[k].what;
-    match clause {
-        OwnClause::Claims => Ok(claim_due(rank, lines, events, tables, k)),
-        OwnClause::Answers => due_at(alloc, rank, lines, events, tables, k),
-        OwnClause::Starts => Ok(start_due(rank, lines, events, tables, shape.eager(), k)),
-        OwnClause::Wholes => Ok(against(whole_objection(tables, k, what))),
-        OwnClause::Ends => Ok(against(end_objection(tables, k, what))),
-        OwnClause::Cancels => Ok(cancel_due(rank, lines, events, tables, k)),
-        _ => Ok(None),
     }
 }

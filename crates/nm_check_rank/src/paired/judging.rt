@@ -1,27 +1,30 @@
 //! The verdict on a rank's own run.
 
-ghost use Rattle.std.specs.Prelude.{◌≤◌, ◌≡◌, ℕ, IfOk, List, MatchOption, length, map, take};
-ghost use Rattle.nm_types.specs.Commands.{Numbered, commands_of};
+ghost use Rattle.std.specs.Prelude.{◌≡◌, ◌<◌, ℕ, All, IfOk, List, MatchOption, length, take};
+ghost use Rattle.nm_types.specs.Commands.{Numbered};
 ghost use Rattle.nm_types.specs.Sizes.{Sizes};
 ghost use Rattle.nm_history.specs.declared.events.Event as event;
-ghost use Rattle.nm_history.specs.RankRun.{Always, AnswerAt, IsRankRun, ran_lines};
+ghost use Rattle.nm_history.specs.RankRun.{Always, IsRankRun, NumberAt, last_stamp};
 ghost use Rattle.nm_lookups.specs.Deciding.{Decides};
+ghost use Rattle.nm_check_rank.specs.Breaks.{BreaksFirstAt};
 ghost use Rattle.nm_check_rank.specs.FirstBroken.{IsFirstBroken};
+ghost use Rattle.nm_check_rank.specs.OwnBreaks.{IsBreach, KeepsAll, KeepsInTheEnd};
 ghost use Rattle.nm_check_rank.specs.OwnClauses.{KeepsOwn, own_order};
-ghost use Rattle.nm_check_rank.specs.declared.clauses.OwnClause.TheVariants as own;
-ghost use Rattle.nm_check_rank.specs.Tabled.{AreRankTables, IsJudged};
+ghost use Rattle.nm_check_rank.specs.Runs.{IsRun, commands_in};
+ghost use Rattle.nm_check_rank.specs.SoFar.{IsSoFar};
+ghost use Rattle.nm_check_rank.specs.Tabled.{IsJudged};
 
+use crate::breaks::Break;
 use crate::clauses::OwnClause;
-use crate::ends::ends_hold;
-use crate::numbers::are_numbered;
-use crate::paired::answers::are_answered;
-use crate::paired::cancels::cancels_hold;
-use crate::paired::claims::claims_hold;
-use crate::paired::order::are_in_order;
-use crate::paired::starts::starts_hold;
+use crate::numbers::first_number;
+use crate::paired::breaches::Breach;
+use crate::paired::dues::{number_due, stamp_due};
+use crate::paired::order::own_lines;
+use crate::paired::runs::Run;
+use crate::paired::so_far::SoFar;
 use crate::paired::tables::Tables;
+use crate::paired::walks::{Walked, walk, walk_by};
 use crate::stamps::stamps_rise;
-use crate::wholes::wholes_hold;
 use nm_history::Event;
 use nm_types::{Line, Memory, Shape};
 use std::alloc::Global;
@@ -31,96 +34,100 @@ use std::alloc::Global;
 pub enum Judged {
     /// A run of the rank's first commands, with what is looked up of it.
     Runs(Tables),
-    /// One that breaks a rule: the first that is broken.
-    Breaks(OwnClause),
+    /// One that breaks a rule: the first rule that is broken, and where a rule breaks first.
+    Breaks { clause: OwnClause, first: Breach },
 }
 
-/// The first rule of a rank's own run that is broken, by what was decided of each, where stamps and
-/// numbers are right.
-fn first_of_own(
-    claims: bool,
-    starts: bool,
-    cancels: bool,
-    wholes: bool,
-    ends: bool,
-    answers: bool,
-) -> Option<OwnClause>
-    ensures { (shape : Sizes) (commands : List Numbered) (at : ℕ) (h : List event.Event) →
-        KeepsOwn shape commands at h own.Stamps → KeepsOwn shape commands at h own.Numbers →
-        Decides claims (KeepsOwn shape commands at h own.Claims) →
-        Decides starts (KeepsOwn shape commands at h own.Starts) →
-        Decides cancels (KeepsOwn shape commands at h own.Cancels) →
-        Decides wholes (KeepsOwn shape commands at h own.Wholes) →
-        Decides ends (KeepsOwn shape commands at h own.Ends) →
-        Decides answers (KeepsOwn shape commands at h own.Answers) →
-        MatchOption result (IsRankRun shape commands at h)
-        (IsFirstBroken (KeepsOwn shape commands at h) own_order) }
+/// Whether a rank's events keep a rule, where so many commands are said to have run.
+fn keeps(run: &Run, at: u32, clause: OwnClause) -> bool
+    requires { IsRun run.now }
+    ensures { Decides result
+        (KeepsOwn run.now.shape (commands_in run.now) at run.now.events.now clause) }
 {
-    if !claims {
-        return Some(OwnClause::Claims);
+    match walk_by(run, clause) {
+        Some(so_far) => so_far.is_over(clause, at),
+        None => false,
     }
-    if !starts {
-        return Some(OwnClause::Starts);
-    }
-    if !cancels {
-        return Some(OwnClause::Cancels);
-    }
-    if !wholes {
-        return Some(OwnClause::Wholes);
-    }
-    if !ends {
-        return Some(OwnClause::Ends);
-    }
-    if !answers {
-        return Some(OwnClause::Answers);
+}
+
+/// The first rule in order that a rank breaks.
+fn first_broken(run: &Run, at: u32) -> Option<OwnClause>
+    requires { IsRun run.now }
+    ensures { MatchOption result
+        (All (KeepsOwn run.now.shape (commands_in run.now) at run.now.events.now) own_order)
+        (IsFirstBroken (KeepsOwn run.now.shape (commands_in run.now) at run.now.events.now)
+        own_order) }
+{
+    for clause in OwnClause::order() {
+        if !keeps(run, at, *clause) {
+            return Some(*clause);
+        }
     }
     None
 }
 
-/// Whether the commands that ran are the first ones, in order, each with its answer.
-fn answers_hold(in_order: bool, answered: bool) -> bool
-    ensures { (shape : Sizes) (commands : List Numbered) (at : ℕ) (h : List event.Event) →
-        Decides in_order ((at ≤ length commands)
-        × (ran_lines h ≡ map (λ c. c.line) (take at commands))) →
-        Decides answered (Always (AnswerAt commands) h) →
-        Decides result (KeepsOwn shape commands at h own.Answers) }
+/// The first rule in order that the end breaks.
+fn first_left(so_far: SoFar, at: u32) -> Option<OwnClause>
+    ensures { (h : List event.Event) → IsSoFar h so_far → MatchOption result
+        (All (λ d. KeepsInTheEnd at d h) own_order)
+        (IsFirstBroken (λ d. KeepsInTheEnd at d h) own_order) }
 {
-    in_order && answered
+    for clause in OwnClause::order() {
+        if !so_far.is_over(*clause, at) {
+            return Some(*clause);
+        }
+    }
+    None
 }
 
-/// The first rule that is broken of those that are judged by tables, where stamps and numbers are
-/// right.
-fn first_by_tables(
-    alloc: Global,
-    shape: Shape,
-    rank: u8,
-    lines: &[Line],
-    at: u32,
-    events: &[Event],
-    tables: &Tables,
-) -> Result<Option<OwnClause>, Memory>
-    requires stamps { KeepsOwn shape (commands_of rank lines.now) at events.now own.Stamps }
-    requires numbers { KeepsOwn shape (commands_of rank lines.now) at events.now own.Numbers }
-    requires told { AreRankTables rank lines.now events.now tables.now }
-    ensures { IfOk result (λ first. MatchOption first
-        (IsRankRun shape (commands_of rank lines.now) at events.now)
-        (IsFirstBroken (KeepsOwn shape (commands_of rank lines.now) at events.now) own_order)) }
+/// The end breaks a rule first, if it breaks one.
+fn left_in_the_end(so_far: SoFar, at: u32) -> Option<Breach>
+    ensures { (shape : Sizes) (commands : List Numbered) (h : List event.Event) →
+        IsSoFar h so_far → KeepsAll shape commands h →
+        MatchOption result (IsRankRun shape commands at h) (IsBreach shape commands at h) }
 {
-    let in_order = are_in_order(alloc, rank, lines, at, events)?;
-    let answered = are_answered(rank, lines, events, tables);
-    let taken = tables.pairing.taken();
-    Ok(first_of_own(
-        claims_hold(rank, lines, events, &tables.pairing),
-        starts_hold(rank, lines, shape.eager(), events, tables),
-        cancels_hold(rank, lines, events, tables),
-        wholes_hold(events, &tables.places, taken),
-        ends_hold(events, &tables.places, taken),
-        answers_hold(in_order, answered),
-    ))
+    match first_left(so_far, at) {
+        Some(clause) => Some(Breach {
+            clause,
+            place: Break::Behind,
+            due: None,
+        }),
+        None => None,
+    }
 }
 
-/// The verdict on a rank's own run, where stamps and numbers are right.
-fn judge_by_tables(
+/// Where a rank breaks a rule first, if it breaks one.
+fn first_breach(run: &Run, at: u32) -> Option<Breach>
+    requires { IsRun run.now }
+    ensures { MatchOption result
+        (IsRankRun run.now.shape (commands_in run.now) at run.now.events.now)
+        (IsBreach run.now.shape (commands_in run.now) at run.now.events.now) }
+{
+    match walk(run) {
+        Walked::Breaks { at: k, standing } => Some(Breach {
+            clause: standing.clause,
+            place: Break::At(k),
+            due: Some(standing.due),
+        }),
+        Walked::Ends(so_far) => left_in_the_end(so_far, at),
+    }
+}
+
+/// The first rule in order that a rank breaks, which breaks one there.
+fn broken_rule(run: &Run, at: u32, first: Breach) -> OwnClause
+    requires run { IsRun run.now }
+    requires broken { IsBreach run.now.shape (commands_in run.now) at run.now.events.now first }
+    ensures { IsFirstBroken (KeepsOwn run.now.shape (commands_in run.now) at run.now.events.now)
+        own_order result }
+{
+    match first_broken(run, at) {
+        Some(clause) => clause,
+        None => first.clause,
+    }
+}
+
+/// The verdict where all numbers are right.
+fn judge_numbered(
     alloc: Global,
     shape: Shape,
     rank: u8,
@@ -128,19 +135,115 @@ fn judge_by_tables(
     at: u32,
     events: &[Event],
 ) -> Result<Judged, Memory>
-    requires stamps { KeepsOwn shape (commands_of rank lines.now) at events.now own.Stamps }
-    requires numbers { KeepsOwn shape (commands_of rank lines.now) at events.now own.Numbers }
+    requires { Always (NumberAt shape.ranks) events.now }
     ensures { IfOk result (IsJudged shape rank lines.now at events.now) }
 {
     let tables = Tables::of(alloc, rank, lines, events)?;
-    match first_by_tables(alloc, shape, rank, lines, at, events, &tables)? {
+    let own = own_lines(alloc, rank, lines)?;
+    let run = Run {
+        shape,
+        rank,
+        lines,
+        own: &own,
+        events,
+        tables: &tables,
+    };
+    match first_breach(&run, at) {
+        Some(first) => {
+            let clause = broken_rule(&run, at, first);
+            Ok(Judged::Breaks { clause, first })
+        }
         None => Ok(Judged::Runs(tables)),
-        Some(clause) => Ok(Judged::Breaks(clause)),
     }
 }
 
-/// Whether a rank's history is a run of its first commands, as many as `at` says, and which of its
-/// rules is the first that is broken.
+/// The event at a place has a wrong number, and breaks no rule but that and the one on stamps.
+fn wrong_number(shape: Shape, last: u64, events: &[Event], k: usize) -> Breach
+    requires inside { k < length events.now }
+    requires last { last ≡ last_stamp (take k events.now) }
+    requires broken { BreaksFirstAt (Always (NumberAt shape.ranks)) events.now k }
+    ensures { (commands : List Numbered) (at : ℕ) →
+        KeepsAll shape commands (take k events.now) →
+        IsBreach shape commands at events.now result }
+{
+    match stamp_due(last, events[k].stamp) {
+        Some(due) => Breach {
+            clause: OwnClause::Stamps,
+            place: Break::At(k),
+            due: Some(due),
+        },
+        None => Breach {
+            clause: OwnClause::Numbers,
+            place: Break::At(k),
+            due: number_due(shape, events, k),
+        },
+    }
+}
+
+/// Where a rank breaks a rule first, where the event at a place is the first with a wrong number and
+/// this is the run up to it.
+fn breach_up_to(run: &Run, events: &[Event], k: usize) -> Breach
+    requires run { IsRun run.now }
+    requires front { run.now.events.now ≡ take k events.now }
+    requires broken { BreaksFirstAt (Always (NumberAt run.now.shape.ranks)) events.now k }
+    ensures { (at : ℕ) →
+        IsBreach run.now.shape (commands_in run.now) at events.now result }
+{
+    match walk(run) {
+        Walked::Breaks { at, standing } => Breach {
+            clause: standing.clause,
+            place: Break::At(at),
+            due: Some(standing.due),
+        },
+        Walked::Ends(so_far) => wrong_number(run.shape, so_far.stamp, events, k),
+    }
+}
+
+/// The first rule in order that is broken, where a number is wrong.
+fn stamps_or_numbers(events: &[Event]) -> OwnClause
+    ensures { (shape : Sizes) (commands : List Numbered) (at : ℕ) →
+        ¬ Always (NumberAt shape.ranks) events.now →
+        IsFirstBroken (KeepsOwn shape commands at events.now) own_order result }
+{
+    if stamps_rise(events) {
+        OwnClause::Numbers
+    } else {
+        OwnClause::Stamps
+    }
+}
+
+/// The verdict where the event at a place is the first with a wrong number.
+fn judge_unnumbered(
+    alloc: Global,
+    shape: Shape,
+    rank: u8,
+    lines: &[Line],
+    events: &[Event],
+    k: usize,
+) -> Result<Judged, Memory>
+    requires { BreaksFirstAt (Always (NumberAt shape.ranks)) events.now k }
+    ensures { (at : ℕ) → IfOk result (IsJudged shape rank lines.now at events.now) }
+{
+    let front = &events[..k];
+    let tables = Tables::of(alloc, rank, lines, front)?;
+    let own = own_lines(alloc, rank, lines)?;
+    let run = Run {
+        shape,
+        rank,
+        lines,
+        own: &own,
+        events: front,
+        tables: &tables,
+    };
+    let first = breach_up_to(&run, events, k);
+    Ok(Judged::Breaks {
+        clause: stamps_or_numbers(events),
+        first,
+    })
+}
+
+/// Whether a rank's history is a run of its first commands, as many as `at` says; else which of its
+/// rules is the first that is broken, and the first event that breaks one.
 pub fn judge_rank(
     alloc: Global,
     shape: Shape,
@@ -151,11 +254,8 @@ pub fn judge_rank(
 ) -> Result<Judged, Memory>
     ensures { IfOk result (IsJudged shape rank lines.now at events.now) }
 {
-    if !stamps_rise(events) {
-        return Ok(Judged::Breaks(OwnClause::Stamps));
+    match first_number(shape.ranks(), events) {
+        Some(k) => judge_unnumbered(alloc, shape, rank, lines, events, k),
+        None => judge_numbered(alloc, shape, rank, lines, at, events),
     }
-    if !are_numbered(shape.ranks(), events) {
-        return Ok(Judged::Breaks(OwnClause::Numbers));
-    }
-    judge_by_tables(alloc, shape, rank, lines, at, events)
 }

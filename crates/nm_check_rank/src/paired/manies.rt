@@ -1,15 +1,15 @@
 //! How many events are called for since the answer before, and how many were found.
 
-ghost use Rattle.std.specs.Prelude.{◌≡◌, Bool, if◌then◌else◌, List, length};
+ghost use Rattle.std.specs.Prelude.{◌≡◌, Bool, if◌then◌else◌, List};
 ghost use Rattle.nm_history.specs.declared.events.Event as event;
 ghost use Rattle.nm_history.specs.declared.events.Happened as occurrence;
-ghost use Rattle.nm_lookups.specs.SinceAnswer.{IsSince, of_kind};
+ghost use Rattle.nm_lookups.specs.SinceAnswer.{of_kind};
 ghost use Rattle.nm_check_rank.specs.Manies as spec;
+ghost use Rattle.nm_check_rank.specs.SoFar.{IsLeft};
 ghost use Rattle.nm_check_rank.specs.declared.paired.manies.Many.TheVariants.{Nothing, One};
 
 use crate::paired::dues::Due;
-use nm_history::Event;
-use nm_lookups::asked::since::{Called, Since};
+use nm_lookups::asked::since::Since;
 
 /// How many events of a kind there are.
 #[derive(Clone, Copy)]
@@ -22,21 +22,10 @@ pub enum Many {
     More,
 }
 
-/// The events of a kind since the last answer.
-pub(crate) fn left<T: Called>(before: &[Event]) -> Since
-    ensures { IsSince T.counts before.now (length before.now) result }
-{
-    let mut since = Since::Nothing;
-    for (k, e) in before.iter().enumerate() {
-        since = since.after::<T>(k, &e.what);
-    }
-    since
-}
-
 /// How many there are since the last answer.
 pub(crate) fn many_of(since: Since) -> Many
     ensures { (p : occurrence.Happened → Bool) (h : List event.Event) →
-        IsSince p h (length h) since → result ≡ spec.many_of (of_kind p h) }
+        IsLeft p h since → result ≡ spec.many_of (of_kind p h) }
 {
     match since {
         Since::Nothing => Many::Nothing,

@@ -13,6 +13,7 @@ ghost use Rattle.nm_match.specs.declared.names.Message as message_lem;
 ghost use Rattle.nm_check_rank.specs.Arguments.{IsFirstMismatch, arguments};
 ghost use Rattle.nm_check_rank.specs.Handles.{IsOfHandle};
 ghost use Rattle.nm_check_rank.specs.Manies.{many_due as many_due_lem, many_of as many_of_lem};
+ghost use Rattle.nm_check_rank.specs.SoFar.{IsLeft};
 ghost use Rattle.nm_check_rank.specs.Startings as spec;
 ghost use Rattle.nm_check_rank.specs.Startings.{IsAnswerDue, IsStartDue, IsStartsDue, IsTakenDue};
 ghost use Rattle.nm_check_rank.specs.Tabled.{AreRankTables};
@@ -21,9 +22,9 @@ ghost use Rattle.nm_check_rank.specs.declared.paired.manies.Many.TheVariants as 
 use crate::paired::arguments::{Mismatch, match_mismatch, post_mismatch, send_mismatch};
 use crate::paired::dues::{Due, against};
 use crate::paired::limits::one_due;
-use crate::paired::manies::{Many, left, many_due, many_of};
+use crate::paired::manies::{Many, many_due, many_of};
 use crate::paired::objections::{Objection, match_objection};
-use crate::paired::starts::{Starting, length_of};
+use crate::paired::starts::length_of;
 use crate::paired::tables::Tables;
 use nm_history::{Event, Happened};
 use nm_lookups::asked::commands::command_of_line;
@@ -159,11 +160,13 @@ fn there_due(
 /// What is called for where the command of a line was taken.
 fn taken_due(
     before: &[Event],
+    since: Since,
     command: &Command,
     message: Option<Message>,
     line: u32,
     limit: u16,
 ) -> Option<Due>
+    requires { IsLeft is_start before.now since }
     ensures { (commands : List Numbered) → IsOfHandle commands before.now command.now message →
         IsTakenDue limit commands before.now line command.now (starts_since before.now) result }
 {
@@ -172,7 +175,6 @@ fn taken_due(
             objection: Objection::NoMessage,
         });
     }
-    let since = left::<Starting>(before);
     match since {
         Since::One(place) => there_due(before, place, command, message, line, limit),
         _ => many_due(starts_called(command), many_of(since)),
@@ -180,10 +182,11 @@ fn taken_due(
 }
 
 /// Where no start is called for.
-fn none_due(before: &[Event]) -> Option<Due>
-    ensures { result ≡ many_due_lem number.Nothing (many_of_lem (starts_since before.now)) }
+fn none_due(since: Since) -> Option<Due>
+    ensures { (before : List event.Event) → IsLeft is_start before since →
+        result ≡ many_due_lem number.Nothing (many_of_lem (starts_since before)) }
 {
-    many_due(Many::Nothing, many_of(left::<Starting>(before)))
+    many_due(Many::Nothing, many_of(since))
 }
 
 /// What is called for at the answer to the command of a line.
@@ -191,11 +194,13 @@ fn answer_due(
     rank: u8,
     lines: &[Line],
     before: &[Event],
+    since: Since,
     message: Option<Message>,
     line: u32,
     started: bool,
     limit: u16,
 ) -> Option<Due>
+    requires { IsLeft is_start before.now since }
     ensures { (answer : Answer) → option_map message_meant message
         ≡ asked_message (commands_of rank lines.now) before.now (happening.Ran line answer) →
         IsAnswerDue limit (commands_of rank lines.now) before.now line started result }
@@ -203,12 +208,12 @@ fn answer_due(
     match command_of_line(lines, rank, line) {
         Some(command) => {
             if started {
-                taken_due(before, command, message, line, limit)
+                taken_due(before, since, command, message, line, limit)
             } else {
-                none_due(before)
+                none_due(since)
             }
         }
-        None => none_due(before),
+        None => none_due(since),
     }
 }
 
@@ -218,9 +223,11 @@ pub(crate) fn start_due(
     lines: &[Line],
     events: &[Event],
     tables: &Tables,
+    since: Since,
     limit: u16,
     k: usize,
 ) -> Option<Due>
+    requires left { IsLeft is_start (take k events.now) since }
     requires told { AreRankTables rank lines.now events.now tables.now }
     requires inside { k < length events.now }
     ensures { (e : event.Event) → slice_get events.now k ≡ Some e →
@@ -235,6 +242,7 @@ pub(crate) fn start_due(
                 rank,
                 lines,
                 before,
+                since,
                 tables.asked.message(k),
                 *line,
                 started,

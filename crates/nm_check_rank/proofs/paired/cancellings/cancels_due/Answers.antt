@@ -11,4 +11,4 @@ returns-in-Some c = λ rank lines h told is. rw c.in-Some.is (c.live_due.ensures
 pub returns-in-None : goal.returns-in-None
 returns-in-None c = λ rank lines h told is. rw c.in-None.is
     (c.many_due.ensures
-    ∙ ap (λ (m : Many). many_due Nothing m) (c.many_of.ensures is_cancelling c.args.before.now c.left.ensures))
+    ∙ ap (λ (m : Many). many_due Nothing m) (c.many_of.ensures is_cancelling c.args.before.now c.requires))

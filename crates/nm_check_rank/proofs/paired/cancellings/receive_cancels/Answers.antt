@@ -16,12 +16,12 @@ returns-in-One c =
     let h = c.args.before.now in
     told_one is_cancelling h (λ (ws : List Happened). receive_cancels c.args.number c.args.paired ws)
     c.receive_there.result c.in-One.place c.receive_there.ensures
-    (subst (λ (s : Since). IsSince is_cancelling h (length h) s) c.in-One.is c.left-since.ensures)
+    (subst (λ (s : Since). IsSince is_cancelling h (length h) s) c.in-One.is c.requires)
 
 pub returns-in_default : goal.returns-in_default
 returns-in_default c =
     let h = c.args.before.now in
     c.many_due.ensures
-    ∙ ap (λ (m : Many). many_due One m) (c.many_of.ensures is_cancelling h c.left-since.ensures)
+    ∙ ap (λ (m : Many). many_due One m) (c.many_of.ensures is_cancelling h c.requires)
     ∙ not_one_received c.args.number c.args.paired (cancels_since h)
-    (not_one_left is_cancelling h c.left-since.result c.in_default.not-One c.left-since.ensures)
+    (not_one_left is_cancelling h c.args.since c.in_default.not-One c.requires)

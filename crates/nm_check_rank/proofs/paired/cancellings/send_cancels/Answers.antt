@@ -13,14 +13,14 @@ returns-in-Nothing c =
     let h = c.args.before.now in
     told_none is_cancelling h (λ (ws : List Happened). send_cancels c.args.to c.args.n c.args.recalled ws)
     c.unrecalled.result c.unrecalled.ensures
-    (subst (λ (s : Since). IsSince is_cancelling h (length h) s) c.in-Nothing.is c.left.ensures)
+    (subst (λ (s : Since). IsSince is_cancelling h (length h) s) c.in-Nothing.is c.requires)
 
 pub returns-in-One : goal.returns-in-One
 returns-in-One c =
     let h = c.args.before.now in
     told_one is_cancelling h (λ (ws : List Happened). send_cancels c.args.to c.args.n c.args.recalled ws)
     c.send_there.result c.in-One.place c.send_there.ensures
-    (subst (λ (s : Since). IsSince is_cancelling h (length h) s) c.in-One.is c.left.ensures)
+    (subst (λ (s : Since). IsSince is_cancelling h (length h) s) c.in-One.is c.requires)
 
 pub returns-in-More : goal.returns-in-More
 returns-in-More c =
@@ -28,4 +28,4 @@ returns-in-More c =
     c.many_due.ensures
     ∙ more_sent c.args.to c.args.n c.args.recalled (cancels_since h)
     (more_left is_cancelling h
-    (subst (λ (s : Since). IsSince is_cancelling h (length h) s) c.in-More.is c.left.ensures))
+    (subst (λ (s : Since). IsSince is_cancelling h (length h) s) c.in-More.is c.requires))

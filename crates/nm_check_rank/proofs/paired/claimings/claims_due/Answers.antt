@@ -13,18 +13,18 @@ returns-in-Nothing c =
     c.line_due.ensures
     ∙ none_claimed c.args.before.now c.args.line c.args.called
     (subst (λ (s : Since). IsSince is_claiming c.args.before.now (length c.args.before.now) s) c.in-Nothing.is
-    c.left.ensures)
+    c.requires)
 
 pub returns-in-One : goal.returns-in-One
 returns-in-One c =
     c.line_due-in-One.ensures
     ∙ one_claimed c.args.before.now c.args.line c.args.called c.in-One.place c.claim_line.result c.claim_line.ensures
     (subst (λ (s : Since). IsSince is_claiming c.args.before.now (length c.args.before.now) s) c.in-One.is
-    c.left.ensures)
+    c.requires)
 
 pub returns-in-More : goal.returns-in-More
 returns-in-More c =
     c.many_due.ensures ∙ ap (λ (m : Many). many_due m More) c.one_if.ensures
     ∙ more_claimed c.args.before.now c.args.line c.args.called
     (subst (λ (s : Since). IsSince is_claiming c.args.before.now (length c.args.before.now) s) c.in-More.is
-    c.left.ensures)
+    c.requires)

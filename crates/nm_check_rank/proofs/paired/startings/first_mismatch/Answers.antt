@@ -6,7 +6,7 @@ use Rattle.nm_history.specs.declared.events.Happened.TheVariants as what
 use Rattle.nm_history.specs.RankRun.{how_of, start_of}
 use Rattle.nm_lookups.specs.AskedFor.{handle_of}
 use Rattle.nm_check_rank.specs.Arguments.{IsFirstMismatch, arguments}
-use Rattle.nm_check_rank.proofs.KindLemmas.{same_head}
+use Rattle.nm_check_rank.proofs.ManyLemmas.{same_head}
 use Rattle.nm_check_rank.proofs.StartingLemmas.{received_of, starts_nothing}
 use Rattle.nm_check_rank.proofs.paired.startings.first_mismatch.Goals as goal
 

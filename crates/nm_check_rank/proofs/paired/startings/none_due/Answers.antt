@@ -6,6 +6,6 @@ use Rattle.nm_check_rank.specs.declared.paired.manies.Many.TheVariants.{Nothing}
 use Rattle.nm_check_rank.proofs.paired.startings.none_due.Goals as goal
 
 pub returns : goal.returns
-returns c =
+returns c = λ before left.
     c.many_due.ensures
-    ∙ ap (λ (m : Many). many_due Nothing m) (c.many_of.ensures is_start c.args.before.now c.left.ensures)
+    ∙ ap (λ (m : Many). many_due Nothing m) (c.many_of.ensures is_start before left)

@@ -29,7 +29,7 @@ returns-in-One c = λ commands held.
     (IsStartsDue c.args.limit command xs (starts_since h) c.there_due.result) (lacks_message commands h command) holds
     (one_there c.args.limit command c.there_due.result h c.in-One.place xs
     (λ e here started. c.there_due.ensures commands e here held (sym holds) started)
-    (subst (λ (s : Since). IsSince is_start h (length h) s) c.in-One.is c.left-since.ensures))
+    (subst (λ (s : Since). IsSince is_start h (length h) s) c.in-One.is c.requires))
 
 pub returns-in_default : goal.returns-in_default
 returns-in_default c = λ commands held.
@@ -40,6 +40,6 @@ returns-in_default c = λ commands held.
     on_false (c.many_due.result ≡ Some (Against NoMessage))
     (IsStartsDue c.args.limit command xs (starts_since h) c.many_due.result) (lacks_message commands h command) holds
     (many_is_due c.args.limit command c.many_due.result xs (starts_since h)
-    (λ one found. not_one_left is_start h c.left-since.result c.in_default.not-One c.left-since.ensures found)
+    (λ one found. not_one_left is_start h c.args.since c.in_default.not-One c.requires found)
     (c.many_due.ensures ∙ (λ i. many_due (c.starts_called.ensures c.args.limit commands h c.args.line (sym holds) i)
-    (c.many_of.ensures is_start h c.left-since.ensures i))))
+    (c.many_of.ensures is_start h c.requires i))))
