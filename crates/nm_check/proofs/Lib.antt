@@ -1,5 +1,4 @@
 pub mod CutLemmas
-mod DueLemmas
 mod EndLemmas
 mod EventLemmas
 mod ExactLemmas
@@ -11,7 +10,6 @@ mod LastLemmas
 mod LineLemmas
 mod MiscountLemmas
 mod OtherLemmas
-mod OwnLemmas
 mod RangeLemmas
 mod RankLemmas
 mod RankedLemmas

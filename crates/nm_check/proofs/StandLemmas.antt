@@ -13,10 +13,12 @@ use Rattle.nm_report.specs.declared.records.RunRecord.{RunRecord}
 use Rattle.nm_report.specs.Ends.{ends_of, packets_of}
 use Rattle.nm_script.specs.Lines.{lines_of}
 use Rattle.nm_trace.specs.Traces.{IsTraceOf}
-use Rattle.nm_check_rank.specs.OwnBreaks.{BreaksOwnAt}
+use Rattle.nm_check_rank.specs.OwnBreaks.{IsBreach, IsBreachAt}
 use Rattle.nm_check_rank.specs.declared.breaks.Break.{Break}
 use Rattle.nm_check_rank.specs.declared.breaks.Break.TheVariants.{At, Behind as BehindAll}
 use Rattle.nm_check_rank.specs.declared.clauses.OwnClause.{OwnClause}
+use Rattle.nm_check_rank.specs.declared.paired.breaches.Breach.{Breach}
+use Rattle.nm_check_rank.specs.declared.paired.dues.Due.{Due}
 use Rattle.nm_check_ranks.specs.declared.firsts.Spot.{Spot}
 use Rattle.nm_check_ranks.specs.declared.rest.clauses.RestClause.{RestClause}
 use Rattle.nm_check_ranks.specs.declared.rest.clauses.RestClause.TheVariants as rest
@@ -30,6 +32,7 @@ use Rattle.nm_check.specs.Places.{place_in, place_of_spot}
 use Rattle.nm_check.specs.declared.breaks.places.Place.{Place}
 use Rattle.nm_check.specs.declared.breaks.places.Place.TheVariants.{Event as EventAt}
 use Rattle.nm_check.proofs.LineLemmas.{event_stands}
+use Rattle.nm_check.proofs.RankLemmas.{breach_inside}
 use Rattle.nm_check.proofs.SpotLemmas.{rest_inside, spot_inside}
 
 module _ (shape : Sizes) (bytes : List ℕ) (run : RunRecord) (trace : IsTraceOf shape bytes run)
@@ -66,15 +69,21 @@ module _ (shape : Sizes) (bytes : List ℕ) (run : RunRecord) (trace : IsTraceOf
       option_and_then (λ (e : Event). command_line e.what) (slice_get (history_of ends spot.rank) spot.at) in
       subst (λ (p : Place). StandsAt bytes run p) (sym is) (spot_stands spot.rank spot.at command inside)
 
-  own_stands : (lines : List Line) (c : OwnClause) (i : ℕ) (place : Place) (o : Option Ended) → slice_get ends i ≡ o →
-      IsSomeAnd o (λ e. (b : Break) × BreaksOwnAt run.shape (commands_of i lines) e.at e.events c b
-      × (place ≡ place_in ends i e.events b)) → StandsAt bytes run place
-  own_stands lines c i place None here placed = absurd placed
-  own_stands lines c i place (Some a) here (At k, breaks, is) =
+  breach_stands : (lines : List Line) (i : ℕ) (place : Place) (a : Ended) → slice_get ends i ≡ Some a →
+      (c : OwnClause) (due : Option Due) (b : Break) → IsBreachAt run.shape (commands_of i lines) a.at a.events c due b →
+      place ≡ place_in ends i a.events b → StandsAt bytes run place
+  breach_stands lines i place a here c due (At k) breaks is =
       let command : Option ℕ = option_and_then (λ (e : Event). command_line e.what) (slice_get a.events k) in
-      subst (λ (p : Place). StandsAt bytes run p) (sym is) (there i k command a here breaks.inside)
-  own_stands lines c i place (Some a) here (BehindAll, breaks, is) =
-      subst (λ (p : Place). StandsAt bytes run p) (sym is) tt
+      subst (λ (p : Place). StandsAt bytes run p) (sym is)
+      (there i k command a here (breach_inside run.shape (commands_of i lines) a.at a.events c due k breaks))
+  breach_stands lines i place a here c due BehindAll breaks is = subst (λ (p : Place). StandsAt bytes run p) (sym is) tt
+
+  own_stands : (lines : List Line) (i : ℕ) (place : Place) (o : Option Ended) → slice_get ends i ≡ o →
+      IsSomeAnd o (λ e. (b : Breach) × IsBreach run.shape (commands_of i lines) e.at e.events b
+      × (place ≡ place_in ends i e.events b.place)) → StandsAt bytes run place
+  own_stands lines i place None here placed = absurd placed
+  own_stands lines i place (Some a) here placed =
+      let b : Breach = placed.0 in breach_stands lines i place a here b.clause b.due b.place placed.1 placed.2
 
   event_place_stands : (r : EventRule) (place : Place) → IsEventPlace r ends place → StandsAt bytes run place
   event_place_stands r place placed =
@@ -93,7 +102,7 @@ module _ (shape : Sizes) (bytes : List ℕ) (run : RunRecord) (trace : IsTraceOf
   pub stands : (lines : List Line) (count : ℕ) (verdict : Verdict) (place : Place) →
       IsTracePlace count lines run verdict place → StandsAt bytes run place
   stands lines count Holds place is = subst (λ (p : Place). StandsAt bytes run p) (sym is) tt
-  stands lines count (Own c i) place placed = own_stands lines c i place (slice_get ends i) refl placed
+  stands lines count (Own c i) place placed = own_stands lines i place (slice_get ends i) refl placed
   stands lines count (Carried c i j) place placed =
       place_stands placed.0 place (spot_inside lines ends i j c placed.0 placed.1) placed.2
   stands lines count (Rest c) place placed = rest_stands lines c place placed

@@ -7,16 +7,16 @@ use Rattle.nm_check.specs.declared.verdicts.Verdict.{Verdict}
 use Rattle.nm_check.specs.declared.breaks.evidence.Evidence.{Evidence}
 use Rattle.nm_check.specs.declared.breaks.places.Place.{Place}
 use Rattle.nm_check.specs.CellCounts.{verdict_cells}
-use Rattle.nm_check.specs.Dues.{IsPlaceDue}
 use Rattle.nm_check.specs.Incidents.{place_incident}
 use Rattle.nm_check.specs.Miscounts.{IsMiscount}
 use Rattle.nm_check.specs.Others.{IsOther}
+use Rattle.nm_check.specs.OwnFirsts.{IsOwnFirst}
 
--- what is called for there and what was found, the line of the other rank that it is held against, what happened
+-- where the rank of the verdict breaks a rule first, the line of the other rank that it is held against, what happened
 -- there, the number of cells, and the count of packets
 pub record IsEvidence (lines : List Line) (run : RunRecord) (verdict : Verdict) (place : Place) (e : Evidence)
     : Type 0 where
-  pub due : IsPlaceDue lines run verdict place e.due
+  pub first : IsOwnFirst lines run verdict e.first
   pub other : IsOther lines run verdict place e.other
   pub incident : e.incident ≡ place_incident (ends_of run.ranks) place
   pub cells : e.cells ≡ verdict_cells run verdict

@@ -2,7 +2,6 @@ pub mod Answers
 pub mod CellCounts
 pub mod Checks
 pub mod Done
-pub mod Dues
 pub mod Endings
 pub mod Evidences
 pub mod Found
@@ -11,6 +10,7 @@ pub mod Inputs
 pub mod Lines
 pub mod Miscounts
 pub mod Others
+pub mod OwnFirsts
 pub mod Places
 pub mod Quotes
 pub mod Ranges

@@ -17,9 +17,10 @@ use Rattle.nm_check_ranks.specs.declared.rest.clauses.RestClause.TheVariants as 
 use Rattle.nm_check_ranks.specs.declared.rest.firsts.EventRule.{EventRule}
 use Rattle.nm_check_ranks.specs.declared.rest.firsts.EventRule.TheVariants as rule
 use Rattle.nm_check_rank.specs.Differ.{DifferFirstAt}
-use Rattle.nm_check_rank.specs.OwnBreaks.{BreaksOwnAt}
+use Rattle.nm_check_rank.specs.OwnBreaks.{IsBreach}
 use Rattle.nm_check_rank.specs.declared.breaks.Break.{Break}
 use Rattle.nm_check_rank.specs.declared.breaks.Break.TheVariants.{At, Behind as BehindAll}
+use Rattle.nm_check_rank.specs.declared.paired.breaches.Breach.{Breach}
 use Rattle.nm_check.specs.declared.verdicts.Verdict.{Verdict}
 use Rattle.nm_check.specs.declared.verdicts.Verdict.TheVariants.{Own, Carried, Rest, Home, Done}
 use Rattle.nm_check.specs.declared.breaks.places.Place.{Place}
@@ -90,9 +91,9 @@ IsRestPlace lines ranks packets rest.Counts place = IsCountPlace lines ranks pac
 -- the place of what the verdict says
 abbrev pub IsPlace : List Line → RunRecord → Verdict → Place → Type 0
 IsPlace lines run (Own clause rank) place =
-    IsSomeAnd (slice_get (ends_of run.ranks) rank) (λ e. (b : Break)
-    × BreaksOwnAt run.shape (commands_of rank lines) e.at e.events clause b
-    × (place ≡ place_in (ends_of run.ranks) rank e.events b))
+    IsSomeAnd (slice_get (ends_of run.ranks) rank) (λ e. (b : Breach)
+    × IsBreach run.shape (commands_of rank lines) e.at e.events b
+    × (place ≡ place_in (ends_of run.ranks) rank e.events b.place))
 IsPlace lines run (Carried clause from to) place =
     (spot : Spot) × BreaksBetweenAt lines (ends_of run.ranks) from to clause spot
     × (place ≡ place_of_spot (ends_of run.ranks) spot)

@@ -14,6 +14,7 @@ use Rattle.nm_check.specs.declared.breaks.incidents.Incident.{Incident}
 use Rattle.nm_check.specs.declared.breaks.places.Place.{Place}
 use Rattle.nm_check.specs.declared.breaks.places.Place.TheVariants.{Event, Standing, Count, LastLine}
 use Rattle.nm_check.specs.declared.breaks.stops.Stop.{Stop}
+use Rattle.nm_check.specs.OwnFirsts.{due_of, rule_of}
 use Rattle.nm_check.specs.VerdictCounts.{miscount_words}
 use Rattle.nm_check.specs.VerdictDues.{due_words}
 use Rattle.nm_check.specs.VerdictIncidents.{where_words}
@@ -56,8 +57,9 @@ abbrev pub own_text : OwnClause → ℕ → Place → Evidence → List ℕ
 own_text clause rank (Event r at line command) evidence =
     event_words command evidence.incident
     ++ (codes " is the first at which rank " ++ (decimal rank
-    ++ (codes " breaks a rule: " ++ (own_words clause ++ (due_words evidence.due ++ codes "\n")))))
-own_text clause rank place evidence = behind_text clause rank
+    ++ (codes " breaks a rule: " ++ (own_words (rule_of clause evidence.first)
+    ++ (due_words (due_of evidence.first) ++ codes "\n")))))
+own_text clause rank place evidence = behind_text (rule_of clause evidence.first) rank
 
 -- a sender and a receiver
 abbrev pub pair_words : ℕ → ℕ → List ℕ

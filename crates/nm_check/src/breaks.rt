@@ -3,9 +3,9 @@
 //! # What a contract sees
 //! `specs/Found.antt` says what each answer means (`IsFound`), by the definitions of `nm_check::checked`
 //! and of the crates below it: the verdict is the one of `nm_check`, and `specs/Places.antt` says
-//! what its place is. For a rule of a rank's own run it is the first event at which the rule breaks
-//! (`BreaksOwnAt` of `nm_check_rank`): the events before it keep the rule, and with it they break
-//! it. For a rule between two ranks it is the first event of both, as their lines are read
+//! what its place is. For a rule of a rank's own run it is the first event at which that rank breaks any
+//! rule of its own run (`IsBreach` of `nm_check_rank`): the events before it keep all of them. For a
+//! rule between two ranks it is the first event of both, as their lines are read
 //! (`BreaksCarriedAt` of `nm_check_ranks`); for a rule of rest the first event that is left
 //! unfinished, or the first rank that stands where it may not (`specs/RestBreaks.antt` of
 //! `nm_check_ranks::rest`), or the first count of packets that is not the one called for. The cells
@@ -14,7 +14,8 @@
 //! - `find` tells the cases apart as `nm_check::checked::check` does, and its verdict is that of the same
 //!   definitions.
 //! - It tells what the verdict rests on there (`IsEvidence`, `specs/Evidences.antt`): of a rule of a
-//!   rank's own run what was called for and what was found (`specs/Dues.antt`), of a rule between two
+//!   rank's own run the rule that breaks first, what was called for and what was found
+//!   (`specs/OwnFirsts.antt`), of a rule between two
 //!   ranks the line of the other rank's event that it is held against (`specs/Others.antt`), what
 //!   happened at the place (`specs/Incidents.antt`), of the counts of packets the one that is called
 //!   for and the one that stands there (`specs/Miscounts.antt`), and of the rule of the cells how many
@@ -30,7 +31,6 @@
 
 pub mod cells;
 pub mod counts;
-mod dues;
 pub mod evidence;
 mod finding;
 pub mod incidents;

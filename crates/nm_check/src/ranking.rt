@@ -34,7 +34,7 @@ pub(crate) fn judge_ranks(
         let events = rank.history.as_slice();
         match judge_rank(alloc, shape, i as u8, lines, rank.at, events)? {
             Judged::Runs(own) => tables.push(own)?,
-            Judged::Breaks(clause) => {
+            Judged::Breaks { clause, .. } => {
                 return Ok(Ranked::Breaks {
                     clause,
                     rank: i as u8,

@@ -12,6 +12,7 @@ ghost use Rattle.nm_check.specs.Checks.{IsChecked, IsInput, sizes};
 ghost use Rattle.nm_check.specs.Found.{IsFound, IsScriptFound, IsTraceFound, checked_of};
 
 use crate::breaks::evidence::{Evidence, evidence_of};
+use crate::breaks::own::own_first;
 use crate::breaks::places::Place;
 use crate::breaks::placing::trace_place;
 use crate::breaks::stops::{Stop, lines_in, stop_at};
@@ -78,8 +79,9 @@ fn find_in_trace(
         Ok(run) => {
             let verdict = judge(alloc, script, &run)?;
             let count = lines_in(rest);
-            let place = trace_place(alloc, script, &run, verdict, count)?;
-            let evidence = evidence_of(alloc, script, &run, verdict, place)?;
+            let first = own_first(alloc, script, &run, verdict)?;
+            let place = trace_place(alloc, script, &run, verdict, first, count)?;
+            let evidence = evidence_of(alloc, script, &run, verdict, first, place)?;
             Ok(Found::Judged {
                 before,
                 verdict,

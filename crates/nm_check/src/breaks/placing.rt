@@ -11,13 +11,14 @@ ghost use Rattle.nm_check_ranks.specs.RestBreaks.{AreInOrder, rest_clause};
 ghost use Rattle.nm_check_ranks.specs.declared.rest.firsts.EventRule.TheVariants as the_rule;
 ghost use Rattle.nm_check_ranks.specs.RestClauses.{KeepsRest};
 ghost use Rattle.nm_check_ranks.specs.declared.rest.clauses.RestClause.TheVariants as rest;
+ghost use Rattle.nm_check.specs.OwnFirsts.{IsOwnFirst};
 ghost use Rattle.nm_check.specs.Places.{IsCountPlace, IsEventPlace, IsPlace, IsRestPlace, IsStandPlace};
 ghost use Rattle.nm_check.specs.Places.{IsTracePlace, events_in};
 ghost use Rattle.nm_check.specs.Places.{event_rule as event_rule_lem};
 
-use crate::breaks::own::own_break;
 use crate::breaks::places::{Place, count_line, place_in, place_of_spot};
 use crate::{CarriedClause, OwnClause, RestClause, Verdict};
+use nm_check_rank::paired::breaches::Breach;
 use nm_check_rank::paired::tables::Tables;
 use nm_check_ranks::firsts::first_between_at;
 use nm_check_ranks::rest::firsts::{EventRule, first_rest_at};
@@ -30,25 +31,26 @@ use std::alloc::Global;
 
 /// Where a rank breaks a rule of its own run first.
 fn own_place(
-    alloc: Global,
     script: &Script,
     run: &RunRecord,
     clause: OwnClause,
     rank: u8,
-) -> Result<Place, Memory>
-    requires judged { Judges script.now.lines run.now (Own clause rank) }
+    first: Option<Breach>,
+) -> Place
+    requires first { IsOwnFirst script.now.lines run.now (Own clause rank) first }
     requires short { events_in (ends_of run.now.ranks) ≤ 67108864 }
-    ensures { IfOk result (IsPlace script.now.lines run.now (Own clause rank)) }
+    ensures { IsPlace script.now.lines run.now (Own clause rank) result }
 {
+    let Some(first) = first else {
+        return Place::Nowhere;
+    };
     let i = rank as usize;
     if i >= run.ranks.len() {
-        return Ok(Place::Nowhere);
+        return Place::Nowhere;
     }
     let ranks = run.ranks.as_slice();
     let events = ranks[i].history.as_slice();
-    let lines = script.lines.as_slice();
-    let place = own_break(alloc, run.shape, rank, lines, events, clause)?;
-    Ok(place_in(ranks, rank, events, place))
+    place_in(ranks, rank, events, first.place)
 }
 
 /// Where the messages from one rank to another break a rule first.
@@ -201,14 +203,16 @@ fn place_of(
     script: &Script,
     run: &RunRecord,
     verdict: Verdict,
+    first: Option<Breach>,
 ) -> Result<Place, Memory>
     requires judged { Judges script.now.lines run.now verdict }
+    requires first { IsOwnFirst script.now.lines run.now verdict first }
     requires few { length run.now.ranks < 256 }
     requires short { events_in (ends_of run.now.ranks) + length run.now.pairs ≤ 67108864 }
     ensures { IfOk result (IsPlace script.now.lines run.now verdict) }
 {
     match verdict {
-        Verdict::Own { clause, rank } => own_place(alloc, script, run, clause, rank),
+        Verdict::Own { clause, rank } => Ok(own_place(script, run, clause, rank, first)),
         Verdict::Carried { clause, from, to } => {
             carried_place(alloc, script, run, clause, from, to)
         }
@@ -224,9 +228,11 @@ pub fn trace_place(
     script: &Script,
     run: &RunRecord,
     verdict: Verdict,
+    first: Option<Breach>,
     count: u32,
 ) -> Result<Place, Memory>
     requires judged { Judges script.now.lines run.now verdict }
+    requires first { IsOwnFirst script.now.lines run.now verdict first }
     requires few { length run.now.ranks < 256 }
     requires short { events_in (ends_of run.now.ranks) + length run.now.pairs ≤ 67108864 }
     ensures { IfOk result (IsTracePlace count script.now.lines run.now verdict) }
@@ -236,6 +242,6 @@ pub fn trace_place(
             line: count.saturating_sub(1),
         }),
         Verdict::Done => Ok(Place::LastLine { line: count }),
-        _ => place_of(alloc, script, run, verdict),
+        _ => place_of(alloc, script, run, verdict, first),
     }
 }

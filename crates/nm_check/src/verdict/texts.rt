@@ -1,6 +1,7 @@
 //! The sentence of what was found.
 
 ghost use Rattle.std.specs.Prelude.{◌≡◌, ◌++◌, IfOk, OnOk, string_bytes};
+ghost use Rattle.nm_check.specs.OwnFirsts as own;
 ghost use Rattle.nm_check.specs.VerdictTexts.{bad_text as bad_text_lem};
 ghost use Rattle.nm_check.specs.VerdictTexts.{behind_text as behind_text_lem};
 ghost use Rattle.nm_check.specs.VerdictTexts.{carried_text as carried_text_lem};
@@ -31,6 +32,8 @@ use crate::verdict::incidents::where_words;
 use crate::verdict::quotes::place_line;
 use crate::verdict::sentences::{carried_words, kind_words, own_words, rest_words, stop_words};
 use crate::{CarriedClause, OwnClause, RestClause, Verdict};
+use nm_check_rank::paired::breaches::Breach;
+use nm_check_rank::paired::dues::Due;
 use nm_types::Bytes;
 use std::alloc::{AllocError, Global};
 
@@ -83,6 +86,26 @@ fn behind_text(alloc: Global, clause: OwnClause, rank: u8) -> Result<String, All
     format!(in alloc; "in the end of rank {} a rule breaks: {}\n", rank, words)
 }
 
+/// The rule that breaks first, of a verdict on a rank's own run.
+fn rule_of(clause: OwnClause, first: Option<Breach>) -> OwnClause
+    ensures { result ≡ own.rule_of clause first }
+{
+    match first {
+        Some(first) => first.clause,
+        None => clause,
+    }
+}
+
+/// What stands against the event there.
+fn due_of(first: Option<Breach>) -> Option<Due>
+    ensures { result ≡ own.due_of first }
+{
+    match first {
+        Some(first) => first.due,
+        None => None,
+    }
+}
+
 /// Where a rank breaks a rule of its own run first.
 fn own_text(
     alloc: Global,
@@ -94,17 +117,18 @@ fn own_text(
     ensures { IfOk result (λ text.
         string_bytes text ≡ own_text_lem clause rank place evidence) }
 {
-    let words = own_words(clause);
+    let rule = rule_of(clause, evidence.first);
+    let words = own_words(rule);
     match place {
         Place::Event { command, .. } => {
             let at = event_words(alloc, command, evidence.incident)?;
-            let called = due_words(alloc, evidence.due)?;
+            let called = due_words(alloc, due_of(evidence.first))?;
             format!(in alloc;
                 "{} is the first at which rank {} breaks a rule: {}{}\n",
                 at, rank, words, called
             )
         }
-        _ => behind_text(alloc, clause, rank),
+        _ => behind_text(alloc, rule, rank),
     }
 }
 

@@ -19,7 +19,7 @@ returns-in-Breaks c =
     let broken : IsFirstBroken
     (KeepsOwn c.args.shape (commands_of c.loop-i.i c.args.lines.now) c.index-ranks-i.result.at
     c.index-ranks-i.result.history.events) own_order c.in-Breaks.clause =
-    rw c.as_slice-events.ensures at (rw c.in-Breaks.is at c.in_ok-own.ensures) in
+    (rw c.as_slice-events.ensures at (rw c.in-Breaks.is at c.in_ok-own.ensures)).0 in
     record {
       earlier = below (RunsItsOwn c.args.shape c.args.lines.now) (ends_of c.args.ranks.now) c.loop-i.i
           c.loop-i.invariant.1;
