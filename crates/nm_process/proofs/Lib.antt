@@ -1,3 +1,4 @@
+mod AnswerLemmas
 mod DoingLemmas
 mod EffectLemmas
 mod HeldLemmas

@@ -1,15 +1,16 @@
--- A process that runs what a program gives.
+-- What a program gives.
 use Rattle.std.proofs.Common.{◌≡◌, ℕ, ◌+◌, ◌≤◌, ◌==◌, zero, suc, Bool, true, false, cond, Option, Some, None}
 use Rattle.std.proofs.Common.{List, [], ◌∷◌, ◌++◌, length, refl, sym, ◌∙◌, ap, subst, arith, append_assoc, append-nil}
-use Rattle.std.specs.Prelude.{option_map, option_to_list}
+use Rattle.std.specs.Prelude.{MatchOption, option_map, option_to_list}
+use Rattle.std.specs.Option.{option_map_or, option_or}
 use Rattle.std.specs.List.{find, slice_get}
 use Rattle.std.proofs.lemmas.Bool.Decides.{nat_tests}
+use Rattle.nm_types.specs.declared.answers.Answer.{Answer}
 use Rattle.nm_types.specs.declared.scripts.Command.{Command}
 use Rattle.nm_types.specs.Commands.{Numbered, command_at}
-use Rattle.nm_types.specs.Sizes.{Sizes}
-use Rattle.nm_process.specs.Playing.{IsCounted, IsFront, IsPlaying, all_numbered, numbered_at}
-use Rattle.nm_process.specs.Processes.{ProcessView}
-use Rattle.nm_process.specs.Work.{IsNext, IsWorking}
+use Rattle.nm_process.specs.Playing.{GivenView, HasPlayed, IsCounted, IsFront, IsPlayed, Talked, all_numbered, gives_on, numbered_at}
+use Rattle.nm_process.specs.Sources.{GivesSome, PassedOn}
+use Rattle.nm_process.specs.Work.{IsNext}
 
 -- the command of a place among those that were given
 numbered_get : (n : ℕ) (given : List Command) (k : ℕ) (x : Command) (more : List Numbered) →
@@ -98,28 +99,139 @@ counted_first : (next : Option Command) → IsCounted (option_to_list next) next
 counted_first None = refl
 counted_first (Some x) = (refl, refl)
 
--- a program at its start
-pub plays_first : (shape : Sizes) (given : List Command) (next : Option Command) (v : ProcessView) →
-    given ≡ option_to_list next → v.at ≡ 0 →
-    ((commands : List Numbered) (bound : ℕ) → IsWorking shape commands bound v) → IsPlaying shape given next v
-plays_first shape given next v is at work = record {
-  work = λ commands front. work commands (v.at + 2);
-  counted = subst (λ (xs : List Command). IsCounted xs next v.at) (sym is)
-      (subst (λ (k : ℕ). IsCounted (option_to_list next) next k) (sym at) (counted_first next));
-}
+-- past all that were given there is none
+given_past : (n : ℕ) (given : List Command) (k : ℕ) → length given ≡ k → slice_get (all_numbered n given) k ≡ None
+given_past n [] k many = refl
+given_past n (y ∷ ys) zero many = absurd (omega (arith, many))
+given_past n (y ∷ ys) (suc k) many = given_past (n + 1) ys k (omega (arith, many))
 
--- A process that ran the pending command plays on, whatever the program gives next.
-pub played : (shape : Sizes) (given : List Command) (next : Option Command) (a b : ProcessView) (x : Command) →
-    IsPlaying shape given (Some x) a → b.at ≡ a.at + 1 →
-    ((commands : List Numbered) → IsWorking shape commands (a.at + 2) a →
-    IsNext commands a.at (a.at + 2) (a.at + 2) x → IsWorking shape commands (a.at + 2 + 1) b) →
-    IsPlaying shape (given ++ option_to_list next) next b
-played shape given next a b x playing at runs = record {
-  work = λ commands front.
-      let front' = front_less given (option_to_list next) commands front in
-      let sum : a.at + 2 + 1 ≡ b.at + 2 = omega (arith, at) in
-      subst (λ (j : ℕ). IsWorking shape commands j b) sum
-      (runs commands (playing.work commands front')
-      (pending_next given a.at x commands playing.counted.0 front'));
-  counted = counted_on given next a.at b.at playing.counted.1 at;
-}
+module _ {P : Type 0} where
+  -- at its end a program gives no more
+  pub ended_given : (g : GivenView P) (commands : List Numbered) (last : ℕ) → g.next ≡ None →
+      IsCounted g.given g.next g.at → gives_on g commands last → slice_get commands g.at ≡ None
+  ended_given g commands last none counted gives =
+      let same = subst (λ (o : Option Command). MatchOption o (commands ≡ all_numbered 2 g.given)
+      (λ x. IsFront (all_numbered 2 g.given) commands)) none gives.0 in
+      let many = subst (λ (o : Option Command). IsCounted g.given o g.at) none counted in
+      ap (λ (cs : List Numbered). slice_get cs g.at) same ∙ given_past 2 g.given g.at many
+
+  -- before its end its next command is next
+  pub next_given : (g : GivenView P) (x : Command) (commands : List Numbered) (last : ℕ) → g.next ≡ Some x →
+      IsCounted g.given g.next g.at → gives_on g commands last → IsNext commands g.at (last + 1) (g.at + 2) x
+  next_given g x commands last some counted gives =
+      let front = subst (λ (o : Option Command). MatchOption o (commands ≡ all_numbered 2 g.given)
+      (λ x. IsFront (all_numbered 2 g.given) commands)) some gives.0 in
+      let here = subst (λ (o : Option Command). IsCounted g.given o g.at) some counted in
+      let high = gives.1 in
+      let ends : g.at + 2 ≡ last + 1 = omega (arith, high) in
+      subst (λ (k : ℕ). IsNext commands g.at k (g.at + 2) x) ends (pending_next g.given g.at x commands here.0 front)
+
+  -- what it gives after one more ran, it gave before
+  pub passed_given : (g h : GivenView P) (x : Command) → g.next ≡ Some x → IsCounted g.given g.next g.at →
+      h.at ≡ g.at + 1 → h.given ≡ g.given ++ option_to_list h.next → (commands : List Numbered) (last : ℕ) →
+      gives_on h commands last → PassedOn (gives_on g) commands g.at last
+  passed_given g h x some counted at given commands last gives =
+      let high = gives.1 in
+      let front : IsFront (all_numbered 2 g.given) commands =
+      front_less g.given (option_to_list h.next) commands
+      (subst (λ (xs : List Command). IsFront (all_numbered 2 xs) commands) given (by h.next gives.0)) in
+      let gave : gives_on g commands (g.at + 1) = (
+        subst (λ (o : Option Command). MatchOption o (commands ≡ all_numbered 2 g.given)
+            (λ x. IsFront (all_numbered 2 g.given) commands)) (sym some) front,
+        refl,
+      ) in record {
+        before = g.at + 1;
+        gives = gave;
+        rises = λ line y is.
+            let next = next_given g x commands (g.at + 1) some counted gave in
+            let same : line ≡ g.at + 2 = ap (λ (o : Option Numbered). option_map_or (λ (c : Numbered). c.line) o 0)
+            (sym is.next ∙ next.next) in
+            omega (arith, same, at, high);
+      } where
+        by : (o : Option Command) → MatchOption o (commands ≡ all_numbered 2 h.given)
+            (λ x. IsFront (all_numbered 2 h.given) commands) → IsFront (all_numbered 2 h.given) commands
+        by None same = record { more = []; is = same ∙ sym (append-nil (all_numbered 2 h.given)) }
+        by (Some y) front = front
+
+  -- it gives what it gave so far
+  pub some_given : (g : GivenView P) → GivesSome (gives_on g)
+  some_given g = record {
+    commands = all_numbered 2 g.given;
+    last = g.at + 1;
+    some = (by g.next, refl);
+  } where
+    by : (o : Option Command) → MatchOption o (all_numbered 2 g.given ≡ all_numbered 2 g.given)
+        (λ x. IsFront (all_numbered 2 g.given) (all_numbered 2 g.given))
+    by None = refl
+    by (Some y) = record { more = []; is = sym (append-nil (all_numbered 2 g.given)) }
+
+-- one more was given, or none
+pub counted_more : (given : List Command) (next : Option Command) (at : ℕ) → length given ≡ at + 1 →
+    IsCounted (given ++ option_to_list next) next (at + 1)
+counted_more given next at many = counted_on given next at (at + 1) many refl
+
+pub counted_some : (given : List Command) (next : Option Command) (x : Command) (at : ℕ) → next ≡ Some x →
+    IsCounted given next at → length given ≡ at + 1
+counted_some given next x at some counted = (subst (λ (o : Option Command). IsCounted given o at) some counted).1
+
+-- a program that was told one answer more
+talked_more : {P : Type 0} (says : P → Option Answer → Option Command → P → Type 0) (p : P) (now : Option Command)
+    (told : List Answer) (q : P) (c : Command) (given : List Command) (a : Answer) (next : Option Command) (r : P) →
+    Talked says p now told q (Some c) given → says q (Some a) next r →
+    Talked says p now (told ++ a ∷ []) r next (given ++ option_to_list next)
+talked_more {P} says p now [] q c given a next r talked said =
+    let given_is : given ≡ c ∷ [] = talked.2 ∙ ap (λ (o : Option Command). option_to_list o) (sym talked.1) in
+    subst (λ (o : Option Command). Talked says p o (a ∷ []) r next (given ++ option_to_list next)) talked.1 (
+      r,
+      next,
+      option_to_list next,
+      subst (λ (x : P). says x (Some a) next r) talked.0 said,
+      ap (λ (xs : List Command). xs ++ option_to_list next) given_is,
+      (refl, refl, refl),
+    )
+talked_more says p None (b ∷ told) q c given a next r talked said = absurd talked
+talked_more says p (Some d) (b ∷ told) q c given a next r talked said =
+    let mid = talked.0 in
+    let then = talked.1 in
+    let rest = talked.2 in (
+      mid,
+      then,
+      rest ++ option_to_list next,
+      talked.3,
+      ap (λ (xs : List Command). xs ++ option_to_list next) talked.4,
+      talked_more says mid then told q c rest a next r talked.5 said,
+    )
+
+-- so it is with the program of a source
+pub played_more : {P : Type 0} (says : P → Option Answer → Option Command → P → Type 0) (g h : GivenView P) (c : Command)
+    (a : Answer) (command : Option Command) → IsPlayed says g → g.next ≡ Some c → g.stray ≡ None →
+    says g.program (Some a) command h.program → h.start ≡ g.start → h.told ≡ g.told ++ a ∷ [] →
+    h.given ≡ g.given ++ option_to_list h.next → option_or h.stray h.next ≡ command →
+    option_to_list h.next ++ option_to_list h.stray ≡ option_to_list command → IsPlayed says h
+played_more {P} says g h c a command played next none said start told given last all =
+    let one = played.played in
+    let before : Talked says one.begun one.first g.told g.program (Some c) g.given =
+    subst (λ (xs : List Command). Talked says one.begun one.first g.told g.program (Some c) xs)
+    (ap (λ (o : Option Command). g.given ++ option_to_list o) none ∙ append-nil g.given)
+    (subst (λ (o : Option Command). Talked says one.begun one.first g.told g.program o (g.given ++ option_to_list g.stray))
+    (ap (λ (o : Option Command). option_or o g.next) none ∙ next) one.talked) in
+    let more = talked_more says one.begun one.first g.told g.program c g.given a command h.program before said in
+    let whole : h.given ++ option_to_list h.stray ≡ g.given ++ option_to_list command =
+    ap (λ (xs : List Command). xs ++ option_to_list h.stray) given
+    ∙ append_assoc g.given (option_to_list h.next) (option_to_list h.stray)
+    ∙ ap (λ (xs : List Command). g.given ++ xs) all in
+    record {
+      start = played.start;
+      begins = start ∙ played.begins;
+      played = record {
+        begun = one.begun;
+        first = one.first;
+        begins = one.begins;
+        talked = subst (λ (xs : List Answer). Talked says one.begun one.first xs h.program (option_or h.stray h.next)
+            (h.given ++ option_to_list h.stray)) (sym told)
+            (subst (λ (xs : List Command). Talked says one.begun one.first (g.told ++ a ∷ []) h.program
+            (option_or h.stray h.next) xs) (sym whole)
+            (subst (λ (o : Option Command). Talked says one.begun one.first (g.told ++ a ∷ []) h.program o
+            (g.given ++ option_to_list command)) (sym last) more));
+      };
+    }

@@ -1,6 +1,6 @@
 -- The places of a rank's commands in a script, and that of the next one.
 use Rattle.std.specs.Prelude.{◌≡◌, ℕ, ◌+◌, ◌==◌, true, IfSome, List, length, map, option_map, take, slice_get}
-use Rattle.std.specs.Prelude.{unwrap_or}
+use Rattle.std.specs.Prelude.{None, unwrap_or}
 use Rattle.nm_types.specs.declared.scripts.Line.{Line}
 use Rattle.nm_types.specs.Commands.{Numbered, commands_of}
 use Rattle.nm_process.specs.Lines.{AreLines}
@@ -43,6 +43,7 @@ shown s =
       at = s.at;
       ranks = s.ranks;
       next = option_map (λ c. c.command) (slice_get (commands_of s.me s.lines) s.at);
+      told = None;
     }
 
 -- it gives the rank's commands in the script

@@ -1,15 +1,17 @@
 -- What gives a rank its commands.
 use Rattle.std.specs.Prelude.{ℕ, ◌+◌, ◌≤◌, Option, List}
+use Rattle.nm_types.specs.declared.answers.Answer.{Answer}
 use Rattle.nm_types.specs.declared.scripts.Command.{Command}
 use Rattle.nm_types.specs.Commands.{Numbered}
 use Rattle.nm_process.specs.Work.{IsNext}
 
 -- What contracts see of it: how many of its commands ran, among how many ranks its commands are in range,
--- and which command is next, if there is one.
+-- which command is next, if there is one, and the answers that it was told, if it is told any.
 pub record SourceView : Type 0 where
   pub at : ℕ
   pub ranks : ℕ
   pub next : Option Command
+  pub told : Option (List Answer)
 
 -- Before the command after the first `at` of these ran, it gave them too, and the line of that command is
 -- not past this one.

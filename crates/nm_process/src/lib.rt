@@ -23,17 +23,20 @@
 #![tactic(auto)]
 
 mod commands;
+mod given;
 pub mod laws;
 mod names;
 mod pages;
 mod passing;
 mod processes;
 mod programs;
+mod ranges;
 pub mod scripted;
 pub mod sources;
 mod steps;
 
 pub use processes::{Leavings, Process};
+pub use given::Given;
 pub use programs::Program;
 pub use sources::Source;
 pub use steps::{Handle, Step, looks};

@@ -1,6 +1,6 @@
 //! A process: a rank that runs commands, and the names of its requests and messages.
 
-ghost use Rattle.std.specs.Prelude.{◌≡◌, ◌+◌, ◌<◌, ℕ, true, false, IfOk, OnOk, List};
+ghost use Rattle.std.specs.Prelude.{◌≡◌, ◌+◌, ◌<◌, ℕ, true, false, IfOk, IsSome, OnOk, List};
 ghost use Rattle.std.specs.Option.{option_map_or};
 ghost use Rattle.nm_types.specs.Commands.{Numbered};
 ghost use Rattle.nm_types.specs.Limits.{is_in_range};
@@ -8,6 +8,7 @@ ghost use Rattle.nm_types.specs.Sizes.{Sizes};
 ghost use Rattle.nm_history.specs.Completion.{is_complete};
 ghost use Rattle.nm_rank.specs.New.{IsNew};
 ghost use Rattle.nm_rank.specs.Ranks.{IsFresh};
+ghost use Rattle.nm_process.specs.LastAnswer.{last_answer};
 ghost use Rattle.nm_process.specs.Names.{named};
 ghost use Rattle.nm_process.specs.Starts.{HasTried};
 ghost use Rattle.nm_process.specs.Steps.{HasStepped, can_go_on_by};
@@ -185,6 +186,8 @@ impl Process {
             × (self.new.rank.sizes ≡ self.old.rank.sizes)) }
         ensures waits { IfOk result (λ step. step ≡ step_is.Waits → IsFresh self.old.rank →
             can_go_on_by self.old command.now ≡ false) }
+        ensures answered { IfOk result (λ step. step ≡ step_is.Ran →
+            IsSome (last_answer self.new.rank.events)) }
         ensures work { IfOk result (λ step. step ≡ step_is.Ran →
             (shape : Sizes) (commands : List Numbered) (bound : ℕ) →
             IsWorking shape commands bound self.old →

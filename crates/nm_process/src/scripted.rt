@@ -86,8 +86,6 @@ impl<'a> Source for Scripted<'a> {
 
     ghost gives = { gives_lines };
 
-    ghost told = { λ s answers. Unit {0} };
-
     fn count(&self) -> usize {
         self.own.len()
     }

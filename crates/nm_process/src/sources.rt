@@ -2,7 +2,6 @@
 
 ghost use Rattle.std.specs.Prelude.{◌≡◌, ◌+◌, ◌<◌, ◌++◌, ℕ, None, true, List};
 ghost use Rattle.std.specs.Prelude.{IfSome, IsSome, MatchOption, OnOk, option_map, option_to_list, slice_get};
-ghost use Rattle.nm_types.specs.declared.answers.Answer.{Answer};
 ghost use Rattle.nm_types.specs.Commands.{Numbered};
 ghost use Rattle.nm_types.specs.Limits.{is_in_range};
 ghost use Rattle.nm_process.specs.LastAnswer.{last_answer};
@@ -20,9 +19,6 @@ pub trait Source: Drop {
     // It may give these commands in all, and none of those that ran has a line past this one.
     ghost gives: { Self → List Numbered → ℕ → Type 0 };
 
-    // It was told these answers.
-    ghost told: { Self → List Answer → Type 0 };
-
     /// About how many commands it gives, for which memory is asked for ahead.
     fn count(&self) -> usize;
 
@@ -39,12 +35,14 @@ pub trait Source: Drop {
     /// rank.
     fn pass(&mut self, rank: &Rank) -> Result<(), Memory>
         requires next { IsSome (shows self.old).next }
+        requires answered { IsSome (last_answer rank.now.events) }
         ensures counted { OnOk result (((shows self.new).at ≡ (shows self.old).at + 1)
             × ((shows self.new).ranks ≡ (shows self.old).ranks)) }
         ensures some { OnOk result (GivesSome (gives self.new)) }
         ensures gives { OnOk result ((commands : List Numbered) (last : ℕ) →
             gives self.new commands last →
             PassedOn (gives self.old) commands (shows self.old).at last) }
-        ensures told { OnOk result ((answers : List Answer) → told self.old answers →
-            told self.new (answers ++ option_to_list (last_answer rank.now.events))) };
+        ensures told { OnOk result ((shows self.new).told
+            ≡ option_map (λ answers. answers ++ option_to_list (last_answer rank.now.events))
+            (shows self.old).told) };
 }

@@ -128,6 +128,7 @@ scripts_begin ranks lines k (s ∷ scripts) are =
     All-cons (BeginsAt shown gives_lines ranks) s scripts (record {
       at = are.3;
       ranks = are.2;
+      told = tt;
       some = record { commands = commands_of s.me s.lines; last = s.next + 1; some = (refl, refl) };
     }) (scripts_begin ranks lines (k + 1) scripts are.4)
 

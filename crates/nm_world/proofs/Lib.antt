@@ -5,6 +5,7 @@ mod Accounts
 -- what is counted between two ranks
 mod Counted
 -- players, and lists of them
+mod Told
 mod Playing
 mod Runs
 -- a run at rest

@@ -98,24 +98,28 @@ sole_look commands line c found =
       by true = omega arith
       by false = omega arith
 
-pub looks_ran : (commands : List Numbered) (a b : ProcessView) →
-    Answers commands a.at a.rank.events → Answers commands b.at b.rank.events → RanNext commands a b →
-    looks_in commands b.rank.events ≡ looks_in commands a.rank.events + looks_next commands a
-looks_ran commands a b one answers run =
+pub ran_one : (commands : List Numbered) (a b : ProcessView) →
+    Answers commands a.at a.rank.events → Answers commands b.at b.rank.events → (run : RanNext commands a b) →
+    ran_lines b.rank.events ≡ ran_lines a.rank.events ++ run.line ∷ []
+ran_one commands a b one answers run =
     let next = run.next.next in
-    let found = run.next.found in
     let line : Numbered = record { line = run.line; command = run.command } in
     let at = run.ran.at in
     let more : b.at ≡ suc a.at = omega (arith, at) in
     let taken : take b.at commands ≡ take a.at commands ++ line ∷ [] =
     ap (λ (k : ℕ). take k commands) more ∙ take_more commands a.at line next in
-    ap (count_by (is_look_at commands)) (answers.in_order
-    ∙ ap (map (λ (c : Numbered). c.line)) taken
+    answers.in_order ∙ ap (map (λ (c : Numbered). c.line)) taken
     ∙ map-append (λ (c : Numbered). c.line) (take a.at commands) (line ∷ [])
-    ∙ ap (λ (ls : List ℕ). ls ++ line.line ∷ []) (sym one.in_order))
-    ∙ sum_by-append (λ x. cond (is_look_at commands x) 1 0) (ran_lines a.rank.events) (line.line ∷ [])
-    ∙ ap (λ (k : ℕ). looks_in commands a.rank.events + k) (sole_look commands line.line run.command found
-    ∙ sym (ap (λ (o : Option Numbered). cond (option_map_or (λ c. is_look c.command) o false) 1 0) next))
+    ∙ ap (λ (ls : List ℕ). ls ++ line.line ∷ []) (sym one.in_order)
+
+pub looks_ran : (commands : List Numbered) (a b : ProcessView) →
+    Answers commands a.at a.rank.events → Answers commands b.at b.rank.events → RanNext commands a b →
+    looks_in commands b.rank.events ≡ looks_in commands a.rank.events + looks_next commands a
+looks_ran commands a b one answers run =
+    ap (count_by (is_look_at commands)) (ran_one commands a b one answers run)
+    ∙ sum_by-append (λ x. cond (is_look_at commands x) 1 0) (ran_lines a.rank.events) (run.line ∷ [])
+    ∙ ap (λ (k : ℕ). looks_in commands a.rank.events + k) (sole_look commands run.line run.command run.next.found
+    ∙ sym (ap (λ (o : Option Numbered). cond (option_map_or (λ c. is_look c.command) o false) 1 0) run.next.next))
 
 -- one step of a loop that takes packets, and its last one
 pub ranks_same : (f : Fabric Packet) (r : Rings) (a b : Actor) → Continues f r a b →

@@ -1,17 +1,34 @@
 -- A player from one step to the next.
 use Rattle.std.proofs.Common.{◌≡◌, ℕ, ◌||◌, Bool, List, refl, sym, ap, ◌∙◌, subst}
+use Rattle.std.specs.Prelude.{map, take}
 use Rattle.nm_types.specs.Commands.{Numbered}
+use Rattle.nm_types.specs.declared.answers.Answer.{Answer}
+use Rattle.nm_history.specs.RankRun.{ran_lines}
+use Rattle.nm_history.specs.Totals.{answers_given}
 use Rattle.nm_types.specs.declared.packets.Packet.{Packet}
 use Rattle.nm_cells.specs.declared.port.Fabric.{Fabric}
 use Rattle.nm_copyring.specs.declared.port.Rings.{Rings}
 use Rattle.nm_process.specs.Sources.{SourceView}
 use Rattle.nm_world.specs.declared.actors.Actor.{Actor}
 use Rattle.nm_world.specs.declared.players.Player.{Player}
-use Rattle.nm_world.specs.Actors.{Continues, Seat, did}
+use Rattle.nm_world.specs.Actors.{Continues, HasPorts, Seat, did}
 use Rattle.nm_world.specs.Idle.{Moves}
-use Rattle.nm_world.specs.Players.{IsAtWork, PlayerInvariant, PlaysOn}
+use Rattle.nm_world.specs.Players.{IsAtWork, PlayerInvariant, PlaysOn, WasTold}
 use Rattle.nm_world.proofs.Did.{did_on}
 use Rattle.nm_world.proofs.Grows.{grows_on, grows_same}
+use Rattle.nm_world.proofs.Told.{none_more}
+
+-- no answer was given where no command ran
+none_answered : {f : Fabric Packet} {r : Rings} (a b : Actor) → HasPorts f r a → Continues f r a b →
+    b.process.at ≡ a.process.at → answers_given b.process.rank.events ≡ answers_given a.process.rank.events
+none_answered a b p on at =
+    let commands = p.some.commands in
+    let one = p.some.stands.is.work.answers in
+    let two = (on.stands commands p.some.last p.some.stands).is.work.answers in
+    let same : ran_lines b.process.rank.events ≡ ran_lines a.process.rank.events = two.in_order
+    ∙ ap (λ (k : ℕ). map (λ (c : Numbered). c.line) (take k commands)) at ∙ sym one.in_order in
+    ap answers_given on.grows.events.1 ∙ none_more a.process.rank.events on.grows.events.0
+    (ap ran_lines (sym on.grows.events.1) ∙ same)
 
 module _ {S : Type 0} (shows : S → SourceView) (gives : S → List Numbered → ℕ → Type 0) (f : Fabric Packet) (r : Rings)
   where
@@ -21,6 +38,7 @@ module _ {S : Type 0} (shows : S → SourceView) (gives : S → List Numbered �
       seat = refl;
       grows = grows_same x.actor;
       gave = λ commands last given. record { before = last; gives = given };
+      hears = refl;
     }
 
     pub plays_on : (x y z : Player S) → PlaysOn shows gives f r x y → PlaysOn shows gives f r y z →
@@ -32,6 +50,7 @@ module _ {S : Type 0} (shows : S → SourceView) (gives : S → List Numbered �
       gave = λ commands last given.
           let before = two.gave commands last given in
           one.gave commands before.before before.gives;
+      hears = two.hears ∙ one.hears;
     }
 
     -- one step more of a loop that tells whether something was done
@@ -49,11 +68,14 @@ module _ {S : Type 0} (shows : S → SourceView) (gives : S → List Numbered �
         ports = on.ports;
         at = s.at ∙ sym at;
         ranks = s.ranks ∙ sym (ap (λ (z : Seat). z.sizes.ranks) on.seat);
+        told = subst (λ (answers : List Answer). WasTold (shows x.source) answers)
+            (sym (none_answered x.actor b s.ports on at)) s.told;
         stands = λ commands last given. on.stands commands last (s.stands commands last given);
       };
       seat = on.seat;
       grows = on.grows;
       gave = λ commands last given. record { before = last; gives = given };
+      hears = refl;
     }
 
     pub moves_actor : (x y : Player S) (some : Bool) → PlayerInvariant shows gives f r x →

@@ -1,7 +1,9 @@
 -- How a player stands: its actor, and what gives it its commands.
-use Rattle.std.specs.Prelude.{◌≡◌, ℕ, ◌+◌, Bool, nat_lt, List, [], ◌∷◌, Some}
+use Rattle.std.specs.Prelude.{IfSome, is_some, ◌≡◌, ℕ, ◌+◌, Bool, nat_lt, List, [], ◌∷◌, Some}
 use Rattle.std.specs.List.{AllZip, slice_get}
 use Rattle.nm_types.specs.Commands.{Numbered}
+use Rattle.nm_types.specs.declared.answers.Answer.{Answer}
+use Rattle.nm_history.specs.Totals.{answers_given}
 use Rattle.nm_types.specs.declared.packets.Packet.{Packet}
 use Rattle.nm_cells.specs.declared.port.Fabric.{Fabric}
 use Rattle.nm_copyring.specs.declared.port.Rings.{Rings}
@@ -10,20 +12,26 @@ use Rattle.nm_process.specs.Work.{IsWorking}
 use Rattle.nm_world.specs.declared.players.Player.{Player}
 use Rattle.nm_world.specs.Actors.{ActorInvariant, Grew, Grows, HasPorts, done_by, seat_of}
 
+-- a source that is told answers was told these
+abbrev pub WasTold : SourceView → List Answer → Type 0
+WasTold v answers = IfSome v.told (λ told. told ≡ answers)
+
 -- a source of which no command ran, for a run of n ranks
 pub record BeginsAt {S : Type 0} (shows : S → SourceView) (gives : S → List Numbered → ℕ → Type 0) (n : ℕ) (s : S)
     : Type 0 where
   pub at : (shows s).at ≡ 0
   pub ranks : (shows s).ranks ≡ n
+  pub told : WasTold (shows s) []
   pub some : GivesSome (gives s)
 
--- Its actor has its ports, its source counts the commands that ran, and whatever commands its source goes on
--- to give, its actor stands at them.
+-- Its actor has its ports, its source counts the commands that ran and was told the answers of its rank's
+-- history, and whatever commands its source goes on to give, its actor stands at them.
 pub record PlayerInvariant {S : Type 0} (shows : S → SourceView) (gives : S → List Numbered → ℕ → Type 0)
     (f : Fabric Packet) (r : Rings) (x : Player S) : Type 0 where
   pub ports : HasPorts f r x.actor
   pub at : (shows x.source).at ≡ x.actor.process.at
   pub ranks : (shows x.source).ranks ≡ x.actor.process.rank.sizes.ranks
+  pub told : WasTold (shows x.source) (answers_given x.actor.process.rank.events)
   pub stands : (commands : List Numbered) (last : ℕ) → gives x.source commands last → ActorInvariant commands last x.actor
 
 -- A player's source gives these commands, and counts those that ran, and its actor's process is at work on
@@ -50,6 +58,7 @@ pub record PlaysOn {S : Type 0} (shows : S → SourceView) (gives : S → List N
   pub gave :
       (commands : List Numbered) (last : ℕ) → gives y.source commands last →
       GaveBefore (gives x.source) commands
+  pub hears : is_some (shows y.source).told ≡ is_some (shows x.source).told
 
 -- so it is with each of a list
 abbrev pub AllPlayOn :

@@ -14,7 +14,7 @@ ghost use Rattle.nm_world.specs.Actors.{Environment, Grew, did, seat_of};
 ghost use Rattle.nm_world.specs.Idle.{IsStuck, Moves, Rests};
 ghost use Rattle.nm_world.specs.Looks.{LookedAround, PolledBefore, PolledUnlessWorn, RanNext};
 ghost use Rattle.nm_world.specs.Looks.{looks_next};
-ghost use Rattle.nm_world.specs.Players.{IsAtWork, PlayerInvariant, PlaysOn};
+ghost use Rattle.nm_world.specs.Players.{IsAtWork, PlayerInvariant, PlaysOn, WasTold};
 ghost use Rattle.nm_world.specs.Rest.{CanMove, IsStill};
 
 use crate::Actor;
@@ -51,6 +51,7 @@ impl<S: Source> Player<S> {
     ) -> Result<Self, Memory>
         requires rank { port.rank < shape.ranks }
         requires begins { ((S.shows source).at ≡ 0) × ((S.shows source).ranks ≡ shape.ranks) }
+        requires told { WasTold (S.shows source) [] }
         requires gives { GivesSome (S.gives source) }
         ensures stands { IfOk result (λ x. (f : Fabric Packet) (r : Rings) →
             (f.ranks ≡ shape.ranks) × (r.ranks ≡ shape.ranks) →

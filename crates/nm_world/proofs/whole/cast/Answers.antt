@@ -37,6 +37,7 @@ new-requires g c =
       rank = (first_of_all (λ (p : Port Packet). p.rank < c.args.shape.ranks) (into_iter_items c.loop-port.port-iterator)
           rest c.in-Some.port split c.loop-port.invariant.ranks).0;
       begins = (begins.at, begins.ranks);
+      told = begins.told;
       gives = begins.some;
     }
 

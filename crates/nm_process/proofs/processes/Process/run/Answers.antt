@@ -2,8 +2,11 @@
 use Rattle.std.proofs.Common.{ℕ, ◌+◌, sym, ap, subst, ◌∙◌}
 use Rattle.nm_process.specs.declared.steps.Step.{Step}
 use Rattle.nm_process.specs.declared.steps.Step.TheVariants.{Ran as Took}
+use Rattle.std.specs.Prelude.{IsSome}
+use Rattle.nm_process.specs.LastAnswer.{last_answer}
 use Rattle.nm_process.specs.Processes.{ProcessView}
 use Rattle.nm_process.specs.Starts.{HasTried}
+use Rattle.nm_process.proofs.AnswerLemmas.{tried_answers}
 use Rattle.nm_process.proofs.SameLemmas.{tried_run}
 use Rattle.nm_process.proofs.StepLemmas.{ran}
 use Rattle.nm_process.proofs.processes.Process.run.Goals as goal
@@ -29,3 +32,11 @@ returns-clause-work c took shape commands bound work next =
     c.in_ok-step.ensures.tried) in
     ran shape commands bound a (record v { at = i.at + 1 }) line x work next (ap (λ (k : ℕ). k + 1) at)
     c.history.ensures.right (subst (λ (k : ℕ). HasTried a (record v { at = k }) x line Took) at tried)
+
+pub returns-clause-answered : goal.returns-clause-answered
+returns-clause-answered c took =
+    let a = c.args.self.now in
+    let x = c.args.command.now in
+    subst (λ (v : ProcessView). IsSome (last_answer v.rank.events)) (sym c.self-2.view_is)
+    (tried_answers a c.run_command.new.self x c.args.line
+    (subst (λ (s : Step). HasTried a c.run_command.new.self x c.args.line s) took c.in_ok-step.ensures.tried))

@@ -1,6 +1,13 @@
 -- The process stands, and the ports are as they were.
 use Rattle.std.proofs.Common.{◌≡◌, ◌<◌, ◌+◌, ℕ, true, false, Option, Some, None, List, refl, sym, ap, subst, ◌∙◌, arith}
-use Rattle.std.specs.Prelude.{IsSome, option_map}
+use Rattle.std.specs.Prelude.{◌++◌, IsSome, option_map, option_to_list}
+use Rattle.nm_history.specs.declared.events.Event.{Event}
+use Rattle.nm_history.specs.RankRun.{ran_lines}
+use Rattle.nm_history.specs.Totals.{answers_given}
+use Rattle.nm_process.specs.LastAnswer.{last_answer}
+use Rattle.nm_world.specs.Looks.{RanNext}
+use Rattle.nm_world.proofs.Looks.{ran_one}
+use Rattle.nm_world.proofs.Told.{hears_more, one_more_given, told_more}
 use Rattle.std.specs.List.{slice_get}
 use Rattle.std.specs.Option.{option_map_or}
 use Rattle.nm_types.specs.declared.scripts.Command.{Command}
@@ -31,7 +38,10 @@ pub run-requires-clause-counted : goal.run-requires-clause-counted
 run-requires-clause-counted g c = subst (λ (k : ℕ). k < c.in-Some.line) c.requires.1.at c.in-Some.ensures.counted
 
 pub pass-requires : goal.pass-requires
-pass-requires g c = record { next = subst (λ (o : Option Command). IsSome o) c.in-Some.ensures.shown refl }
+pass-requires g c = record {
+  next = subst (λ (o : Option Command). IsSome o) c.in-Some.ensures.shown refl;
+  answered = rw c.rank-in-Ran.ensures (c.in_ok-run.ensures.answered c.in-Ran.is);
+}
 
 pub returns-in_default : goal.returns-in_default
 returns-in_default g c =
@@ -121,6 +131,23 @@ returns-in_ok-pass-in-Ran g c =
     let at = passed.counted.0 in
     let was = s.at in
     let counts = stepped.at in
+    let at_old = s.stands some.commands before.before before.gives in
+    let run_is : RanNext some.commands a.process v = record {
+      bound = before.before + 1;
+      line = line;
+      command = command;
+      next = next some.commands some.last some.some;
+      ran = stepped;
+    } in
+    let one = ran_one some.commands a.process v at_old.is.work.answers
+    (stands some.commands some.last some.some).is.work.answers run_is in
+    let events = grown.0.events in
+    let more : answers_given v.rank.events ≡ answers_given a.process.rank.events
+    ++ option_to_list (last_answer v.rank.events) =
+    subst (λ (h : List Event). answers_given h ≡ answers_given a.process.rank.events ++ option_to_list (last_answer h))
+    (sym events.1) (one_more_given a.process.rank.events events.0 line
+    (ap (λ (h : List Event). ran_lines h) (sym events.1) ∙ one)
+    (subst (λ (h : List Event). IsSome (last_answer h)) events.1 (c.in_ok-run.ensures.answered c.in-Ran.is))) in
     record {
       ran = λ e. c.in_ok-run.ensures.fresh c.in-Ran.is;
       next = λ e commands last given. record {
@@ -153,6 +180,8 @@ returns-in_ok-pass-in-Ran g c =
           };
           at = omega (arith, at, was, counts);
           ranks = passed.counted.1 ∙ s.ranks ∙ sym (ap (λ z. z.ranks) sizes);
+          told = told_more _ _ _ (answers_given a.process.rank.events) (answers_given v.rank.events) passed.told s.told
+              (rw c.rank-in-Ran.ensures more);
           stands = stands;
         };
         seat = seat_is a v a.port.rank refl sizes;
@@ -160,5 +189,6 @@ returns-in_ok-pass-in-Ran g c =
         gave = λ commands last given.
             let before = passed.gives commands last given in
             record { before = before.before; gives = before.gives };
+        hears = hears_more _ _ _ passed.told;
       };
     }

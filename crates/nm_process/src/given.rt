@@ -1,0 +1,216 @@
+//! The commands that a program gives, one after another.
+
+ghost use Rattle.std.specs.Prelude.{◌≡◌, ◌+◌, ◌<◌, ◌++◌, ◌∷◌, [], ℕ, None, true, false, List, IfOk};
+ghost use Rattle.std.specs.Option.{option_or};
+ghost use Rattle.std.specs.Prelude.{IfSome, IsSome, MatchOption, OnOk, option_map, option_to_list, slice_get};
+ghost use Rattle.nm_types.specs.Limits.{is_in_range};
+ghost use Rattle.nm_process.specs.LastAnswer.{last_answer as last_answer_lem};
+ghost use Rattle.nm_process.specs.Playing.{IsPlayed, gives_on, shown_by};
+
+use crate::programs::Program;
+use crate::ranges::in_range;
+use crate::sources::Source;
+use nm_ghost::Trace;
+use nm_history::{Event, Happened};
+use nm_rank::Rank;
+use nm_types::{Answer, Command, Memory};
+use std::marker::Model;
+
+/// As many commands as there are lines for: the k-th one, from 0, has line k + 2.
+const LAST: u32 = 4294967290;
+
+/// A program, and the command that it gave last, which has not run. What it gave before is known to
+/// contracts alone.
+#[derive(Drop)]
+pub struct Given<P: Program> {
+    // in a run of so many ranks
+    ranks: u8,
+    // as it was at first
+    start: Trace<P>,
+    program: P,
+    next: Option<Command>,
+    // a command that is out of range, or for which there is no line: it never runs, and is the last one
+    stray: Option<Command>,
+    // how many commands ran
+    at: u32,
+    given: Trace<Command>,
+    told: Trace<Answer>,
+    // it was refused memory, and knows no more where it is
+    failed: bool,
+}
+
+impl<P: Program> Model for Given<P> {
+    ghost use Rattle.std.specs.Prelude.{◌≡◌, ◌<◌, ◌≤◌, None, true, false, IfSome};
+    ghost use Rattle.nm_types.specs.Limits.{is_in_range};
+    ghost use Rattle.nm_process.specs.Playing.{GivenView, IsCounted, IsPlayed};
+
+    ghost Value = { GivenView P };
+
+    ghost view = { λ g.
+        record {
+          ranks = g.ranks;
+          start = g.start.items;
+          program = g.program;
+          next = g.next;
+          stray = g.stray;
+          at = g.at;
+          given = g.given.items;
+          told = g.told.items;
+          failed = g.failed;
+        } };
+
+    ghost invariant = { λ g.
+        IsCounted g.given.items g.next g.at
+        × (g.at ≤ 4294967290)
+        × IfSome g.next (λ x. (is_in_range g.ranks x ≡ true) × (g.at < 4294967290)
+        × (g.stray ≡ None))
+        × (g.failed ≡ false → IsPlayed P.says (record {
+          ranks = g.ranks;
+          start = g.start.items;
+          program = g.program;
+          next = g.next;
+          stray = g.stray;
+          at = g.at;
+          given = g.given.items;
+          told = g.told.items;
+          failed = g.failed;
+        })) };
+}
+
+// The answer of the last event, if that is an answer.
+fn last_answer(rank: &Rank) -> Option<&Answer>
+    ensures { option_map (λ a. a.now) result ≡ last_answer_lem rank.now.events }
+{
+    match rank.history().as_slice().last() {
+        Some(
+            Event {
+                stamp: _,
+                what: Happened::Ran { line: _, answer },
+            },
+        ) => Some(answer),
+        _ => None,
+    }
+}
+
+// Whether a command may run after so many.
+fn may_run(command: &Command, ranks: u8, at: u32) -> bool
+    ensures { result ≡ true → (is_in_range ranks command.now ≡ true) × (at < 4294967290) }
+{
+    at < LAST && in_range(ranks, command)
+}
+
+impl<P: Program> Given<P> {
+    /// What a program gives in a run of so many ranks, from its start on.
+    pub fn new(program: P, ranks: u8) -> Result<Self, Memory>
+        ensures begins { IfOk result (λ g. (g.at ≡ 0) × (g.ranks ≡ ranks) × (g.told ≡ [])
+            × (g.start ≡ program ∷ []) × (g.failed ≡ false)) }
+    {
+        let start = Trace::new().then(&program);
+        let mut program = program;
+        let (next, stray) = sorted(program.next(None)?, ranks, 0);
+        let mut given = Trace::new();
+        note(&mut given, &next);
+        Ok(Given {
+            ranks,
+            start,
+            program,
+            next,
+            stray,
+            at: 0,
+            given,
+            told: Trace::new(),
+            failed: false,
+        })
+    }
+
+    /// The program as it was left, and the command that never ran, since it is out of range or there was no
+    /// line for it.
+    pub fn into_parts(self) -> (P, Option<Command>)
+        ensures left { (result.0 ≡ self.program) × (result.1 ≡ self.stray) }
+        ensures played { self.failed ≡ false → IsPlayed P.says self }
+    {
+        let Given {
+            ranks: _,
+            start: _,
+            program,
+            next: _,
+            stray,
+            at: _,
+            given: _,
+            told: _,
+            failed: _,
+        } = self;
+        (program, stray)
+    }
+}
+
+// A command that may run after so many, or one that never runs.
+fn sorted(command: Option<Command>, ranks: u8, at: u32) -> (Option<Command>, Option<Command>)
+    ensures runs { IfSome result.0 (λ x. (is_in_range ranks x ≡ true) × (at < 4294967290)
+        × (result.1 ≡ None)) }
+    ensures same { (option_or result.1 result.0 ≡ command)
+        × (option_to_list result.0 ++ option_to_list result.1 ≡ option_to_list command) }
+{
+    let Some(command) = command else {
+        return (None, None);
+    };
+    if may_run(&command, ranks, at) {
+        (Some(command), None)
+    } else {
+        (None, Some(command))
+    }
+}
+
+// Notes that this command was given, if there is one.
+fn note(given: &mut Trace<Command>, next: &Option<Command>)
+    ensures { given.new.items ≡ given.old.items ++ option_to_list next.now }
+{
+    if let Some(command) = next {
+        *given = given.then(command);
+    }
+}
+
+// Puts this in the place of what was there.
+fn put(place: &mut Option<Command>, command: Option<Command>)
+    ensures { place.new ≡ command }
+{
+    *place = command;
+}
+
+impl<P: Program> Source for Given<P> {
+    ghost shows = { shown_by };
+
+    ghost gives = { gives_on };
+
+    fn count(&self) -> usize {
+        0
+    }
+
+    fn next(&self) -> Option<(u32, &Command)> {
+        let Some(command) = &self.next else {
+            return None;
+        };
+        Some((self.at + 2, command))
+    }
+
+    fn pass(&mut self, rank: &Rank) -> Result<(), Memory> {
+        let Some(answer) = last_answer(rank) else {
+            unreachable!()
+        };
+        let told = self.told.then(answer);
+        let command = match self.program.next(Some(answer)) {
+            Ok(command) => command,
+            Err(Memory) => {
+                self.failed = true;
+                return Err(Memory);
+            }
+        };
+        self.told = told;
+        self.at += 1;
+        let (next, stray) = sorted(command, self.ranks, self.at);
+        note(&mut self.given, &next);
+        put(&mut self.next, next);
+        put(&mut self.stray, stray);
+        Ok(())
+    }
+}
