@@ -120,7 +120,7 @@ def of_finding(script: Script, group: Group) -> list[str]:
 def of_meaning(answer: str) -> list[str]:
     """What an answer means that no script's report has."""
     means = {
-        "overrun": "bytes were written behind the end of the receive's memory (MPI 3.1, 3.2.4)",
+        "overrun": "bytes were written past the end of the receive's memory (MPI 3.1, 3.2.4)",
         "badcount": "the message is longer than the receive, and the library says that all is well",
         "error": "the library says that the call failed",
     }
@@ -142,7 +142,7 @@ def notes(result: Result) -> list[str]:
     if found and cancels:
         texts.append("  this script cancels: MPI 4.0 deprecates the cancel of a send, which few libraries keep")
     if found and cut:
-        texts.append("  a receive was too short: behind an error MPI promises nothing (MPI 3.1, 8.3)")
+        texts.append("  a receive was too short: after an error MPI promises nothing (MPI 3.1, 8.3)")
     return texts
 
 

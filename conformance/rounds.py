@@ -147,13 +147,13 @@ class Launch:
         """What is wrong with the launch itself."""
         ended = self.ended
         if ended.stopped:
-            behind = "" if self.is_broken_off() else " behind its last round, in MPI_Finalize or mpiexec"
-            return f"{ended.stopped}{behind}"
+            late = "" if self.is_broken_off() else " after its last round, in MPI_Finalize or mpiexec"
+            return f"{ended.stopped}{late}"
         if self.is_broken_off():
             return f"{'' if self.rounds else 'no round was run, and '}mpiexec ended with status {ended.status}"
         gone = {it.gone for it in self.texts}
         if not self.is_stuck() and "left" not in gone and gone != {"finalized"}:
-            return f"a rank died behind its last round, and mpiexec ended with status {ended.status}"
+            return f"a rank died after its last round, and mpiexec ended with status {ended.status}"
         return f"{ended.left} processes were left behind" if ended.left else None
 
 
