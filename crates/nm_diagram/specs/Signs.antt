@@ -38,37 +38,37 @@ name_of sign.Left = codes "left"
 
 -- what a sign stands for, in words
 abbrev pub words_of : Sign → List ℕ
-words_of sign.Send = codes "a send of a message at once"
-words_of sign.Ask = codes "a send that asks first"
+words_of sign.Send = codes "an eager send"
+words_of sign.Ask = codes "a rendezvous send"
 words_of sign.Post = codes "a receive posted"
-words_of sign.Arrive = codes "a message, or its asking, arrives"
-words_of sign.Whole = codes "all bytes are here"
-words_of sign.Out = codes "the last part has left"
+words_of sign.Arrive = codes "a message, or its request, arrives"
+words_of sign.Whole = codes "all bytes have arrived"
+words_of sign.Out = codes "a message has left"
 words_of sign.Cancel = codes "a cancel of a receive"
-words_of sign.Recall = codes "a withdrawal asked for"
+words_of sign.Recall = codes "a cancel of a send"
 words_of sign.Withdraw = codes "a withdrawal, done or late"
-words_of sign.Undone = codes "the answer to a withdrawal"
+words_of sign.Undone = codes "the answer to a cancelled send"
 words_of sign.Claim = codes "a message claimed by a probe"
 words_of sign.Match = codes "a claimed message received"
 words_of sign.Ran = codes "a command answered"
-words_of sign.Waits = codes "a command that waits at the end"
-words_of sign.EagerWay = codes "the way of a message sent at once"
-words_of sign.AskWay = codes "the way of an asking"
-words_of sign.BackWay = codes "the way of a withdrawal"
+words_of sign.Waits = codes "a command blocked at the end"
+words_of sign.EagerWay = codes "an eager message on its way"
+words_of sign.AskWay = codes "a rendezvous request on its way"
+words_of sign.BackWay = codes "a withdrawal on its way"
 words_of sign.Taken = codes "a receive and what it took"
 words_of sign.Left = codes "a message that nobody took"
 
--- the sign of the way of a message
+-- the sign of a message on its way
 abbrev pub way_of : How → Sign
 way_of Eager = sign.EagerWay
 way_of Ask = sign.AskWay
 
--- a message was sent at once
+-- a message is eager
 abbrev pub is_eager : How → Bool
 is_eager Eager = true
 is_eager Ask = false
 
--- a message was sent by asking
+-- a message goes by rendezvous
 abbrev pub is_ask : How → Bool
 is_ask Eager = false
 is_ask Ask = true

@@ -11,25 +11,25 @@ use nm_types::How;
 /// What a shape of a picture stands for.
 #[derive(Clone, Copy)]
 pub enum Sign {
-    /// A send of a message at once.
+    /// An eager send.
     Send,
-    /// A send that asks first.
+    /// A rendezvous send.
     Ask,
     /// A receive posted.
     Post,
-    /// The arrival of a message, or of its asking.
+    /// The arrival of a message, or of the request of a rendezvous.
     Arrive,
-    /// All bytes of a message are there.
+    /// All bytes of a message have arrived.
     Whole,
-    /// The last part of a message has left.
+    /// A message has left.
     Out,
     /// A cancel of a receive.
     Cancel,
-    /// A withdrawal that was asked for.
+    /// A cancel of a send.
     Recall,
     /// A withdrawal, done or late.
     Withdraw,
-    /// The answer to a withdrawal.
+    /// The answer to a cancelled send.
     Undone,
     /// A message claimed by a probe.
     Claim,
@@ -37,13 +37,13 @@ pub enum Sign {
     Match,
     /// A command answered.
     Ran,
-    /// A command that waits at the end.
+    /// A command that is blocked at the end.
     Waits,
-    /// The way of a message sent at once.
+    /// An eager message on its way.
     EagerWay,
-    /// The way of an asking.
+    /// The request of a rendezvous on its way.
     AskWay,
-    /// The way of a withdrawal, or of its answer.
+    /// A withdrawal, or its answer, on its way.
     BackWay,
     /// A receive and what it took.
     Taken,
@@ -51,7 +51,7 @@ pub enum Sign {
     Left,
 }
 
-/// Whether a message was sent at once.
+/// Whether a message is eager.
 fn is_eager(how: How) -> bool
     ensures { result ≡ is_eager how }
 {
@@ -61,7 +61,7 @@ fn is_eager(how: How) -> bool
     }
 }
 
-/// Whether a message was sent by asking.
+/// Whether a message goes by rendezvous.
 fn is_ask(how: How) -> bool
     ensures { result ≡ is_ask how }
 {
@@ -176,23 +176,23 @@ impl Sign {
         ensures { result.now ≡ words_of self }
     {
         match self {
-            Sign::Send => "a send of a message at once",
-            Sign::Ask => "a send that asks first",
+            Sign::Send => "an eager send",
+            Sign::Ask => "a rendezvous send",
             Sign::Post => "a receive posted",
-            Sign::Arrive => "a message, or its asking, arrives",
-            Sign::Whole => "all bytes are here",
-            Sign::Out => "the last part has left",
+            Sign::Arrive => "a message, or its request, arrives",
+            Sign::Whole => "all bytes have arrived",
+            Sign::Out => "a message has left",
             Sign::Cancel => "a cancel of a receive",
-            Sign::Recall => "a withdrawal asked for",
+            Sign::Recall => "a cancel of a send",
             Sign::Withdraw => "a withdrawal, done or late",
-            Sign::Undone => "the answer to a withdrawal",
+            Sign::Undone => "the answer to a cancelled send",
             Sign::Claim => "a message claimed by a probe",
             Sign::Match => "a claimed message received",
             Sign::Ran => "a command answered",
-            Sign::Waits => "a command that waits at the end",
-            Sign::EagerWay => "the way of a message sent at once",
-            Sign::AskWay => "the way of an asking",
-            Sign::BackWay => "the way of a withdrawal",
+            Sign::Waits => "a command blocked at the end",
+            Sign::EagerWay => "an eager message on its way",
+            Sign::AskWay => "a rendezvous request on its way",
+            Sign::BackWay => "a withdrawal on its way",
             Sign::Taken => "a receive and what it took",
             Sign::Left => "a message that nobody took",
         }
