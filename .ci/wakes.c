@@ -4,7 +4,7 @@
  *
  *   counted   `awake` is at least the number of crews that are awake, rung or have not begun
  *   rest      where it becomes 0, each other crew sleeps or has left, nothing is rung, and no rank of a crew that sleeps
- *             has anything to take, or to send where there is room
+ *             has anything to take, or to send where there is room, unless a crew made that room in its last turn
  *   end       whatever happened, all crews can still come to their end
  *
  * The first two hold until the round ends. A sleep that returns for no reason only looks again, and is left out. A rank
@@ -29,6 +29,7 @@
     STEP(TAKE, "move_all", "let took = self.actor.take_all(f, steps)?;") \
     STEP(RUN, "move_all", "let ran = self.run_all(f, steps)?;") \
     STEP(LIMIT, "turns_of", "for made in 1..turns {") \
+    STEP(STILL, "still_rung", "let rung = self.bell.load(Ordering::SeqCst);") \
     STEP(LOAD, "answer", "if self.bell.load(Ordering::SeqCst) == 0 {") \
     STEP(SWAP, "answer", "self.bell.swap(0, Ordering::SeqCst)") \
     STEP(LOOK, "look", "if self.bell.load(Ordering::SeqCst) != 0 {") \
@@ -56,7 +57,9 @@ enum { STEPS(NAME) };
 static const char *spelled[] = {STEPS(SPELLED)};
 
 /* What is made wrong in the model, to see that it is found. */
-enum { NOTHING, SLEEPS_UNSEEN, WAKES_FIRST, COUNTS_LATE, REFUSAL_UNTOLD, GIVES_UP_BLINDLY, ENDS_WITHOUT_A_BIT };
+enum {
+    NOTHING, SLEEPS_UNSEEN, WAKES_FIRST, COUNTS_LATE, REFUSAL_UNTOLD, GIVES_UP_BLINDLY, ENDS_WITHOUT_A_BIT, DUE_FORGOTTEN
+};
 
 enum { MOST = 3, PLACES = 7, SLEEPS = 8, OVER = 16 };
 enum { FIRST = 1, MOVED = 2, GOT = 4, LATE = 8 };  /* what a crew knows */
@@ -67,7 +70,7 @@ typedef struct {
     uint8_t at, bell;
     uint8_t due;   /* of its own ranks, those that may have something to do in the next sweep */
     uint8_t todo;  /* those whose turn in this one is still to come: the lowest is at its turn */
-    uint8_t calls; /* the ranks to ring for */
+    uint8_t noted; /* those that this turn rang for */
     uint8_t seen;  /* what a load found, for the step that depends on it */
     uint8_t k;     /* the crew or rank that a loop is at */
     uint8_t knows, when, then;
@@ -79,6 +82,7 @@ typedef struct {
     uint8_t items, refusals, limits; /* how many there may still be */
     uint8_t out[MOST];               /* of each rank, 1 + the rank for which it has an item, or 0 */
     uint8_t box[MOST];               /* of each rank, the ranks that an item of it is under way to */
+    uint8_t calls[MOST];             /* of each rank, the ranks that it has yet to ring for */
 } State;
 
 static int crews, ranks, items, refusals, limits, before[MOST], mistake;
@@ -87,17 +91,28 @@ static const char *wrong;
 /* The ranks of a crew: the first one has those that are left over. */
 static int ranks_of(int c) { return c ? 1 << (c + ranks - crews) : (2 << (ranks - crews)) - 1; }
 
+static int has_one(int c) { return c || ranks == crews; }
+
+static int crew_of(int r) { return r > ranks - crews ? r - (ranks - crews) : 0; }
+
 static int lowest(int set) { return __builtin_ctz(set); }
 static int sleeps(const Crew *x) { return x->at >= SEE_BEGUN && x->at < DONE && x->at != GIVE_HAD; }
 static int left(const Crew *x) { return x->at == DONE || x->at == GIVE_HAD; }
 
 static int can_send(const State *s, int r) { return s->out[r] && !(s->box[r] >> (s->out[r] - 1) & 1); }
 
-static int can_move(const State *s, int r)
+/* Whether a crew makes no more turns, where the last one leaves. */
+static int is_out(const State *s, int c, int last)
+{
+    return left(&s->crew[c]) || (c == last && s->crew[c].then == THEN_DONE);
+}
+
+/* Whether a rank can move, and what it waited for was told, or has to be before the next round. */
+static int can_move(const State *s, int r, int last)
 {
     for (int from = 0; from < ranks; from++)
         if (s->box[from] >> r & 1) return 1;
-    return can_send(s, r);
+    return can_send(s, r) && !(s->calls[s->out[r] - 1] >> r & 1 && is_out(s, crew_of(s->out[r] - 1), last));
 }
 
 /* Looks at a state in which `awake` has become 0 by the leave of a crew. */
@@ -105,11 +120,11 @@ static void look_at_rest(const State *s, int last)
 {
     for (int c = 0; c < crews; c++) {
         const Crew *x = &s->crew[c];
-        if (left(x) || (c == last && x->then == THEN_DONE)) continue;
+        if (is_out(s, c, last)) continue;
         if (c != last && !sleeps(x)) wrong = "rest: the last one sleeps while a crew is awake";
         if (x->bell & PLACES) wrong = "rest: the last one sleeps while a crew is rung";
         for (int r = 0; r < ranks; r++)
-            if (ranks_of(c) >> r & 1 && can_move(s, r)) wrong = "rest: all sleep, and a rank could move";
+            if (ranks_of(c) >> r & 1 && can_move(s, r, last)) wrong = "rest: all sleep, and a rank could move";
     }
 }
 
@@ -122,7 +137,7 @@ static void look_at_count(const State *s)
 }
 
 /* What a crew does after a step by itself, up to its next one. */
-static void take(State *s, Crew *x);
+static void take(Crew *x);
 
 static void answer(Crew *x, int when) { x->when = when; x->at = LOAD; }
 
@@ -136,33 +151,37 @@ static void end_all(State *s, Crew *x, int next) { s->over = 1; x->k = 0; x->the
 /* Rings for the next crew of the ranks that are called (`tell`, `ring`). */
 static void ring(State *s, Crew *x)
 {
+    uint8_t *calls = &s->calls[lowest(x->todo)];
     for (; x->k < crews; x->k++) {
-        int places = x->calls & ranks_of(x->k);
-        if (x == &s->crew[x->k]) x->due |= places;
+        int places = *calls & ranks_of(x->k);
+        if (x == &s->crew[x->k]) x->noted |= places;
         else if (places) { x->at = RING_LOAD; return; }
     }
-    x->calls = x->k = 0;
-    if (x->when == AFTER) x->at = RUN; else take(s, x);
+    *calls = x->k = 0;
+    take(x);
 }
 
 static void rung(State *s, Crew *x) { x->k++; ring(s, x); }
 
-static void tell(State *s, Crew *x, int when) { x->k = 0; x->when = when; ring(s, x); }
+static void tell(State *s, Crew *x) { x->k = 0; ring(s, x); }
 
-static void take(State *s, Crew *x)
+static void take(Crew *x)
 {
     if (x->k == lowest(x->todo)) x->k++;
-    if (x->k < ranks) x->at = TAKE; else tell(s, x, AFTER);
+    x->at = x->k < ranks ? TAKE : RUN;
 }
 
-static void sent(State *s, Crew *x) { if (s->refusals) x->at = REFUSE; else tell(s, x, BEFORE); }
+static void sent(State *s, Crew *x) { if (s->refusals) x->at = REFUSE; else tell(s, x); }
+
+/* Asks which ranks may have something to do (`next`). */
+static void next(const State *s, Crew *x) { if (has_one(x - s->crew)) x->at = STILL; else answer(x, BEFORE); }
 
 /* The turn of the next rank of a sweep. */
 static void turn(State *s, Crew *x)
 {
     if (x->todo) { if (s->out[lowest(x->todo)]) x->at = SEND; else sent(s, x); return; }
     x->knows &= ~FIRST;
-    if (s->limits) x->at = LIMIT; else answer(x, BEFORE);
+    if (s->limits) x->at = LIMIT; else next(s, x);
 }
 
 /* `next` has an answer. */
@@ -179,8 +198,8 @@ static void answered(State *s, Crew *x, int own, int rung)
 static int step(State *s, int c, int way)
 {
     Crew *x = &s->crew[c], *y = &s->crew[x->k < crews ? x->k : 0];
-    int r = x->todo ? lowest(x->todo) : 0, places = x->calls & ranks_of(x->k), bell = y->bell;
-    if (way && x->at != REFUSE && x->at != RUN && x->at != LIMIT && x->at != SEE_NAP) return 0;
+    int r = x->todo ? lowest(x->todo) : 0, places = s->calls[r] & ranks_of(x->k), bell = y->bell;
+    if (way && x->at != REFUSE && x->at != RUN && x->at != LIMIT && x->at != STILL && x->at != SEE_NAP) return 0;
     switch (x->at) {
     case BEGIN:
         for (int d = 0; d < crews; d++)
@@ -190,13 +209,13 @@ static int step(State *s, int c, int way)
         return 1;
     case SEND:
         if (can_send(s, r)) {
-            s->box[r] |= 1 << (s->out[r] - 1), x->calls |= 1 << (s->out[r] - 1);
+            s->box[r] |= 1 << (s->out[r] - 1), s->calls[r] |= 1 << (s->out[r] - 1);
             s->out[r] = 0, x->knows |= MOVED;
         }
         sent(s, x);
         return 1;
     case REFUSE:
-        if (!way) tell(s, x, BEFORE);
+        if (!way) tell(s, x);
         else if (mistake == REFUSAL_UNTOLD) s->refusals--, x->at = DONE;
         else s->refusals--, end_all(s, x, THEN_DONE);
         return way < 2;
@@ -223,20 +242,24 @@ static int step(State *s, int c, int way)
         return 1;
     case RING_SUB: s->awake--; rung(s, x); return 1;
     case TAKE:
-        if (s->box[x->k] >> r & 1) s->box[x->k] &= ~(1 << r), x->calls |= 1 << x->k, x->knows |= MOVED | GOT;
+        if (s->box[x->k] >> r & 1) s->box[x->k] &= ~(1 << r), s->calls[r] |= 1 << x->k, x->knows |= MOVED | GOT;
         x->k++;
-        take(s, x);
+        take(x);
         return 1;
     case RUN:
         if (way > ranks) return 0;
         if (way && (way - 1 == r || !s->items || s->out[r] || !(x->knows & (FIRST | GOT)))) return -1;
         if (way) s->out[r] = way, s->items--, x->knows |= MOVED;
         if (x->knows & MOVED) x->due |= 1 << r;
+        if (x->knows & MOVED || mistake != DUE_FORGOTTEN) x->due |= x->noted, x->noted = 0;
         x->knows &= ~(MOVED | GOT), x->todo &= ~(1 << r);
         turn(s, x);
         return 1;
     case LIMIT:
-        if (way) s->limits--, x->then = THEN_DONE, x->at = LEAVE; else answer(x, BEFORE);
+        if (way) s->limits--, x->then = THEN_DONE, x->at = LEAVE; else next(s, x);
+        return way < 2;
+    case STILL: /* or this turn is one that takes what was rung */
+        if (way && x->bell && !(x->bell & (OVER | SLEEPS))) answered(s, x, ranks_of(c), x->bell); else answer(x, BEFORE);
         return way < 2;
     case LOAD: if (x->bell) x->at = SWAP; else answered(s, x, ranks_of(c), 0); return 1;
     case SWAP: bell = x->bell, x->bell = 0; answered(s, x, ranks_of(c), bell); return 1;
@@ -284,7 +307,7 @@ static void clear(Crew *x)
     if (x->at != RING_SET && x->at != GIVE_SET && x->at != GIVE_HAD) x->seen = 0;
     if (!rings && !ends && x->at != TAKE) x->k = 0;
     if (!ends && x->at != LEAVE) x->then = 0;
-    if (!rings && x->at != LOAD && x->at != SWAP) x->when = 0;
+    if (x->at != LOAD && x->at != SWAP) x->when = 0;
     if (x->at < LATE_BELL) x->knows &= ~LATE;
 }
 

@@ -35,6 +35,10 @@
 //! A crew that has left is not woken, and what is rung for it is lost. It need not be: each actor makes a
 //! turn at the start of the next round.
 //!
+//! A crew of one rank may leave what was rung as it is, and make a turn: who rings again finds it so, and
+//! writes nothing. The crew has yet to take it, since it sleeps from 0 alone. And who took something may
+//! ring for that in its next turn: it moved something, so it makes one, in the next round if not in this.
+//!
 //! # Where other work has the processors
 //!
 //! There a crew that is awake stands still for milliseconds, and those that wait for it sleep as long, again
@@ -60,6 +64,9 @@ const PLACES: u64 = 0xFFFF_FFFF;
 
 // How often a crew looks at its bell before it sleeps.
 const LOOKS: u32 = 10000;
+
+// A crew of one rank takes what was rung in one of so many turns.
+const TAKEN: u32 = 256;
 
 // How many milliseconds a crew with nothing to do waits for others to begin.
 const NAPS: u32 = 50;
@@ -90,6 +97,18 @@ impl Crew {
             return 0;
         }
         self.bell.swap(0, Ordering::SeqCst)
+    }
+
+    // What was rung, which stays so, if the crew has one rank and its turns go on.
+    fn still_rung(&self) -> Option<u64> {
+        if self.ranks.count_ones() != 1 {
+            return None;
+        }
+        let rung = self.bell.load(Ordering::SeqCst);
+        if rung == 0 || rung & (OVER | SLEEPS) != 0 {
+            return None;
+        }
+        Some(rung)
     }
 
     // Looks at the bell for a while. It answers what was rung.
@@ -308,10 +327,16 @@ impl Bells {
         }
     }
 
-    /// Which places of a crew may have something to do: these, and what was rung. Where there is none it
-    /// waits until there is: it looks for a while, readies memory, and then sleeps. `None` ends its turns.
-    pub fn next<R: Wait>(&self, rt: &R, crew: usize, due: u64) -> Option<u64> {
+    /// Which places of a crew that made so many turns may have something to do: these, and what was rung.
+    /// Where there is none it waits until there is: it looks for a while, readies memory, and then sleeps.
+    /// `None` ends its turns.
+    pub fn next<R: Wait>(&self, rt: &R, crew: usize, due: u64, made: u32) -> Option<u64> {
         let crew = self.crews.get(crew)?;
+        if made % TAKEN != 0 {
+            if let Some(rung) = crew.still_rung() {
+                return Some((due | rung) & PLACES);
+            }
+        }
         let mut rung = crew.answer();
         if due | rung == 0 {
             rung = crew.look();

@@ -241,7 +241,8 @@ impl<S: Source> Player<S> {
     }
 
     /// What a turn sends, pushes, takes, pulls and runs. It answers whether that is anything. Bells ring
-    /// at once for the ranks that something was sent or pushed to, or taken or pulled from.
+    /// once, for the ranks that something was sent or pushed to, or was taken or pulled from in the turn
+    /// before.
     pub(crate) fn move_all<L: Ledger>(
         &mut self,
         f: &Fabric<Packet>,
@@ -268,9 +269,7 @@ impl<S: Source> Player<S> {
         self.actor.places.tell(own, bells);
         let took = self.actor.take_all(f, steps)?;
         let pulled = self.actor.pull_all(f, r, steps)?;
-        self.actor.places.tell(own, bells);
         let ran = self.run_all(f, steps)?;
-        self.actor.places.tell(own, bells);
         Ok(sent | pushed | took | pulled | ran)
     }
 }

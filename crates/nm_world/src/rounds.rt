@@ -55,10 +55,11 @@ fn visit<S: Source, G: Gate, L: Ledger>(
             return Err(Memory);
         }
     };
+    let due = player.actor.places.take_due();
     if !moved {
-        return Ok((false, 0));
+        return Ok((false, due));
     }
-    Ok((true, place | player.actor.places.take_due()))
+    Ok((true, place | due))
 }
 
 // A turn of each player of a crew whose place is due, or of all, with a count of their word steps.
@@ -128,7 +129,7 @@ fn turns_of<R: Wait, S: Source, G: Gate>(
     }
     let (mut moved, mut next) = sweep(players, true, 0, f, r, gate, bells)?;
     for made in 1..turns {
-        let Some(due) = bells.next(rt, crew, next) else {
+        let Some(due) = bells.next(rt, crew, next, made) else {
             return Ok(moved);
         };
         let (one, then) = sweep(players, false, due, f, r, gate, bells)?;
