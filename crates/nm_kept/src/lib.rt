@@ -15,6 +15,9 @@
 //! - `get` lends an item exactly where it is in memory, and `first` the first that is.
 //! - An item can be pushed without memory where there is a place (clause `succeeds`), and each item
 //!   that is let go leaves its place to a later one.
+//! - `held` is how many are in memory: the items of a `Kept` behind those that were let go, and the entries
+//!   of `Entries` that did not end. Memory has places for fewer items of a `Kept` than 2^63
+//!   (`places_are_few`), so that one added to how many are free is a `usize`.
 //! - `put`, `replace` and `end` of `Entries` change the list as those of a map do that keeps the order of
 //!   its entries. After `end` an entry is not in memory, and the others stay there. So a user that ends
 //!   each entry when its value fails a test holds in memory exactly those that pass (`AreLive`).

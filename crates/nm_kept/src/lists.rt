@@ -103,6 +103,15 @@ impl<T: Drop> Kept<T> {
         self.window.capacity()
     }
 
+    /// A law: memory has places for fewer items than 2^63.
+    #[inline(always)]
+    pub fn places_are_few(&self)
+        ensures forgotten { self.now.forgotten ≤ length self.now.items }
+        ensures few { self.now.places < self.now.forgotten + 2 ^ 63 }
+    {
+        let _window = &self.window;
+    }
+
     /// Makes places for so many items more.
     pub fn reserve(&mut self, additional: usize) -> Result<(), Memory>
         ensures same { self.new ≡ record self.old { places = self.new.places } }
