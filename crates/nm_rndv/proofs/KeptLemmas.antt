@@ -25,13 +25,13 @@ use Rattle.nm_rndv.proofs.StateLemmas.{state_here, states_same}
 use Rattle.nm_rndv.proofs.StateLemmas.{state_changes, waiting-set, waiting_le, state-set_value}
 use Rattle.nm_rndv.proofs.StateLemmas.{waiting-set_value}
 use Rattle.nm_rndv.proofs.StateLemmas.{waiting-asked, cleared_now, waits_no_more, withdrawal_leaves}
-use Rattle.nm_rndv.proofs.StateLemmas.{withdrawal_clears, withdrawal_waits}
+use Rattle.nm_rndv.proofs.StateLemmas.{withdrawal_clears, withdrawal_waits, place_of}
 
 module _ (ds ds' : List Destined) (order : List (ℕ × ℕ)) (first reserved room : ℕ)
     (kept : OffersInvariant ds order first reserved room) where
   -- where the tests of all messages are as before, so is the rest
   pub kept_steady : ((m : ℕ × ℕ) → leaves ds' m ≡ leaves ds m) → ((m : ℕ × ℕ) → cleared_at ds' m ≡ cleared_at ds m) →
-      (reserved' room' : ℕ) → sum_by waiting_in ds' ≤ reserved' → length order + reserved' ≤ room' →
+      (reserved' room' : ℕ) → sum_by waiting_in ds' ≡ reserved' → length order + reserved' ≤ room' →
       OffersInvariant ds' order first reserved' room'
   kept_steady same_leaves same_cleared reserved' room' counted fits = record {
     cleared = λ k d lt. same_cleared (get_or order k d) ∙ kept.cleared k d lt;
@@ -126,14 +126,20 @@ module _ (ds : List Destined) (order : List (ℕ × ℕ)) (first reserved room :
       (Asked body) changes was_cleared (sym (ap (λ x. option_map_or was_cleared x false) was)))
       (reserved + 1) room' (omega (arith, waiting-set ds to within d at d', count, kept.counted)) fits
 
-  -- the answer of a recall
+  -- the answer of a recall: a message that waited and is withdrawn gives up its place
   pub kept_answered : (done : Bool) (o : Option State) → state_in d n ≡ o → d' ≡ with_answer d n done →
-      OffersInvariant (set ds to d') order first reserved room
-  kept_answered false o was is = kept_unchanged (ap (λ (x : Destined). x.asked) is)
-  kept_answered true None was is =
-      kept_unchanged (ap (λ (x : Destined). x.asked) is
-      ∙ ap (λ o. option_map_or (λ s. set_value (nat_eq n) d.asked (after_withdrawal s)) o d.asked) was)
-  kept_answered true (Some s) was is =
+      (reserved' : ℕ) → reserved' + place_of done o ≡ reserved →
+      OffersInvariant (set ds to d') order first reserved' room
+  kept_answered false o was is reserved' less =
+      let same : reserved ≡ reserved' = omega (arith, less) in
+      subst (λ many. OffersInvariant (set ds to d') order first many room) same
+      (kept_unchanged (ap (λ (x : Destined). x.asked) is))
+  kept_answered true None was is reserved' less =
+      let same : reserved ≡ reserved' = omega (arith, less) in
+      subst (λ many. OffersInvariant (set ds to d') order first many room) same
+      (kept_unchanged (ap (λ (x : Destined). x.asked) is
+      ∙ ap (λ o. option_map_or (λ s. set_value (nat_eq n) d.asked (after_withdrawal s)) o d.asked) was))
+  kept_answered true (Some s) was is reserved' less =
       let w = after_withdrawal s in
       let entries : d'.asked ≡ set_value (nat_eq n) d.asked w =
       ap (λ (x : Destined). x.asked) is ∙ ap (λ o. option_map_or
@@ -145,7 +151,9 @@ module _ (ds : List Destined) (order : List (ℕ × ℕ)) (first reserved room :
       (withdrawal_leaves s ∙ sym (ap (λ x. option_map_or is_leaving x false) was)))
       (test_same ds (set ds to d') order first reserved room kept to n (state_in d n) w changes was_cleared
       (withdrawal_clears s ∙ sym (ap (λ x. option_map_or was_cleared x false) was)))
-      reserved room (omega (arith, waiting-set ds to within d at d', count, withdrawal_waits s, kept.counted)) kept.fits
+      reserved' room
+      (omega (arith, waiting-set ds to within d at d', count, withdrawal_waits s, kept.counted, less))
+      (omega (arith, kept.fits, less))
 
   module _ (s : State) (o : Option Cut) (was : state_in d n ≡ Some s)
       (entries : d'.asked ≡ set_value (nat_eq n) d.asked (leaving_or_out o)) where

@@ -184,11 +184,28 @@ withdrawal_clears (Cleared cut) = refl
 withdrawal_clears Out = refl
 withdrawal_clears Withdrawn = refl
 
-pub withdrawal_waits : (s : State) → weight (after_withdrawal s) ≤ weight s
-withdrawal_waits (Asked body) = omega arith
-withdrawal_waits (Cleared cut) = omega arith
-withdrawal_waits Out = omega arith
-withdrawal_waits Withdrawn = omega arith
+-- after it the message does not wait
+pub withdrawal_waits : (s : State) → weight (after_withdrawal s) ≡ 0
+withdrawal_waits (Asked body) = refl
+withdrawal_waits (Cleared cut) = refl
+withdrawal_waits Out = refl
+withdrawal_waits Withdrawn = refl
+
+-- how many places the answer of a recall frees: that of a message that waits and is withdrawn
+abbrev pub place_of : Bool → Option State → ℕ
+place_of done o = cond (cond done (option_map_or is_waiting o false) false) 1 0
+
+-- a message that waits is one of those counted
+pub waits_one : (d : Destined) (n : ℕ) (s : State) → state_in d n ≡ Some s → weight s ≤ waiting_in d
+waits_one d n s was = let set' = sum_by-set_value weight (nat_eq n) d.asked s Out was in omega (arith, set')
+
+-- so its place is one of those reserved
+pub place_reserved : (ds : List Destined) (to : ℕ) → to < length ds → (d : Destined) → d ≡ get_or ds to d → (n : ℕ)
+    (done : Bool) (o : Option State) → state_in d n ≡ o → place_of done o ≤ sum_by waiting_in ds
+place_reserved ds to within d at n false o was = omega arith
+place_reserved ds to within d at n true None was = omega arith
+place_reserved ds to within d at n true (Some s) was =
+    omega (arith, waits_one d n s was, waiting_le ds to within d at)
 
 module _ (d d' : Destined) (n : ℕ) (step : State → State) (s : State) (was : state_in d n ≡ Some s) where
   -- the entries after a step of a message that is there

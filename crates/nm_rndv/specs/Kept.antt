@@ -11,13 +11,13 @@ abbrev pub waiting_in : Destined → ℕ
 waiting_in d = count_by is_waiting (values_of d.asked)
 
 -- Every message in the order was cleared, and every one that leaves is in the order, of which the
--- first that leaves is known. There is room in the order for each message that waits.
+-- first that leaves is known. Each message that waits has a place reserved in the order, and no other has.
 pub record OffersInvariant (ds : List Destined) (order : List (ℕ × ℕ)) (first reserved room : ℕ)
     : Type 0 where
   pub cleared : All (λ m. cleared_at ds m ≡ true) order
   pub first_is : first ≡ position_or_len (leaves ds) order
   pub listed : (to n : ℕ) → leaves ds (to, n) ≡ true → Contains order (to, n)
-  pub counted : sum_by waiting_in ds ≤ reserved
+  pub counted : sum_by waiting_in ds ≡ reserved
   pub fits : length order + reserved ≤ room
 
 -- What a sender's grants keep: memory holds those that have their bytes, and the numbers of those that are

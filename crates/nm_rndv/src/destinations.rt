@@ -93,20 +93,23 @@ fn waits(asked: &Entries<State>, n: u64) -> bool
     }
 }
 
-/// Withdraws a message that waits, if its recall was done.
-fn withdraw_if(asked: &mut Entries<State>, n: u64, done: bool)
+/// Withdraws a message that waits, if its recall was done. The answer is whether it was withdrawn.
+fn withdraw_if(asked: &mut Entries<State>, n: u64, done: bool) -> bool
     requires { AreLive has_body asked.old }
     ensures live { AreLive has_body asked.new }
     ensures entries { asked.new.entries ≡ (if done
         then withdrawn_in asked.old.entries n else asked.old.entries) }
+    ensures withdrawn { result
+        ≡ (if done then option_map_or is_waiting (lookup (nat_eq n) asked.old.entries) false else false) }
 {
     if !done {
-        return;
+        return false;
     }
     if !waits(asked, n) {
-        return;
+        return false;
     }
     set(asked, n, State::Withdrawn);
+    true
 }
 
 impl Destination {
@@ -224,12 +227,15 @@ impl Destination {
         self.recalls.get(n).is_some()
     }
 
-    /// Notes the answer of a recall. Where it was done, a message that waits is withdrawn.
-    pub fn answer(&mut self, n: u64, done: bool)
+    /// Notes the answer of a recall. Where it was done, a message that waits is withdrawn. The answer is
+    /// whether one was.
+    pub fn answer(&mut self, n: u64, done: bool) -> bool
         requires { option_map_or is_unanswered (recall_in self.old n) false ≡ true }
-        ensures { self.new ≡ with_answer self.old n done }
+        ensures answered { self.new ≡ with_answer self.old n done }
+        ensures withdrawn { result
+            ≡ (if done then option_map_or is_waiting (state_in self.old n) false else false) }
     {
         self.recalls.end(n, Some(done));
-        withdraw_if(&mut self.asked, n, done);
+        withdraw_if(&mut self.asked, n, done)
     }
 }

@@ -17,6 +17,7 @@
 //! Entries stay for good in these lists. Memory holds the messages that wait or leave, the recalls that
 //! were not answered, the grants whose bytes were not taken, and the order of clearance from the first
 //! message on that is not out: `held`, `held_recalls` and `held_order` tell how many they are.
+//! The order has one place reserved for each message that waits.
 //! # What is proved
 //! - Only `cleared` makes a message cleared. It puts it at the end of the order.
 //! - `next_piece` fills a place of its caller's with the next piece of the first message in the order

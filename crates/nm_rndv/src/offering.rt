@@ -29,7 +29,7 @@ pub struct Offers {
     // Every message that was cleared. Those before the first that is not out are let go, so that no
     // look-up walks over them.
     order: Kept<(u8, u64)>,
-    // How many places of the order are kept free: at least one for each message that waits.
+    // How many places of the order are kept free: one for each message that waits.
     reserved: usize,
 }
 
@@ -123,9 +123,8 @@ impl Offers {
             (self.new ≡ with_destined self.old to (with_asked (destined self.old to) n body)) }
         ensures err { OnErr result (self.new ≡ self.old) }
     {
-        let Some(reserved) = self.reserved.checked_add(1) else {
-            return Err(Memory);
-        };
+        self.order.places_are_few();
+        let reserved = self.reserved + 1;
         self.order.reserve(reserved)?;
         self.destinations[to as usize].ask(n, LongBody::new(body))?;
         self.reserved = reserved;
@@ -264,6 +263,7 @@ impl Offers {
         requires uncleared { done ≡ true → cleared_at self.old.destinations (to, n) ≡ false }
         ensures { self.new ≡ with_destined self.old to (with_answer (destined self.old to) n done) }
     {
-        self.destinations[to as usize].answer(n, done);
+        let is_withdrawn = self.destinations[to as usize].answer(n, done);
+        self.reserved -= usize::from(is_withdrawn);
     }
 }

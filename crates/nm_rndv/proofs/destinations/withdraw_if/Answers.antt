@@ -10,6 +10,14 @@ returns-then-not-waits-clause-entries c =
     rw c.if-not-done.false (sym (withdrawn_other c.args.asked.now.entries c.args.n
     (sym c.waits.ensures ∙ c.if-not-waits.true)))
 
+pub returns-then-not-waits-clause-withdrawn : goal.returns-then-not-waits-clause-withdrawn
+returns-then-not-waits-clause-withdrawn c =
+    rw c.if-not-done.false (sym c.if-not-waits.true ∙ c.waits.ensures)
+
+pub returns-clause-withdrawn : goal.returns-clause-withdrawn
+returns-clause-withdrawn c =
+    rw c.if-not-done.false (sym c.if-not-waits.false ∙ c.waits.ensures)
+
 pub returns-clause-entries : goal.returns-clause-entries
 returns-clause-entries c =
     rw c.if-not-done.false (c.set.ensures.entries ∙ sym (withdrawn_waiting c.args.asked.now.entries c.args.n

@@ -19,5 +19,5 @@ invariant_of-self c =
           c.end.ensures.entries refl c.end.ensures.live c.end.ensures.many,
     )
 
-pub returns : goal.returns
-returns c = rw (← c.self.view_is, c.withdraw_if.ensures.entries, c.end.ensures.entries) refl
+pub returns-clause-answered : goal.returns-clause-answered
+returns-clause-answered c = rw (← c.self.view_is, c.withdraw_if.ensures.entries, c.end.ensures.entries) refl

@@ -5,6 +5,11 @@ use Rattle.nm_rndv.proofs.KeptLemmas.{kept_asked}
 use Rattle.nm_rndv.proofs.StateLemmas.{state_there}
 use Rattle.nm_rndv.proofs.offering.Offers.ask.Goals as goal
 
+pub overflow_add-reserved : goal.overflow_add-reserved
+overflow_add-reserved c =
+    let k = c.places_are_few.ensures in
+    omega (arith, c.self.invariant.fits, k.forgotten, k.few)
+
 pub invariant_of-self-2 : goal.invariant_of-self-2
 invariant_of-self-2 c =
     let a = c.self.inside in
@@ -20,7 +25,6 @@ invariant_of-self-2 c =
     ∙ ap (λ (v : Offering). state_at v.destinations (c.args.to, c.args.n)) c.self.view_is ∙ c.requires.is_new in
     let items = ap (λ (k : Keeping (ℕ × ℕ)). k.items) c.in_ok-reserve.ensures.same in
     let forgotten = ap (λ (k : Keeping (ℕ × ℕ)). k.forgotten) c.in_ok-reserve.ensures.same in
-    let more : c.in-Some.reserved ≡ a.reserved + 1 = c.in-Some.ensures.1 in
-    rw (items, forgotten, more) (kept_asked ds a.order.items a.order.forgotten a.reserved _ c.self.invariant c.args.to
+    rw (items, forgotten) (kept_asked ds a.order.items a.order.forgotten a.reserved _ c.self.invariant c.args.to
     within d at c.ask.new.self c.args.n c.new.result was c.in_ok-ask.ensures.states c.in_ok-ask.ensures.ok _
     (omega (arith, c.in_ok-reserve.ensures.ok, ap length items)))
