@@ -36,13 +36,15 @@ module _ {X : Type 0} (n : ℕ) (v : X) where
     where
       by : (b : Bool) → IsSome (cond b (Some e.1) (lookup (nat_eq n) es))
           → (IsSome (lookup (nat_eq n) es) → insert_entry nat_eq es n v ≡ set_value (nat_eq n) es v)
-          → cond b ((e.0, v) ∷ es) (e ∷ insert_entry nat_eq es n v) ≡ cond b ((e.0, v) ∷ es) (e ∷ set_value (nat_eq n) es v)
+          → cond b ((e.0, v) ∷ es) (e ∷ insert_entry nat_eq es n v)
+          ≡ cond b ((e.0, v) ∷ es) (e ∷ set_value (nat_eq n) es v)
       by true there rest = refl
       by false there rest = ap (λ l. e ∷ l) (rest there)
 
   module _ (log : List (ℕ × X)) where
     noted_push : noted (log ++ (n, v) ∷ []) ≡ insert_entry nat_eq (noted log) n v
-    noted_push = fold-append (λ (done : List (ℕ × X)) (p : ℕ × X). insert_entry nat_eq done p.0 p.1) [] log ((n, v) ∷ [])
+    noted_push =
+        fold-append (λ (done : List (ℕ × X)) (p : ℕ × X). insert_entry nat_eq done p.0 p.1) [] log ((n, v) ∷ [])
 
     -- the entries after one more was put
     pub noted_new : lookup (nat_eq n) (noted log) ≡ None → noted (log ++ (n, v) ∷ []) ≡ noted log ++ (n, v) ∷ []
@@ -96,7 +98,8 @@ set_value-twice n v w (e ∷ es) = by (nat_eq n e.0) refl (set_value-twice n v w
         ≡ cond b ((e.0, w) ∷ es) (e ∷ set_value (nat_eq n) es w)
     by true at rest = ap (λ b. cond b ((e.0, w) ∷ es) ((e.0, v) ∷ set_value (nat_eq n) es w)) at
     by false at rest =
-        ap (λ b. cond b ((e.0, w) ∷ set_value (nat_eq n) es v) (e ∷ set_value (nat_eq n) (set_value (nat_eq n) es v) w)) at
+        ap (λ b. cond b ((e.0, w) ∷ set_value (nat_eq n) es v)
+        (e ∷ set_value (nat_eq n) (set_value (nat_eq n) es v) w)) at
         ∙ ap (λ l. e ∷ l) rest
 
 module _ {X : Type 0} (lives : X → Bool) where
@@ -220,7 +223,8 @@ module _ {X : Type 0} (lives : X → Bool) where
             ∙ sum_by-set_value weigh (nat_eq n) e.entries s w stood.0
 
         apart : IsDistinct nat_eq (keys_of e'.entries)
-        apart = subst (IsDistinct nat_eq) (sym (ap keys_of entries ∙ keys-set_value (nat_eq n) e.entries w)) are.distinct
+        apart =
+            subst (IsDistinct nat_eq) (sym (ap keys_of entries ∙ keys-set_value (nat_eq n) e.entries w)) are.distinct
 
         -- an entry in memory is set to a value that is live
         pub live_set : lives w ≡ true → e'.live ≡ set_value (nat_eq n) e.live w → AreLive lives e'
@@ -241,7 +245,8 @@ module _ {X : Type 0} (lives : X → Bool) where
             there' q =
                 ap (lookup (nat_eq q)) live ∙ lookup-set e.live n w (ap is_some was) q
                 ∙ by (nat_eq n q)
-                ∙ sym (ap (kept_if lives) (ap (lookup (nat_eq q)) entries ∙ lookup-set e.entries n w (ap is_some stood.0) q))
+                ∙ sym (ap (kept_if lives)
+                (ap (lookup (nat_eq q)) entries ∙ lookup-set e.entries n w (ap is_some stood.0) q))
               where
                 by : (b : Bool) → cond b (Some w) (lookup (nat_eq q) e.live)
                     ≡ kept_if lives (cond b (Some w) (lookup (nat_eq q) e.entries))
@@ -268,7 +273,8 @@ module _ {X : Type 0} (lives : X → Bool) where
             there' q =
                 live q
                 ∙ by (nat_eq n q)
-                ∙ sym (ap (kept_if lives) (ap (lookup (nat_eq q)) entries ∙ lookup-set e.entries n w (ap is_some stood.0) q))
+                ∙ sym (ap (kept_if lives)
+                (ap (lookup (nat_eq q)) entries ∙ lookup-set e.entries n w (ap is_some stood.0) q))
               where
                 by : (b : Bool) → cond b None (lookup (nat_eq q) e.live)
                     ≡ kept_if lives (cond b (Some w) (lookup (nat_eq q) e.entries))

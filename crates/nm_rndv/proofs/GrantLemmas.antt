@@ -235,7 +235,8 @@ module _ (n : ℕ) (w : Granted) where
       by true is false at first there rest =
           let same : e.1 ≡ g = cc in absurd (true≢false (sym opens ∙ ap is_open (sym same) ∙ at))
       by false is true at first there rest =
-          let same : e.0 ≡ n = ap {B = ℕ} (λ o. option_map_or (λ (p : ℕ × Granted). p.0) o 0) first in absurd (true≢false (sym (eq_true n e.0 (sym same)) ∙ is))
+          let same : e.0 ≡ n = ap {B = ℕ} (λ o. option_map_or (λ (p : ℕ × Granted). p.0) o 0) first in
+          absurd (true≢false (sym (eq_true n e.0 (sym same)) ∙ is))
       by false is false at first there rest =
           ap (λ c. keys_of (cond c (e ∷ filter is_unfinished (set_value (nat_eq n) es w))
           (filter is_unfinished (set_value (nat_eq n) es w)))) at

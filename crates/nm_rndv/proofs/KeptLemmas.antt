@@ -115,7 +115,8 @@ module _ (ds : List Destined) (order : List (ℕ × ℕ)) (first reserved room :
   -- one message more that waits
   pub kept_asked : (body : Body) → state_in d n ≡ None →
       ((q : ℕ) → state_in d' q ≡ cond (nat_eq n q) (Some (Asked body)) (state_in d q)) → d' ≡ with_asked d n body →
-      (room' : ℕ) → length order + (reserved + 1) ≤ room' → OffersInvariant (set ds to d') order first (reserved + 1) room'
+      (room' : ℕ) → length order + (reserved + 1) ≤ room' →
+      OffersInvariant (set ds to d') order first (reserved + 1) room'
   kept_asked body was states is room' fits =
       let changes = state_changes ds to within d at d' n (Asked body) states in
       let count : waiting_in d' ≡ waiting_in d + 1 = ap waiting_in is ∙ waiting-asked d n body in
@@ -225,7 +226,8 @@ module _ (ds : List Destined) (order : List (ℕ × ℕ)) (first reserved room :
 
       -- after one piece more of a message that leaves
       pub kept_popped : weight s ≡ 0 → is_leaving s ≡ true → (first' : ℕ) →
-          first' ≡ position_or_len (leaves (set ds to d')) order → OffersInvariant (set ds to d') order first' reserved room
+          first' ≡ position_or_len (leaves (set ds to d')) order →
+          OffersInvariant (set ds to d') order first' reserved room
       kept_popped waits left first' is =
           let count = waiting-set_value d d' n s (leaving_or_out o) was entries in
           record {

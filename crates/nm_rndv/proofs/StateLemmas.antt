@@ -227,10 +227,12 @@ pub with_step-set : (d : Destined) (n : ℕ) (step : State → State) (s : State
 with_step-set d n step s was asked is = rw (is, was) refl
 
 -- a message that waits has its body, and so has one that leaves
-pub waiting_has_body : (o : Option State) → option_map_or is_waiting o false ≡ true → option_map_or has_body o false ≡ true
+pub waiting_has_body : (o : Option State) → option_map_or is_waiting o false ≡ true →
+    option_map_or has_body o false ≡ true
 waiting_has_body o h = ap (λ x. option_map_or has_body x false) (waiting_is_asked o h).1
 
-pub leaving_has_body : (o : Option State) → option_map_or is_leaving o false ≡ true → option_map_or has_body o false ≡ true
+pub leaving_has_body : (o : Option State) → option_map_or is_leaving o false ≡ true →
+    option_map_or has_body o false ≡ true
 leaving_has_body o h = ap (λ x. option_map_or has_body x false) (leaving_is_cleared o h).1
 
 -- one without a body neither waits nor leaves

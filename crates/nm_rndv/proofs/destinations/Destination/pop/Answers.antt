@@ -15,7 +15,8 @@ returns-clause-step c =
     let d : Destined = record { asked = a.asked.entries; recalls = a.recalls.entries } in
     let entries = c.set.ensures.entries ∙ c.lift-state.ensures.others c.pop.new.self
     ∙ ap (set_value (nat_eq c.args.n) a.asked.entries) c.pop.ensures in
-    rw (← c.self.view_is) (with_step-set d c.args.n after_piece c.lift-state.result c.lift-state.ensures.value _ entries)
+    rw (← c.self.view_is)
+    (with_step-set d c.args.n after_piece c.lift-state.result c.lift-state.ensures.value _ entries)
 
 pub returns-clause-out : goal.returns-clause-out
 returns-clause-out c =

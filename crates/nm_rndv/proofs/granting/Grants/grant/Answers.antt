@@ -1,7 +1,8 @@
 use Rattle.std.proofs.Common.{ℕ, ◌≡◌, ◌++◌, [], ◌∷◌, cond, ap, ◌∙◌, arith}
 use Rattle.std.proofs.lemmas.Result.{on_ok_weaker, on_err_weaker}
 use Rattle.nm_rndv.specs.Grants.{fresh, grants_from}
-use Rattle.nm_rndv.proofs.SenderLemmas.{count-set, counted_there, counted_within, grants_there, grants-set, grants-set_same}
+use Rattle.nm_rndv.proofs.SenderLemmas.{count-set, counted_there, counted_within, grants_there, grants-set}
+use Rattle.nm_rndv.proofs.SenderLemmas.{grants-set_same}
 use Rattle.nm_rndv.proofs.SenderLemmas.{ready_for_there, ready_there}
 use Rattle.nm_rndv.proofs.granting.Grants.grant.Goals as goal
 

@@ -1,4 +1,4 @@
-use Rattle.std.proofs.Common.{◌≡◌, ◌+◌, ◌<◌, ℕ, None, length, sym, ap, ◌∙◌, arith}
+use Rattle.std.proofs.Common.{◌≡◌, ◌<◌, ℕ, None, length, sym, ap, ◌∙◌, arith}
 use Rattle.nm_kept.specs.Keeping.{Keeping}
 use Rattle.nm_rndv.specs.Offers.{Offering, state_in, state_at}
 use Rattle.nm_rndv.proofs.KeptLemmas.{kept_asked}

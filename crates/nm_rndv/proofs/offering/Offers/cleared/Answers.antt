@@ -26,7 +26,8 @@ push_reserved-requires c =
     let within = within_here ds a.order.items c.args.self.now c.self.view_is c.args.to c.requires.in_range in
     let was = asked_here ds a.order.items c.args.self.now c.self.view_is c.args.to c.requires.in_range d at c.args.n
     c.requires.asked in
-    let entries = asked-with_step d c.clear-is_out.new.self c.args.n after_clearance (Asked was.0) was.1 c.clear-is_out.ensures.step in
+    let entries = asked-with_step d c.clear-is_out.new.self c.args.n after_clearance (Asked was.0) was.1
+    c.clear-is_out.ensures.step in
     let some' = room_reserved ds a.order.items a.order.forgotten a.reserved _ c.self.invariant c.args.to within d at
     c.clear-is_out.new.self c.args.n (Asked was.0) (start_of was.0) was.1 entries refl in
     omega (arith, some', c.self.invariant.fits)
@@ -40,9 +41,10 @@ overflow_sub-self c =
     let within = within_here ds a.order.items c.args.self.now c.self.view_is c.args.to c.requires.in_range in
     let was = asked_here ds a.order.items c.args.self.now c.self.view_is c.args.to c.requires.in_range d at c.args.n
     c.requires.asked in
-    let entries = asked-with_step d c.clear-is_out.new.self c.args.n after_clearance (Asked was.0) was.1 c.clear-is_out.ensures.step in
-    room_reserved ds a.order.items a.order.forgotten a.reserved _ c.self.invariant c.args.to within d at c.clear-is_out.new.self
-    c.args.n (Asked was.0) (start_of was.0) was.1 entries refl
+    let entries = asked-with_step d c.clear-is_out.new.self c.args.n after_clearance (Asked was.0) was.1
+    c.clear-is_out.ensures.step in
+    room_reserved ds a.order.items a.order.forgotten a.reserved _ c.self.invariant c.args.to within d at
+    c.clear-is_out.new.self c.args.n (Asked was.0) (start_of was.0) was.1 entries refl
 
 pub let_go-requires : goal.let_go-requires
 let_go-requires c =
@@ -53,9 +55,10 @@ let_go-requires c =
     let within = within_here ds a.order.items c.args.self.now c.self.view_is c.args.to c.requires.in_range in
     let was = asked_here ds a.order.items c.args.self.now c.self.view_is c.args.to c.requires.in_range d at c.args.n
     c.requires.asked in
-    let entries = asked-with_step d c.clear-is_out.new.self c.args.n after_clearance (Asked was.0) was.1 c.clear-is_out.ensures.step in
-    let low = low_then ds a.order.items a.order.forgotten a.reserved _ c.self.invariant c.args.to within d at c.clear-is_out.new.self
-    c.args.n (Asked was.0) (start_of was.0) was.1 entries (λ h. absurd (true≢false (sym h)))
+    let entries = asked-with_step d c.clear-is_out.new.self c.args.n after_clearance (Asked was.0) was.1
+    c.clear-is_out.ensures.step in
+    let low = low_then ds a.order.items a.order.forgotten a.reserved _ c.self.invariant c.args.to within d at
+    c.clear-is_out.new.self c.args.n (Asked was.0) (start_of was.0) was.1 entries (λ h. absurd (true≢false (sym h)))
     ((c.args.to, c.args.n) ∷ []) in
     rw (c.deref.ensures.value, c.push_reserved.ensures) low
 
@@ -68,7 +71,8 @@ invariant_of-self c =
     let within = within_here ds a.order.items c.args.self.now c.self.view_is c.args.to c.requires.in_range in
     let was = asked_here ds a.order.items c.args.self.now c.self.view_is c.args.to c.requires.in_range d at c.args.n
     c.requires.asked in
-    let entries = asked-with_step d c.clear-is_out.new.self c.args.n after_clearance (Asked was.0) was.1 c.clear-is_out.ensures.step in
+    let entries = asked-with_step d c.clear-is_out.new.self c.args.n after_clearance (Asked was.0) was.1
+    c.clear-is_out.ensures.step in
     let first' = rw (c.deref.ensures.value, c.push_reserved.ensures) at c.let_go.ensures.first in
     let kept = kept_cleared ds a.order.items a.order.forgotten a.reserved _ c.self.invariant c.args.to within d at
     c.clear-is_out.new.self c.args.n (Asked was.0) (start_of was.0) was.1 entries
@@ -86,7 +90,8 @@ returns-clause-empty c =
     c.requires.in_range d at c.args.n in
     let was = asked_here a.destinations.items a.order.items c.args.self.now c.self.view_is c.args.to
     c.requires.in_range d at c.args.n c.requires.asked in
-    let state = state-with_step d c.clear-is_out.new.self c.args.n after_clearance (Asked was.0) was.1 c.clear-is_out.ensures.step in
+    let state = state-with_step d c.clear-is_out.new.self c.args.n after_clearance (Asked was.0) was.1
+    c.clear-is_out.ensures.step in
     let is : c.clear-is_out.result ≡ is_out (leaving_or_out (start_of was.0)) =
     c.clear-is_out.ensures.out ∙ ap (λ o. option_map_or is_out o false) state in
     let many : asked_len c.args.self.now c.args.to c.args.n ≡ body_len was.0 =

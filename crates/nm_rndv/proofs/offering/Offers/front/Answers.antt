@@ -19,7 +19,8 @@ returns-clause-leaves c =
     let is : c.first_in.result ≡ slice_get a.order.items a.order.forgotten = c.first_in.ensures in
     if_each (λ m. leaves c.args.self.now.destinations m ≡ true) c.first_in.result
     (λ m e. ap (λ (v : Offering). leaves v.destinations m) (sym c.self.view_is)
-    ∙ passes_there (leaves a.destinations.items) a.order.items a.order.forgotten m c.self.invariant.first_is (sym is ∙ e))
+    ∙ passes_there (leaves a.destinations.items) a.order.items a.order.forgotten m c.self.invariant.first_is
+    (sym is ∙ e))
 
 pub returns-clause-in_range : goal.returns-clause-in_range
 returns-clause-in_range c =

@@ -35,7 +35,8 @@ let_go-requires c =
     let seen' = leaving_within c.args.self.now.destinations m left in
     let was = leaving_here ds a.order.items c.args.self.now c.self.view_is m.0 seen' d at m.1 left in
     let within = within_here ds a.order.items c.args.self.now c.self.view_is m.0 seen' in
-    let entries = asked-with_step d c.pop-is_out.new.self m.1 after_piece (Cleared was.0) was.1 c.pop-is_out.ensures.step in
+    let entries = asked-with_step d c.pop-is_out.new.self m.1 after_piece (Cleared was.0) was.1
+    c.pop-is_out.ensures.step in
     rw (c.deref.ensures.value, ← append-nil a.order.items)
     (low_then ds a.order.items a.order.forgotten a.reserved _ c.self.invariant m.0 within d at c.pop-is_out.new.self m.1
     (Cleared was.0) (rest_of was.0) was.1 entries (λ _. refl) [])
@@ -52,7 +53,8 @@ invariant_of-self c =
     let seen' = leaving_within c.args.self.now.destinations m left in
     let was = leaving_here ds a.order.items c.args.self.now c.self.view_is m.0 seen' d at m.1 left in
     let within = within_here ds a.order.items c.args.self.now c.self.view_is m.0 seen' in
-    let entries = asked-with_step d c.pop-is_out.new.self m.1 after_piece (Cleared was.0) was.1 c.pop-is_out.ensures.step in
+    let entries = asked-with_step d c.pop-is_out.new.self m.1 after_piece (Cleared was.0) was.1
+    c.pop-is_out.ensures.step in
     let first' = rw c.deref.ensures.value at c.let_go.ensures.first in
     let kept = kept_popped ds a.order.items a.order.forgotten a.reserved _ c.self.invariant m.0 within d at
     c.pop-is_out.new.self m.1 (Cleared was.0) (rest_of was.0) was.1 entries
@@ -70,7 +72,8 @@ returns-clause-last c =
     c.front.ensures.leaves in
     let seen' = leaving_within c.args.self.now.destinations m left in
     let was = leaving_here ds a.order.items c.args.self.now c.self.view_is m.0 seen' d at m.1 left in
-    let state = state-with_step d c.pop-is_out.new.self m.1 after_piece (Cleared was.0) was.1 c.pop-is_out.ensures.step in
+    let state = state-with_step d c.pop-is_out.new.self m.1 after_piece (Cleared was.0) was.1
+    c.pop-is_out.ensures.step in
     let seen-state = state_seen ds a.order.items c.args.self.now c.self.view_is m.0 seen' d at m.1 in
     let is : c.pop-is_out.result ≡ is_out (after_piece (Cleared was.0)) =
     c.pop-is_out.ensures.out ∙ ap (λ o. option_map_or is_out o false) state in

@@ -3,7 +3,8 @@ use Rattle.std.proofs.Common.{◌≡◌, ◌<◌, ◌∙◌, ℕ, Bool, true, fa
 use Rattle.std.proofs.lemmas.List.{get_or_read}
 use Rattle.std.specs.Option.{option_map_or}
 use Rattle.nm_rndv.specs.declared.asked.State.{State}
-use Rattle.nm_rndv.specs.Offers.{Destined, Offering, is_recalled, is_unanswered, is_waiting, recall_in, state_in, untold}
+use Rattle.nm_rndv.specs.Offers.{Destined, Offering, is_recalled, is_unanswered, is_waiting, recall_in}
+use Rattle.nm_rndv.specs.Offers.{state_in, untold}
 use Rattle.nm_rndv.proofs.KeptLemmas.{kept_answered}
 use Rattle.nm_rndv.proofs.StateLemmas.{place_of, place_reserved}
 use Rattle.nm_rndv.proofs.offering.Offers.withdrawn.Goals as goal

@@ -29,7 +29,8 @@ invariant_of-self c =
     record {
       live = c.set.ensures.live;
       numbers = c.close_if.ensures.items
-          ∙ ap (λ b. cond (not b) (drop 1 c.self.inside.unfinished.items) c.self.inside.unfinished.items) c.is_open-is_open.ensures
+          ∙ ap (λ b. cond (not b) (drop 1 c.self.inside.unfinished.items) c.self.inside.unfinished.items)
+          c.is_open-is_open.ensures
           ∙ ap (λ ns. cond (not (is_open w)) (drop 1 ns) ns) c.self.invariant.numbers
           ∙ sym (ap open_in entries ∙ open_set n w es e.0 e.1 e.2 e.3);
     }
