@@ -10,7 +10,7 @@ pub mod NextLemmas
 mod PacketLemmas
 mod PageLemmas
 pub mod PlaceLemmas
-mod PlayLemmas
+pub mod PlayLemmas
 mod SameLemmas
 mod SparseLemmas
 mod StartLemmas

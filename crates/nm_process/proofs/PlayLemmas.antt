@@ -1,14 +1,17 @@
 -- What a program gives.
-use Rattle.std.proofs.Common.{◌≡◌, ℕ, ◌+◌, ◌≤◌, ◌==◌, zero, suc, Bool, true, false, cond, Option, Some, None}
+use Rattle.std.proofs.Common.{◌≡◌, ℕ, ◌+◌, ◌<◌, ◌≤◌, ◌==◌, zero, suc, Bool, true, false, cond, Option, Some, None}
 use Rattle.std.proofs.Common.{List, [], ◌∷◌, ◌++◌, length, refl, sym, ◌∙◌, ap, subst, arith, append_assoc, append-nil}
-use Rattle.std.specs.Prelude.{MatchOption, option_map, option_to_list}
+use Rattle.std.specs.Prelude.{IfSome, MatchOption, option_map, option_to_list}
 use Rattle.std.specs.Option.{option_map_or, option_or}
-use Rattle.std.specs.List.{find, slice_get}
+use Rattle.std.specs.List.{AllByRecursion, find, slice_get}
 use Rattle.std.proofs.lemmas.Bool.Decides.{nat_tests}
 use Rattle.nm_types.specs.declared.answers.Answer.{Answer}
 use Rattle.nm_types.specs.declared.scripts.Command.{Command}
+use Rattle.nm_types.proofs.ListLemmas.{all_append}
 use Rattle.nm_types.specs.Commands.{Numbered, command_at}
-use Rattle.nm_process.specs.Playing.{GivenView, HasPlayed, IsCounted, IsFront, IsPlayed, Talked, all_numbered, gives_on, numbered_at}
+use Rattle.nm_types.specs.Limits.{is_in_range}
+use Rattle.nm_process.specs.Playing.{AllInRange, GivenView, HasPlayed, IsCounted, IsFront, IsPlayed, Talked, all_numbered}
+use Rattle.nm_process.specs.Playing.{gives_on, numbered_at}
 use Rattle.nm_process.specs.Sources.{GivesSome, PassedOn}
 use Rattle.nm_process.specs.Work.{IsNext}
 
@@ -105,7 +108,43 @@ given_past n [] k many = refl
 given_past n (y ∷ ys) zero many = absurd (omega (arith, many))
 given_past n (y ∷ ys) (suc k) many = given_past (n + 1) ys k (omega (arith, many))
 
+-- the line of the command that has not run is that at which its rank waits
+waits_at : (given : List Command) (at : ℕ) (next : Option Command) → IsCounted given next at →
+    option_map (λ (c : Numbered). c.line) (slice_get (all_numbered 2 given) at)
+    ≡ option_map (λ (x : Command). at + 2) next
+waits_at given at None many =
+    ap (λ (o : Option Numbered). option_map (λ (c : Numbered). c.line) o) (given_past 2 given at many)
+waits_at given at (Some x) here =
+    ap (λ (cs : List Numbered). option_map (λ (c : Numbered). c.line) (slice_get cs at))
+    (sym (append-nil (all_numbered 2 given)))
+    ∙ ap (λ (o : Option Numbered). option_map (λ (c : Numbered). c.line) o) (numbered_get 2 given at x [] here.0)
+    ∙ ap (λ (k : ℕ). Some k) (omega arith)
+
+-- commands in range are so with their lines
+pub numbered_in_range : (n ranks : ℕ) (given : List Command) → AllInRange ranks given →
+    AllByRecursion (λ (c : Numbered). is_in_range ranks c.command ≡ true) (all_numbered n given)
+numbered_in_range n ranks [] all = tt
+numbered_in_range n ranks (x ∷ xs) all = (all.0, numbered_in_range (n + 1) ranks xs all.1)
+
+-- one more was given that may run, or none
+pub in_range_more : (ranks at : ℕ) (stray : Option Command) (given : List Command) (next : Option Command) →
+    AllInRange ranks given →
+    IfSome next (λ x. (is_in_range ranks x ≡ true) × (at < 4294967290) × (stray ≡ None)) →
+    AllInRange ranks (given ++ option_to_list next)
+in_range_more ranks at stray given next all runs =
+    all_append (λ (x : Command). is_in_range ranks x ≡ true) given (option_to_list next) all (one next runs) where
+      one : (o : Option Command) → IfSome o (λ x. (is_in_range ranks x ≡ true) × (at < 4294967290) × (stray ≡ None)) →
+          AllInRange ranks (option_to_list o)
+      one None runs = tt
+      one (Some x) runs = (runs.0, tt)
+
 module _ {P : Type 0} where
+  -- so it is with a program that gave a command last
+  pub waits_given : (g : GivenView P) → IsCounted g.given g.next g.at →
+      option_map (λ (c : Numbered). c.line) (slice_get (all_numbered 2 g.given) g.at)
+      ≡ option_map (λ (x : Command). g.at + 2) g.next
+  waits_given g counted = waits_at g.given g.at g.next counted
+
   -- at its end a program gives no more
   pub ended_given : (g : GivenView P) (commands : List Numbered) (last : ℕ) → g.next ≡ None →
       IsCounted g.given g.next g.at → gives_on g commands last → slice_get commands g.at ≡ None

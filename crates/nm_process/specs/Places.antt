@@ -37,13 +37,14 @@ pub record IsPlaced (s : ScriptedView) : Type 0 where
   pub own : IsOwnLine s.lines s.me s.next
 
 -- the command after those that ran, if there is one
-abbrev pub shown : ScriptedView → SourceView
+abbrev pub shown : ScriptedView → SourceView (Unit {0})
 shown s =
     record {
       at = s.at;
       ranks = s.ranks;
       next = option_map (λ c. c.command) (slice_get (commands_of s.me s.lines) s.at);
       told = None;
+      begun = tt;
     }
 
 -- it gives the rank's commands in the script

@@ -1,10 +1,11 @@
 -- What a program gives, one command after another.
-use Rattle.std.specs.Prelude.{if◌then◌else◌, Bool, ◌≡◌, ℕ, ◌+◌, MatchOption, Option, Some, None, option_to_list, List, [], ◌∷◌, ◌++◌, length}
-use Rattle.std.specs.List.{slice_get}
+use Rattle.std.specs.Prelude.{if◌then◌else◌, Bool, true, ◌≡◌, ◌≤◌, ℕ, ◌+◌, MatchOption, Option, Some, None, option_to_list, List, [], ◌∷◌, ◌++◌, length}
+use Rattle.std.specs.List.{AllByRecursion, slice_get}
 use Rattle.std.specs.Option.{option_or}
 use Rattle.nm_types.specs.declared.answers.Answer.{Answer}
 use Rattle.nm_types.specs.declared.scripts.Command.{Command}
 use Rattle.nm_types.specs.Commands.{Numbered}
+use Rattle.nm_types.specs.Limits.{is_in_range}
 use Rattle.nm_process.specs.Sources.{SourceView}
 
 -- What contracts see of a source that asks a program: among how many ranks its commands are in range, the
@@ -40,9 +41,24 @@ abbrev pub IsCounted : List Command → Option Command → ℕ → Type 0
 IsCounted given next at =
     MatchOption next (length given ≡ at) (λ x. slice_get given at ≡ Some x × (length given ≡ at + 1))
 
+-- each of these commands is in range among so many ranks
+abbrev pub AllInRange : ℕ → List Command → Type 0
+AllInRange ranks given = AllByRecursion (λ x. is_in_range ranks x ≡ true) given
+
+-- after so many this command never runs: where it is in range, there is no line for it
+abbrev pub NeverRuns : ℕ → ℕ → Command → Type 0
+NeverRuns ranks at x = is_in_range ranks x ≡ true → 4294967290 ≤ at
+
 -- how many ran, and the next one
-abbrev pub shown_by : {P : Type 0} → GivenView P → SourceView
-shown_by g = record { at = g.at; ranks = g.ranks; next = g.next; told = if g.failed then None else Some g.told }
+abbrev pub shown_by : {P : Type 0} → GivenView P → SourceView (List P)
+shown_by g =
+    record {
+      at = g.at;
+      ranks = g.ranks;
+      next = g.next;
+      told = if g.failed then None else Some g.told;
+      begun = g.start;
+    }
 
 -- It goes on to give whatever commands begin with those that it gave; at its end these alone. So nothing is
 -- to be shown again when it gives one more.

@@ -6,12 +6,14 @@ use Rattle.nm_types.specs.Commands.{Numbered}
 use Rattle.nm_process.specs.Work.{IsNext}
 
 -- What contracts see of it: how many of its commands ran, among how many ranks its commands are in range,
--- which command is next, if there is one, and the answers that it was told, if it is told any.
-pub record SourceView : Type 0 where
+-- which command is next, if there is one, the answers that it was told, if it is told any, and what it was at
+-- first.
+pub record SourceView (B : Type 0) : Type 0 where
   pub at : ℕ
   pub ranks : ℕ
   pub next : Option Command
   pub told : Option (List Answer)
+  pub begun : B
 
 -- Before the command after the first `at` of these ran, it gave them too, and the line of that command is
 -- not past this one.

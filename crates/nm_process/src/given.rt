@@ -5,7 +5,7 @@ ghost use Rattle.std.specs.Option.{option_or};
 ghost use Rattle.std.specs.Prelude.{IfSome, IsSome, MatchOption, OnOk, option_map, option_to_list, slice_get};
 ghost use Rattle.nm_types.specs.Limits.{is_in_range};
 ghost use Rattle.nm_process.specs.LastAnswer.{last_answer as last_answer_lem};
-ghost use Rattle.nm_process.specs.Playing.{IsPlayed, gives_on, shown_by};
+ghost use Rattle.nm_process.specs.Playing.{AllInRange, HasPlayed, IsCounted, NeverRuns, gives_on, shown_by};
 
 use crate::programs::Program;
 use crate::ranges::in_range;
@@ -42,7 +42,7 @@ pub struct Given<P: Program> {
 impl<P: Program> Model for Given<P> {
     ghost use Rattle.std.specs.Prelude.{◌≡◌, ◌<◌, ◌≤◌, None, true, false, IfSome};
     ghost use Rattle.nm_types.specs.Limits.{is_in_range};
-    ghost use Rattle.nm_process.specs.Playing.{GivenView, IsCounted, IsPlayed};
+    ghost use Rattle.nm_process.specs.Playing.{AllInRange, GivenView, IsCounted, IsPlayed, NeverRuns};
 
     ghost Value = { GivenView P };
 
@@ -74,7 +74,20 @@ impl<P: Program> Model for Given<P> {
           given = g.given.items;
           told = g.told.items;
           failed = g.failed;
-        })) };
+        }))
+        × IfSome g.stray (NeverRuns g.ranks g.at)
+        × AllInRange g.ranks g.given.items };
+}
+
+/// A program at the end of a run.
+#[derive(Drop)]
+pub struct Played<P> {
+    /// The program as it was left.
+    pub program: P,
+    /// The command in which its rank waits, if it waits.
+    pub next: Option<Command>,
+    /// A command that never ran, since it is out of range or there was no line for it.
+    pub stray: Option<Command>,
 }
 
 // The answer of the last event, if that is an answer.
@@ -94,7 +107,8 @@ fn last_answer(rank: &Rank) -> Option<&Answer>
 
 // Whether a command may run after so many.
 fn may_run(command: &Command, ranks: u8, at: u32) -> bool
-    ensures { result ≡ true → (is_in_range ranks command.now ≡ true) × (at < 4294967290) }
+    ensures runs { result ≡ true → (is_in_range ranks command.now ≡ true) × (at < 4294967290) }
+    ensures never { result ≡ false → NeverRuns ranks at command.now }
 {
     at < LAST && in_range(ranks, command)
 }
@@ -123,24 +137,37 @@ impl<P: Program> Given<P> {
         })
     }
 
-    /// The program as it was left, and the command that never ran, since it is out of range or there was no
-    /// line for it.
-    pub fn into_parts(self) -> (P, Option<Command>)
-        ensures left { (result.0 ≡ self.program) × (result.1 ≡ self.stray) }
-        ensures played { self.failed ≡ false → IsPlayed P.says self }
+    /// The program as it was left, and its commands that did not run.
+    ///
+    /// From its start on it was told exactly the answers of the commands that ran, and gave exactly these
+    /// commands, and then the one that did not run, if there is one.
+    pub fn into_parts(self) -> Played<P>
+        ensures left { (result.program ≡ self.program) × (result.next ≡ self.next)
+            × (result.stray ≡ self.stray) }
+        ensures played { self.failed ≡ false → (start : P) → self.start ≡ start ∷ [] →
+            HasPlayed P.says start self.told self.program (option_or self.stray self.next)
+            (self.given ++ option_to_list self.stray) }
+        ensures counted { IsCounted self.given self.next self.at }
+        ensures next { IfSome self.next (λ x. self.stray ≡ None) }
+        ensures stray { IfSome self.stray (NeverRuns self.ranks self.at) }
+        ensures in_range { AllInRange self.ranks self.given }
     {
         let Given {
             ranks: _,
             start: _,
             program,
-            next: _,
+            next,
             stray,
             at: _,
             given: _,
             told: _,
             failed: _,
         } = self;
-        (program, stray)
+        Played {
+            program,
+            next,
+            stray,
+        }
     }
 }
 
@@ -148,6 +175,7 @@ impl<P: Program> Given<P> {
 fn sorted(command: Option<Command>, ranks: u8, at: u32) -> (Option<Command>, Option<Command>)
     ensures runs { IfSome result.0 (λ x. (is_in_range ranks x ≡ true) × (at < 4294967290)
         × (result.1 ≡ None)) }
+    ensures never { IfSome result.1 (NeverRuns ranks at) }
     ensures same { (option_or result.1 result.0 ≡ command)
         × (option_to_list result.0 ++ option_to_list result.1 ≡ option_to_list command) }
 {
@@ -178,6 +206,8 @@ fn put(place: &mut Option<Command>, command: Option<Command>)
 }
 
 impl<P: Program> Source for Given<P> {
+    ghost Begun = { List P };
+
     ghost shows = { shown_by };
 
     ghost gives = { gives_on };

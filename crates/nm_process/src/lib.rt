@@ -5,7 +5,8 @@
 //! ranks to its rank; whoever runs it carries these between ranks. MPI 3.1, sections 3.2 and 3.4 (sends
 //! and receives), 3.7 (requests) and 3.8 (probes and cancels).
 //!
-//! A `Source` gives a rank its commands, one after another: a `Scripted` those of a rank of a script.
+//! A `Source` gives a rank its commands, one after another: a `Scripted` those of a rank of a script, a `Given`
+//! those of a `Program`, which is told each answer.
 //!
 //! # What a contract sees
 //! A `ProcessView`: the view of the rank, how many commands ran, and what each name and each handle stands
@@ -20,6 +21,7 @@
 //!   or the command can't go on: clauses `stepped` and `waits`.
 //! - A source gives each command in order, with its line, and none again: clauses `next` and `pass` of
 //!   `Source`, which a `Scripted` meets with the commands of its rank in the script.
+//! - A program is told exactly the answers of its commands, one after another (`Given::into_parts`: `played`).
 #![tactic(auto)]
 
 mod commands;
@@ -35,8 +37,8 @@ pub mod scripted;
 pub mod sources;
 mod steps;
 
+pub use given::{Given, Played};
 pub use processes::{Leavings, Process};
-pub use given::Given;
 pub use programs::Program;
 pub use sources::Source;
 pub use steps::{Handle, Step, looks};

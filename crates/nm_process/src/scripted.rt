@@ -82,6 +82,8 @@ impl<'a> Scripted<'a> {
 }
 
 impl<'a> Source for Scripted<'a> {
+    ghost Begun = { Unit {0} };
+
     ghost shows = { shown };
 
     ghost gives = { gives_lines };

@@ -13,8 +13,11 @@ use nm_types::{Command, Memory};
 
 /// What gives a rank its commands, one after another, each with a line of its own. The lines rise.
 pub trait Source: Drop {
+    // What it was at first, as far as contracts tell.
+    ghost Begun: { Type 0 };
+
     // What contracts see of it.
-    ghost shows: { Self → SourceView };
+    ghost shows: { Self → SourceView Begun };
 
     // It may give these commands in all, and none of those that ran has a line past this one.
     ghost gives: { Self → List Numbered → ℕ → Type 0 };
@@ -42,6 +45,7 @@ pub trait Source: Drop {
         ensures gives { OnOk result ((commands : List Numbered) (last : ℕ) →
             gives self.new commands last →
             PassedOn (gives self.old) commands (shows self.old).at last) }
+        ensures begun { OnOk result ((shows self.new).begun ≡ (shows self.old).begun) }
         ensures told { OnOk result ((shows self.new).told
             ≡ option_map (λ answers. answers ++ option_to_list (last_answer rank.now.events))
             (shows self.old).told) };

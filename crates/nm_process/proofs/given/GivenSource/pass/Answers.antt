@@ -4,9 +4,9 @@ use Rattle.std.specs.Prelude.{IfSome, IsSome, option_to_list}
 use Rattle.std.specs.Option.{option_or}
 use Rattle.nm_types.specs.Limits.{is_in_range}
 use Rattle.nm_types.specs.declared.scripts.Command.{Command}
-use Rattle.nm_process.specs.Playing.{GivenView, IsCounted, gives_on}
+use Rattle.nm_process.specs.Playing.{AllInRange, GivenView, IsCounted, NeverRuns, gives_on}
 use Rattle.nm_process.specs.Sources.{PassedOn}
-use Rattle.nm_process.proofs.PlayLemmas.{counted_more, counted_some, passed_given, played_more, some_given}
+use Rattle.nm_process.proofs.PlayLemmas.{counted_more, counted_some, in_range_more, passed_given, played_more, some_given}
 use Rattle.nm_process.proofs.given.GivenSource.pass.Goals as goal
 
 is_some : (o : Option Command) → IsSome o → (x : Command) × (o ≡ Some x)
@@ -95,8 +95,7 @@ invariant_of-self-2 g c =
     let all : option_to_list w.next ++ option_to_list w.stray ≡ option_to_list c.in-Ok.command =
     ap (λ (o : Option Command). option_to_list o ++ option_to_list w.stray) next
     ∙ ap (λ (o : Option Command). option_to_list c.sorted-next.result.0 ++ option_to_list o) stray
-    ∙ c.sorted-next.ensures.same.1 in
-    (
+    ∙ c.sorted-next.ensures.same.1 in (
       subst (λ (xs : List Command). IsCounted xs w.next w.at) (sym more) (counted_more v.given w.next v.at many),
       omega (arith, room),
       subst (λ (o : Option Command). IfSome o (λ x. (is_in_range w.ranks x ≡ true) × (w.at < 4294967290)
@@ -105,4 +104,8 @@ invariant_of-self-2 g c =
           × (w.at < 4294967290) × (s ≡ None))) (sym stray) c.sorted-next.ensures.runs),
       λ works. played_more g.P.Program.says v w some.0 c.in-Some.answer.now c.in-Ok.command (c.self.invariant.3 works)
           some.1 low.2 c.in-Ok.ensures.said refl c.then-told.ensures more last all,
+      subst (λ (o : Option Command). IfSome o (NeverRuns w.ranks w.at)) (sym stray) c.sorted-next.ensures.never,
+      subst (λ (xs : List Command). AllInRange w.ranks xs) (sym c.note.ensures)
+          (in_range_more w.ranks w.at c.sorted-next.result.1 v.given c.sorted-next.result.0 c.self.invariant.5
+          c.sorted-next.ensures.runs),
     )
