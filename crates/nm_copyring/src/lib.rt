@@ -1,9 +1,8 @@
 //! The copy ring: pieces of long messages between two ranks, without a queue.
 //!
 //! For each ordered pair of ranks there are four places, which its sender fills in turn and its receiver
-//! empties in turn. Each place has a flag, which is 1 where the place is full, and a slot for the box that a
-//! piece is in. Boxes are exchanged, and no piece is copied: a receiver leaves a box where it takes one out,
-//! and the sender takes that one for its next piece where it puts its own in. No call takes memory.
+//! empties in turn. Each place has a flag, which is 1 if the place is full, and a slot for the box that a
+//! piece is in. Boxes are exchanged, and no piece is copied. No call takes memory.
 //!
 //! ```text
 //!   sender                                                    receiver
@@ -13,28 +12,25 @@
 //!     piece 6    | 4      | 5      | free   | 3      |         piece 3
 //! ```
 //!
-//! The k-th piece of a pair goes through the place k mod 4. A call makes at most two steps, each on one
-//! word, and waits for nobody: where the next place is full, nothing is pushed, and where it is empty,
-//! nothing comes. All flags are atomic, and `steps` counts the steps on them.
+//! The k-th piece of a pair goes through the place k mod 4. A call makes at most two steps, each on one word,
+//! and waits for nobody: if the next place is full, nothing is pushed, and if it is empty, nothing is pulled.
+//! All flags are atomic, and `steps` counts the steps on them.
 //!
 //! # What a contract sees
-//! What a port's seat knows (`knows`): for each rank the list of the pieces that were pushed to it and of
-//! those that were pulled from it, how often its next place was found full, and how often empty. Beside
-//! that what it found where it looked last (`IsFree`, `IsFull`).
+//! What a port's seat knows (`knows`): the pieces that were pushed to each rank and pulled from it, how often
+//! its next place was found full, and how often empty; and what it found at its last look (`IsFree`,
+//! `IsFull`).
 //!
 //! # What is proved
-//! - The rule of the shared table holds between any two steps of any ranks: what was pushed to a rank is
-//!   what that rank pulled, and then what is in the full places, by number.
-//! - `push` puts the piece that it is given behind those that were pushed, or gives it back where it loaded
-//!   the flag of the next place as 1, and then the count of full places rose. `pull` gives the next piece by
-//!   number, or none where it loaded the flag of the next place as 0, and then the count of empty places
-//!   rose.
-//! - `can_push` and `can_pull` load the same flag without a piece: they answer whether the place is the
-//!   caller's, and count it where it isn't. Where it is, the seat knows from this load, and from nothing
-//!   else, that it is, and a push or a pull that follows can't fail.
-//! - After `close` what each rank pulled from another is the beginning of what was pushed to it, at most
-//!   four pieces are left between the two, and `left` is the number of all that are left, which the account
-//!   says wherever it goes.
+//! - The rule of the shared table holds between any two steps of any ranks: what was pushed to a rank is what
+//!   that rank pulled, and then what is in the full places, by number.
+//! - `push` adds its piece to those that were pushed, or gives it back if it loaded the flag of the next
+//!   place as 1, and then the count of full places rose. `pull` gives the next piece by number, or none if it
+//!   loaded that flag as 0, and then the count of empty places rose.
+//! - `can_push` and `can_pull` load the same flag without a piece. After a yes, which only this load gives, a
+//!   push or a pull can't fail.
+//! - After `close` what each rank pulled from another is a prefix of what was pushed to it, at most four
+//!   pieces are left between the two, and `left` counts all that are left.
 #![tactic(auto)]
 
 mod build;

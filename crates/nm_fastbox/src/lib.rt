@@ -1,4 +1,4 @@
-//! Fastboxes: a short parcel from one rank to another in two steps at most (Buntinas, Mercier and Gropp
+//! Fastboxes: a short parcel from one rank to another in at most two steps (Buntinas, Mercier and Gropp
 //! 2006).
 //!
 //! ```text
@@ -9,16 +9,15 @@
 //! ```
 //!
 //! # What a contract sees
-//! What the port knows before and after (`nm_cells`), what the cells in its hand hold, and the
-//! steps.
+//! What the port knows before and after (`nm_cells`), what the cells in its hand hold, and the steps.
 //!
 //! # What is proved
-//! - `put` sends the parcel by box, or gives it back exactly where the next box was found full,
-//!   which `box_full` counts (clauses `puts`, `full`).
-//! - `take` gives the parcel with the awaited number, or nothing exactly where another number was
-//!   found, which `box_miss` counts, and never where a later parcel came and the awaited one didn't
-//!   (clauses `took`, `missed`).
-//! - Each takes 2 word steps where a parcel went or came, and else 1 (clauses `cost`, `bound`).
+//! - `put` sends the parcel by box, or gives it back exactly if the next box was found full, which `box_full`
+//!   counts (clauses `puts`, `full`).
+//! - `take` gives the parcel with the awaited number, or nothing exactly if another number was found, which
+//!   `box_miss` counts, and never after a later parcel came and the awaited one didn't (clauses `took`,
+//!   `missed`).
+//! - Each takes 2 word steps if a parcel moved, else 1 (clauses `cost`, `bound`).
 #![tactic(auto)]
 
 mod moves;

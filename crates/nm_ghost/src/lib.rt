@@ -1,12 +1,12 @@
 //! Lists that only proofs read.
 //!
-//! A `Trace` takes no bytes: what is put into it is known to contracts, and to nothing that runs. A
-//! `Latest` keeps the last item of such a list in memory, and of the others nothing.
+//! A `Trace` takes no bytes: contracts see its items, and the running program has none. A `Latest` keeps only
+//! the last item in memory.
 //!
 //! # What a contract sees
 //! The items, oldest first.
 //! # What is proved
-//! - `Trace::then` and `Latest::push` put one item behind the others.
+//! - `Trace::then` and `Latest::push` append one item.
 //! - `Latest::last` lends the last one.
 #![tactic(auto)]
 

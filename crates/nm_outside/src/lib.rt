@@ -1,26 +1,23 @@
-//! What stands outside: where bytes come from, where they go, and what may hold a rank's turn.
+//! Input and output: where bytes come from, where they go, and what may delay a rank's turn.
 //!
 //! # What a contract sees
-//! A `Source` is the bytes that are left, a `Sink` the bytes that it took, each where it tells
-//! them, and each counts its faults. Of bytes that are not told nothing is said. A `MemorySource`
-//! and a `MemorySink` tell their bytes, and also which of their calls fail. A `RealSource` and a
-//! `RealSink` tell what std knows of theirs: the bytes of a slice, a vector, a cursor or a deque,
-//! also behind a reference, a box or a buffer, and none of standard input, standard output, files
-//! and sockets.
+//! A `Source` is the bytes that are left, a `Sink` the bytes that it took, if it reports them; each counts
+//! its faults. No clause is about bytes that are not reported. A `MemorySource` and a `MemorySink` report
+//! their bytes, and which of their calls fail. A `RealSource` and a `RealSink` report what std knows: the
+//! bytes of a slice, a vector, a cursor or a deque, also through a reference, a box or a buffer, and nothing
+//! of standard input, standard output, files and sockets.
 //! # What is proved
-//! - Where a read or a write fails, its count of faults rose, or stands at its last value, and it
-//!   has moved nothing. Where one succeeds, the count is as it was.
-//! - `read_up_to` gives all that was left, or its first `limit` bytes, and takes no more than these
-//!   whatever it answers. It passes over no failure: the count is as it was, but where it answers
-//!   that a read failed.
-//! - `write_all` has written all, or a front of it where it fails, and passes over no failure.
+//! - If a read or a write fails, its count of faults rose, or is at its last value, and no byte moved. If one
+//!   succeeds, the count is as it was.
+//! - `read_up_to` gives all that was left, or its first `limit` bytes, and never takes more. It ignores no
+//!   failure: the count is as it was, unless it reports that a read failed.
+//! - `write_all` has written all, or a prefix if it fails, and ignores no failure.
 //! - In memory exactly the calls that are named fail, and at a sink those that find no room.
 //! # What is only tested
-//! That `read_up_to` and `MemorySink::new` succeed with ample memory, how large the buffers of
-//! `read_up_to` are; that a read of a `RealSource` is one read of its std reader and a write of a
-//! `RealSink` one write of all its bytes, and that each error of theirs is counted, since std's
-//! contracts tell no errors; and that `PairGate::met` is true only where both ranks met
-//! (`nm_rows`, `nm_rows::cli`).
+//! That `read_up_to` and `MemorySink::new` succeed with ample memory; how large the buffers of `read_up_to`
+//! are; that a read of a `RealSource` is one read of its std reader, a write of a `RealSink` one write of all
+//! its bytes, and that each of their errors is counted, since std's contracts name no errors; that
+//! `PairGate::met` is true only after both ranks met (`nm_rows`, `nm_rows::cli`).
 #![tactic(auto)]
 
 mod gate;

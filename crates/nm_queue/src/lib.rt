@@ -13,14 +13,12 @@
 //! ```
 //!
 //! # What a contract sees
-//! What the port knows before and after (`nm_cells`), what the cells in its hand hold, and the
-//! steps.
+//! What the port knows before and after (`nm_cells`), what the cells in its hand hold, and the steps.
 //!
 //! # What is proved
-//! - `enqueue` can't be refused, takes 3 steps, and puts the cell's parcel (clauses `enqueued`,
-//!   `bound`).
-//! - `dequeue` takes the first cell, or has a miss that names its cause and whose count rose (clauses
-//!   `took`, `missed`), in the steps of a table, at most 5 (clauses `cost`, `bound`).
+//! - `enqueue` can't be refused, takes 3 steps, and puts the cell's parcel (clauses `enqueued`, `bound`).
+//! - `dequeue` takes the first cell, or has a miss that names its cause and whose count rose (clauses `took`,
+//!   `missed`), in the steps of a table, at most 5 (clauses `cost`, `bound`).
 #![tactic(auto)]
 
 mod moves;

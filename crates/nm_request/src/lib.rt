@@ -1,16 +1,15 @@
-//! The live requests of a rank: what a send or a receive that was started is known by.
+//! The live requests of a rank (MPI 3.1, section 3.7).
 //!
-//! MPI 3.1, section 3.7. A request has a key, under which it is kept, and a turn, which counts the
-//! requests that were added before it. Keys are used again, turns are not, so a request that was
-//! freed stays unknown for good.
+//! A request has a key, under which it is kept, and a turn, which counts the requests that were added before
+//! it. Keys are used again, turns are not, so a request that was freed is unknown for ever.
 //!
 //! # What a contract sees
-//! A map from requests to kinds, the number of requests added so far, and the number of requests
-//! for which there is room.
+//! A map from requests to kinds, the number of requests added so far, and the number of requests for which
+//! there is room.
 //! # What is proved
 //! - `add` gives a request that was never given before, and changes no other (clause `ok`).
-//! - `get` and `free` answer `NoSuch` exactly where the request isn't live (clause `kind`).
-//! - Want of memory leaves everything as it was, and never comes where there is room.
+//! - `get` and `free` answer `NoSuch` exactly if the request isn't live (clause `kind`).
+//! - Want of memory leaves everything as it was, and is never reported if there is room.
 //! # What is only tested
 //! That `add`, `reserve` and `with_capacity` succeed with ample memory (`nm_rows`).
 #![tactic(auto)]

@@ -1,30 +1,25 @@
-//! The sending side of a rank: the messages that it sent, by packets and by pieces, and what became
-//! of them.
+//! The sending side of a rank: the messages that it sent, by packets and by pieces, and what became of them.
 //!
-//! A message of at most the eager limit is cut into packets (MPI 3.1, section 3.4). One that is
-//! sent by asking is announced by one packet, waits until its receiver clears it, and is then
-//! pushed in pieces. A message may be recalled (section 3.8.4).
-//!
-//! `outbox` has the packets that are still to be sent, in order.
+//! A message of at most the eager limit is cut into packets (MPI 3.1, section 3.4). A longer or synchronous
+//! one goes by rendezvous: one packet announces it, it waits until its receiver clears it, and is then pushed
+//! in pieces. A message may be recalled (section 3.8.4). `outbox` has the packets that are still to be sent,
+//! in order.
 //!
 //! # What a contract sees
-//! The packets to be sent, the messages that were asked for and the order of their clearances, what
-//! became of each message, the counts of pieces pushed, and the number of messages that have not
-//! left. A relation, `AreSent`, says of which histories these are the messages. What a call did is
-//! one relation, named after it (`Calls`), which says with which events it goes (`Preserves`); and
-//! each answer is the definition's on every history that stands in the relation.
+//! The packets to be sent, the rendezvous messages and the order of their clearances, what became of each
+//! message, the counts of pieces pushed, and the number of messages that have not left. The relation
+//! `AreSent` ties this to histories. What a call did is one relation, named after it (`Calls`), with the
+//! events that it adds (`Preserves`); each answer is the definition's on every history in the relation.
 //!
 //! # What is proved
-//! - A message calls for its packets, and they are put in order. An eager one leaves with the last of
-//!   them, and none leaves with any other packet (`send`: `sent`, `recall`: `recalled`, `answer`:
-//!   `puts`).
-//! - A message leaves once: with its last packet, with its last piece, or with its clearance where it
-//!   is empty (`PopsFirstPacket`, `PopsNextPiece`, `ClearsMessage`: `kept`). Where no packet is left,
-//!   each eager message has left (`fill_front`: `left`).
-//! - A recall and its answer are noted, and change no other message that was asked for
-//!   (`RecallsMessage`, `AnswersRecall`).
-//! - Pieces are those of the first message that was cleared and has not left, in order
-//!   (`next_piece`: `next`; `PopsNextPiece`: `in_turn`).
+//! - The packets of a message are put in order. An eager message leaves with its last packet, and with no
+//!   other (`send`: `sent`, `recall`: `recalled`, `answer`: `puts`).
+//! - A message leaves once: with its last packet, with its last piece, or if it is empty with its clearance
+//!   (`PopsFirstPacket`, `PopsNextPiece`, `ClearsMessage`: `kept`). If no packet is left, each eager message
+//!   has left (`fill_front`: `left`).
+//! - A recall and its answer are noted, and change no other message (`RecallsMessage`, `AnswersRecall`).
+//! - Pieces are those of the first message that was cleared and has not left, in order (`next_piece`: `next`;
+//!   `PopsNextPiece`: `in_turn`).
 //! - Want of memory changes nothing but room (`send`, `recall`: `err`).
 //! # What is only tested
 //! That calls that take memory succeed with ample memory.
