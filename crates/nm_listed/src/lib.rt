@@ -1,21 +1,19 @@
-//! The reports of the ends of a search, in the order of a dictionary and each once.
+//! The reports of the ends of a search, in dictionary order and each once.
 //!
-//! `retold` goes from the steps of ranks to a record, and `lawful` has the law that some record tells what an end
-//! tells.
+//! `retold` goes from the steps of ranks to a record, and `lawful` has the law that some run's record reports
+//! what an end reports.
 //!
 //! # What a contract sees
-//! `Texts` is a list of texts, each a list of bytes. `specs/Finding.antt` says what was found, by
-//! the definitions of `nm_outcomes`.
+//! `Texts` is a list of texts, each a list of bytes. `specs/Finding.antt` says what was found, by the
+//! definitions of `nm_outcomes`.
 //! # What is proved
-//! - `reports` is given ends that tell all that runs of the script can tell (`TellsAll`), each of them
-//!   where moves lead to rest (`TellsOnly`), and gives all reports that the script can have in these sizes,
-//!   each once, in the order of a dictionary (`AreOutcomes`): what is told at rest is what a run tells
-//!   (`lawful`).
-//! - It says of reports that they have more than 134,217,728 bytes where they have.
-//! - `trace_of` is given such ends and a number, and gives the trace of a lawful run whose report is the
-//!   one with this number among them (`IsOutcomeTrace`), or says how many they are where they are fewer.
-//! - `place_of` finds a text among others; of one that is none of them it tells the first line such
-//!   that none of them begins with it and the lines before it (`IsFirstNew`).
+//! - `reports` takes ends that report all that runs of the script can (`TellsAll`), each at rest where moves
+//!   lead (`TellsOnly`), and gives all reports that the script can have in these sizes, each once, in
+//!   dictionary order (`AreOutcomes`), or says that they have more than 134,217,728 bytes.
+//! - `trace_of` takes such ends and a number, and gives the trace of a lawful run with the report of this
+//!   number (`IsOutcomeTrace`), or says how many there are.
+//! - `place_of` finds a text among others, or the first line such that none of them begins with it and the
+//!   lines before it (`IsFirstNew`).
 //!
 //! The record of an end is that of the moves that lead there (`retold`): it is of a run (`lawful`).
 //! # What is only tested

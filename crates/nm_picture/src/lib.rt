@@ -1,14 +1,13 @@
 //! The picture of a run: its space-time diagram as one SVG.
 //!
 //! # What a contract sees
-//! The record of a run, and bytes as a list of numbers. What a picture shows, `nm_diagram` says, by
-//! lists of shapes. `specs/Pictures` has the text of each shape, and of all of them in order, `Sheet`
-//! what stands in each picture, `Flags` the flag at a place, which a picture may have, and
-//! `WellFormed` what well-formed markup is.
+//! The record of a run, and bytes as a list of numbers. `nm_diagram` says what a picture shows, by lists of
+//! shapes. `specs/Pictures` has the text of each shape, and of all of them in order, `Sheet` what is in each
+//! picture, `Flags` the flag that a picture may have at a place, and `WellFormed` what well-formed markup is.
 //! # What is proved
 //! - The picture is a function of the record: its text is exactly that of those lists, in order.
-//! - `laws`: a part of a run has one picture, the same with silent ranks behind its own, and it is
-//!   well-formed markup. Each sign of the legend is drawn.
+//! - `laws`: a part of a run has one picture, the same with silent ranks after its own, and it is well-formed
+//!   markup. Each sign of the legend is drawn.
 //! # What is only tested
 //! That it succeeds with ample memory (`.ci/examples`), and that a browser shows what is meant.
 #![tactic(auto)]

@@ -1,8 +1,8 @@
-//! What searches over states stand on: lists that grow, sets, tests for equal states, and numbers of them.
+//! Ground for searches over states: lists that grow, sets, tests for equal states, and numbers of them.
 //!
 //! # What a contract sees
-//! `specs/Lists.antt` says what a list has, and what a longer one adds to it. `specs/Tells.antt` says
-//! that a test tells which values are equal, and builds such tests from those of the parts.
+//! `specs/Lists.antt` says what a list has, and what a longer one adds to it. `specs/Tells.antt` says that a
+//! test decides which values are equal, and builds such tests from those of the parts.
 //! # What is proved
 //! The lemmas of `proofs/`, which the proofs above cite.
 #![tactic(auto)]

@@ -1,25 +1,22 @@
-//! Determinate scripts: what every run of a plain script reports.
+//! Determinate scripts: the one report of a plain script.
 //!
-//! A script is plain where each receive names its source and its tag, and no command looks for a
-//! message, asks or cancels. Which send a receive belongs to is then told by the script alone, and
-//! a wait hangs on one other command. The plain run lets the lowest rank that can go on run its
-//! next command, until there is none.
+//! A script is plain if each receive names its source and its tag, and every other command is a send or a
+//! wait. So the script alone says which send a receive takes, and a wait depends on one other command. In the
+//! plain run the lowest rank that can go on runs its next command, until there is none.
 //!
 //! # What a contract sees
-//! `specs/Plain.antt` has the plain run: how many commands of each rank run. It stands on
-//! `specs/Names.antt`, which says which starts of a rank are taken, and on `specs/Channels.antt`,
-//! which says which receive belongs to which send. `specs/PlainText.antt` has its answers and its
-//! report, and `specs/Agree.antt` the law. `PlainRun` has public fields. What the code of `plain`
-//! keeps on its way is in `specs/Held.antt`, `specs/Ways.antt` and `specs/Planned.antt`.
+//! `specs/Plain.antt` has the plain run: how many commands of each rank run; `specs/Names.antt` which starts
+//! of a rank are accepted, and `specs/Channels.antt` which receive takes which send. `specs/PlainText.antt`
+//! has its answers and its report, and `specs/Agree.antt` the law. `PlainRun` has public fields. The tables
+//! that `plain` keeps are in `specs/Held.antt`, `specs/Ways.antt` and `specs/Planned.antt`.
 //! # What is proved
-//! - Each lawful run of a plain script, in any order of its ranks and packets, tells the answers
-//!   and waiting lines of the plain run, is done where that is, and has its report.
+//! - Each lawful run of a plain script, in any order of its ranks and packets, has the answers and blocked
+//!   lines of the plain run, is done if that is, and has its report.
 //! - `first_free` gives the line of the first command that is not plain.
-//! - `plain` gives the report of the plain run, and whether it gets every rank to its end, or it is
-//!   in want of memory.
+//! - `plain` gives the report of the plain run, and whether every rank comes to its end, unless memory runs
+//!   out.
 //! # What is only tested
-//! That `plain` succeeds with ample memory, and how long it takes: each line looks at each rank at
-//! most once.
+//! That `plain` succeeds with ample memory, and how long it takes: each line looks at each rank at most once.
 #![tactic(auto)]
 
 ghost use Rattle.nm_sure.specs.Agree.{PlainRunsAgree, PlainRunsTell};
