@@ -1,42 +1,36 @@
-//! The whole program: words and bytes in, bytes and a status out.
-//!
-//! `nemesis` is the one top call. It takes the words of the command line, does what they ask for,
-//! and writes to the sink what is to be said of it.
+//! The whole program: words and bytes in, bytes and a status out. `nemesis` is the one top call.
 //!
 //! # What a contract sees
-//! The words as lists of bytes; the bytes that the source tells, of which at most 8,388,609 are
-//! taken, with `check` 67,108,865, however it ends; the bytes that the sink tells; the status, the
-//! record of the run, what the closed ports kept, and the log of several threads. What is due is one
-//! relation, `IsAnswer`, case by case of what the words ask for and the bytes are. `nemesis` says by
-//! `done` that what is due is said and handed out, and nothing else. `laws` has what follows from
-//! that: what each status means and when it comes, and how each kind of words ends.
+//! The words as lists of bytes; the bytes that the source reports, of which at most 8,388,609 are taken, with
+//! `check` 67,108,865, however it ends; the bytes that the sink reports; the status, the record of the run,
+//! what the closed ports carried, and the log of several threads. `IsAnswer` says, by cases of the words and
+//! the bytes, which answer is right. `nemesis` says by `done` that this answer is written and handed out, and
+//! nothing else. `laws` has what follows: what each status means and when it comes, and how each kind of
+//! words ends.
 //! # What is proved
-//! - Status 2 exactly where the words are not taken, and then nothing was read; 3 with `run`,
-//!   `trace` and `plain` exactly where the bytes spell no script; 0 and 1 of a run exactly where
-//!   they spell one, or a flood was asked for, with the text that is due. Each yields to 5 and 6,
-//!   and those of the bytes to 4 too.
-//! - With `run`, `trace` and a flood no status but 0, 1, 3, 4, 5 and 6, also where the source
-//!   doesn't tell its bytes.
-//! - The record, at 0 and 1 and where its text could not be written: each rank's history is a run
-//!   of its commands, what it took of each sender is what was sent, all ranks are quiescent, all
-//!   cells are at home, the status is 0 exactly where no rank waits, and the closed ports carried
-//!   what the record tells (`IsRunOfWords`).
-//! - Of a plain script `run` writes what its plain run reports, and of a flood the summary is a
-//!   function of its numbers and the sizes.
-//! - With `plain`: 3 where the bytes spell no script, 7 where it is not plain, with the line, else
-//!   the report of the plain run, with 0 or 1.
-//! - With `check`: 9 where there is no trace, 3 where the lines before it spell no script, else 0
-//!   or 8 with the verdict on the trace; that of a run of the script holds.
-//! - With `parts`: status 3 with the first fault of bytes that spell no plan, else the report of a
-//!   run of the plan's script, by the plan's own lines: what is said of a receive shows the body
-//!   that its sender held at that start.
-//! - With `multi`: 0, with the text of a log that is one legal history of one rank and has each
-//!   thread's whole program.
-//! - Status 4 and 5 only where the count of faults of the source or the sink rose, and at 5 the
-//!   sink took a front of the text that was due. At 6 nothing was written.
-//! - No failure is passed over: at other statuses than 4, 5 and 6 the count of the source is as it
-//!   was, and at others than 5 that of the sink; and there the source was read to its end, or to
-//!   the limit.
+//! - Status 2 exactly if the words are not accepted, and then nothing was read; 3 with `run`, `trace` and
+//!   `plain` exactly if the bytes spell no script; 0 and 1 of a run exactly if they spell one, or the words
+//!   ask for a flood. 5 and 6 may come in place of each, and 4 in place of those that depend on bytes.
+//! - With `run`, `trace` and a flood no status but 0, 1, 3, 4, 5 and 6, also if the source doesn't report its
+//!   bytes.
+//! - The record, at 0 and 1 and if its text could not be written: each rank's history is a run of its
+//!   commands, what it took of each sender is what was sent, all ranks are quiescent, all cells are home, the
+//!   status is 0 exactly if no rank is blocked, and the closed ports carried what the record says
+//!   (`IsRunOfWords`).
+//! - For a plain script `run` writes what its plain run reports; the summary of a flood is a function of its
+//!   numbers and the sizes.
+//! - With `plain`: 3 if the bytes spell no script, 7 if it is not plain, with the line, else the report of
+//!   the plain run, with 0 or 1.
+//! - With `check`: 9 if there is no trace, 3 if the lines before it spell no script, else 0 or 8 with the
+//!   verdict on the trace; that of a run of the script holds.
+//! - With `parts`: 3 with the first fault of bytes that spell no plan, else the report of a run of the plan's
+//!   script, by the plan's own lines: a receive shows the body that its sender held at that start.
+//! - With `multi`: 0, with the text of a log that is one legal history of one rank and has each thread's
+//!   whole program.
+//! - Status 4 and 5 only if the count of faults of the source or the sink rose; at 5 the sink took a prefix
+//!   of the text. At 6 nothing was written.
+//! - No failure is ignored: at other statuses than 4, 5 and 6 the count of the source is as it was, and at
+//!   others than 5 that of the sink; and there the source was read to its end, or to the limit.
 //! # What is only tested
 //! That it succeeds with ample memory.
 #![tactic(auto)]

@@ -1,25 +1,28 @@
-//! Whether MPI's text alone allows what the ranks of a script told: words, a script and answers in, a verdict and a
-//! status out.
+//! Whether MPI's text alone allows the answers of a script's ranks: words, a script and answers in, a verdict
+//! and a status out.
 //!
-//! `lawful` is the one top call. The input is a script, a line `---` and the answers in the order of time, each on a
-//! line `RANK LINE ANSWER`, or `RANK LINE waits` where a rank waits in the end; the others are at their ends. `words`
-//! says what the words of the command line ask for, `items` reads one line of the answers, `readings` all.
+//! `lawful` is the one top call. The input is a script, a line `---` and the answers in the order of time,
+//! each on a line `RANK LINE ANSWER`, or `RANK LINE waits` for a rank that is blocked at the end; the others
+//! are at their ends. `words` reads the words of the command line, `items` one line of the answers,
+//! `readings` all.
 //!
 //! # What a contract sees
-//! `specs/Items.antt` and `specs/Readings.antt` say what the lines tell, `specs/Answers.antt` what is said of that, by
-//! `JudgedSays` of `nm_lawful`. `lawful` says by one relation, `IsDone`, that what is due is said and nothing else.
+//! `specs/Items.antt` and `specs/Readings.antt` say what the lines mean, `specs/Answers.antt` which verdict
+//! is right, by `JudgedSays` of `nm_lawful`. `lawful` says by one relation, `IsDone`, that it is written and
+//! nothing else.
 //! # What is proved
-//! - Status 0: a run of the machine of `nm_lawful` that comes to rest tells these answers and no others, and then
-//!   these ranks wait at these lines. 8: none does, and the answer is named up to which in time none can have told
-//!   them, while one can have told those before it; or the first rank is named that can't rest as is said, with
-//!   those below it, where all can be told.
-//! - Status 2 exactly where the words are not taken, and then nothing was read; 3 only where the bytes before `---`
-//!   spell no script, 9 only where there is no `---`, the input is too long, or a line behind it is of no line of the
-//!   script, of one that has its answer, or of a rank that waits; each with its place. 7 only where moves lead to more
-//!   states than the words allow, which all differ.
-//! - Status 4 and 5 only where the count of faults of the source or the sink rose; at 6 nothing was written.
+//! - Status 0: a run of the machine of `nm_lawful` that comes to rest gives these answers and no others, with
+//!   these ranks blocked at these lines. 8: none does, and the first answer in time is named that no run
+//!   gives after those before it; or, if all answers are possible, the first rank that can't rest as
+//!   reported, with those below it.
+//! - Status 2 exactly if the words are not accepted, and then nothing was read; 3 only if the bytes before
+//!   `---` spell no script, 9 only if there is no `---`, the input is too long, or a line after it is of no
+//!   line of the script, of one that has its answer, or of a rank that is blocked; each with its place. 7
+//!   only if moves lead to more different states than the words allow.
+//! - Status 4 and 5 only if the count of faults of the source or the sink rose; at 6 nothing was written.
 //! # What is only tested
-//! That it succeeds with ample memory, and that it says what an independent list of all reports says (`.ci/conform`).
+//! That it succeeds with ample memory, and that it agrees with an independent list of all reports
+//! (`.ci/conform`).
 #![tactic(auto)]
 
 mod asking;
