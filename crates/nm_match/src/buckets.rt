@@ -157,7 +157,8 @@ impl<T: Copy> Buckets<T> {
 
     /// Whether nothing waits.
     pub(crate) fn is_empty(&self) -> bool
-        ensures { IsTrue result → (k : picks.Picks) → bucket_of self.now.map k ≡ [] }
+        ensures none { IsTrue result → (k : picks.Picks) → bucket_of self.now.map k ≡ [] }
+        ensures all { index_map_len self.now.map ≡ 0 → IsTrue result }
     {
         self.map.is_empty()
     }

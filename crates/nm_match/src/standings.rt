@@ -1,6 +1,6 @@
 //! Where receives stand, by their numbers.
 
-ghost use Rattle.std.specs.Prelude.{◌≡◌, ℕ, ◌-◌, ◌<◌, ◌≤◌, false, IsTrue, IfSome, None, OnOk, Option};
+ghost use Rattle.std.specs.Prelude.{◌≡◌, ℕ, ◌+◌, ◌-◌, ◌*◌, ◌<◌, ◌≤◌, false, IsTrue, IfSome, None, OnOk, Option};
 ghost use Rattle.std.specs.Prelude.{Some, get_or, if◌then◌else◌, is_some, length, nat_eq, option_map};
 ghost use Rattle.std.specs.Option.{option_copied};
 ghost use Rattle.indexmap.specs.IndexMap.{get};
@@ -47,7 +47,8 @@ impl Drop for Standings {
 
 /// Lets the free places at the end go.
 fn trim(places: &mut Vec<Option<Receive>>)
-    ensures { (i : ℕ) → get_or places.new.items i None ≡ get_or places.old.items i None }
+    ensures same { (i : ℕ) → get_or places.new.items i None ≡ get_or places.old.items i None }
+    ensures within { length places.new.items ≤ length places.old.items }
 {
     while let Some(None) = places.last() {
         let _ = places.pop();
@@ -127,7 +128,9 @@ impl Row {
 
     /// Makes places up to that of a number, if there are to be as many.
     fn reach(&mut self, number: u64, most: u64) -> Result<(), Memory>
-        ensures { (n : ℕ) → in_row self.new n ≡ in_row self.old n }
+        ensures same { (n : ℕ) → in_row self.new n ≡ in_row self.old n }
+        ensures within { length self.old.places.items < length self.new.places.items →
+            length self.new.places.items ≤ most }
     {
         if self.places.is_empty() {
             self.first = number;
@@ -198,7 +201,9 @@ impl Standings {
     /// Lets the row's places go where nothing stands in it.
     fn end_row(&mut self)
         ensures same { (n : ℕ) → in_row self.new.row n ≡ in_row self.old.row n }
+        ensures within { length self.new.row.places.items ≤ length self.old.row.places.items }
         ensures apart { self.new.apart ≡ self.old.apart }
+        ensures held { self.new.held ≡ self.old.held }
     {
         if self.held == 0 {
             trim(&mut self.row.places);
@@ -208,6 +213,8 @@ impl Standings {
     /// Makes room for a number.
     pub(crate) fn make_room(&mut self, number: u64) -> Result<(), Memory>
         ensures same { (n : ℕ) → receive_at self.new n ≡ receive_at self.old n }
+        ensures within { length self.old.row.places.items < length self.new.row.places.items →
+            length self.new.row.places.items ≤ 8 * self.old.held + 64 }
         ensures room { OnOk result (HasRoom self.new number) }
     {
         self.end_row();

@@ -2,6 +2,7 @@
 
 ghost use Rattle.std.specs.Prelude.{◌≡◌, ℕ, ◌++◌, [], ◌∷◌, Bool, None, Some};
 ghost use Rattle.std.specs.Prelude.{IfOk, IfSome, IsTrue, List, OnErr, OnOk, false, find};
+ghost use Rattle.indexmap.specs.IndexMap.{index_map_len};
 ghost use Rattle.nm_types.specs.declared.messages.Arrival as arrival;
 ghost use Rattle.nm_match.specs.declared.picks.Picks as picks;
 ghost use Rattle.nm_match.specs.Buckets.{AreBuckets, IsPutLast, IsTaken, bucket_at, bucket_of, fitting_at};
@@ -194,6 +195,7 @@ impl Waiting {
             AreBuckets picks_of_arrival queue next bucket → find test queue ≡ Some x →
             x.0 ≡ order → picks_of_arrival x.1 ≡ key → IndexQueue queue self.old.wildcards →
             IndexQueue (without_first test queue) self.new.wildcards }
+        ensures ends { index_map_len self.old.named.map ≡ 0 → self.new.wildcards ≡ None }
     {
         if let Some(wildcards) = &mut self.wildcards {
             wildcards.take(key, order);
@@ -212,6 +214,7 @@ impl Waiting {
             AreBuckets picks_of_arrival queue next bucket → find test queue ≡ Some x →
             x.0 ≡ order → picks_of_arrival x.1 ≡ key → IndexQueue queue self.old.wildcards →
             IndexQueue (without_first test queue) self.new.wildcards }
+        ensures ends { index_map_len self.new.named.map ≡ 0 → self.new.wildcards ≡ None }
     {
         self.named.take(key, order);
         self.take_by_wildcard(key, order);
