@@ -1,4 +1,5 @@
 mod BestLemmas
+mod EarlyLemmas
 mod BucketLemmas
 pub mod DeedLemmas
 mod HeldLemmas

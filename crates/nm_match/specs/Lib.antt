@@ -1,5 +1,6 @@
 pub mod Buckets
 pub mod Deeds
+pub mod Early
 pub mod Held
 pub mod Names
 pub mod Picks

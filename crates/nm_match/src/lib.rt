@@ -38,7 +38,8 @@
 //! What waits, what is claimed and not yet received, and the numbers of the cancelled receives. The
 //! row of receives begins anew where nothing stands in it, and grows to at most eight places for each
 //! receive that stands there, and 64 more. Which numbers are taken is known by the next of each, and by
-//! those that came before their time.
+//! those that came before their time: `held_numbers` tells how many these are, at most as many as the
+//! deeds say.
 //! # What is only tested
 //! That `post`, `arrive`, `claim` and `take_claimed` succeed with ample memory.
 #![tactic(auto)]

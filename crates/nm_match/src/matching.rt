@@ -1,7 +1,7 @@
 //! The matcher: the posted receive queue and the unexpected message queue of one rank.
 
-ghost use Rattle.std.specs.Prelude.{◌≡◌, ◌++◌, ◌&&◌, false, if◌then◌else◌, not, [], ◌∷◌, IfOk};
-ghost use Rattle.std.specs.Prelude.{IsSome, IsTrue, MatchOption, OnErr, OnOk, option_map};
+ghost use Rattle.std.specs.Prelude.{◌≡◌, ◌+◌, ◌≤◌, ◌++◌, ◌&&◌, false, if◌then◌else◌, not, [], ◌∷◌, IfOk};
+ghost use Rattle.std.specs.Prelude.{IsSome, IsTrue, MatchOption, OnErr, OnOk, length, option_map};
 ghost use Rattle.std.specs.List.{list_any};
 ghost use Rattle.nm_history.specs.Happens.{happened, is_cancel};
 ghost use Rattle.nm_history.specs.Matching.{first_message, first_receive, is_free_message};
@@ -10,6 +10,7 @@ ghost use Rattle.nm_history.specs.Matching.{matched_pairs};
 ghost use Rattle.nm_history.specs.Sends.{message_of};
 ghost use Rattle.nm_match.specs.declared.deeds.Deed.TheVariants as deed;
 ghost use Rattle.nm_match.specs.Deeds.{history_of, is_known_message, is_known_receive};
+ghost use Rattle.nm_match.specs.Early.{early_messages, early_receives};
 
 use crate::deeds::Deed;
 use crate::names::{Message, message_id, receive_id};
@@ -256,6 +257,15 @@ impl Matcher {
         self.receives.add(id);
         self.done = self.done.then(&Deed::Match { number, from, n });
         Ok(())
+    }
+
+    /// How many numbers of receives and messages are in memory: at most those that came before their
+    /// time. Where numbers come in order there is none.
+    pub fn held_numbers(&self) -> usize
+        ensures { let h = history_of self.now in
+            result ≤ length (early_receives h) + length (early_messages h) }
+    {
+        self.receives.held() + self.messages.held()
     }
 
     /// Whether a receive of this number was posted, or took a claimed message.

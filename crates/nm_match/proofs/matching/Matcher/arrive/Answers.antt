@@ -21,7 +21,7 @@ invariant_of-self c =
       messages = h.messages;
       queues = h.queues;
       names = names_kept c.self.inside.done.items h.names c.self.inside.receives c.make_room.new.self
-          (λ i. refl) c.make_room.ensures.same;
+          (λ i. refl) c.make_room.ensures.same (λ few. few) c.make_room.ensures.few;
     }
 
 pub invariant_of-self-in-Some : goal.invariant_of-self-in-Some
@@ -42,9 +42,9 @@ invariant_of-self-in-Some c =
       messages = h.messages;
       queues = arrive-some deeds h.queues c.args.a c.in-Some.p new is_first;
       names = names_arrive deeds h.names c.args.a next c.add.new.self c.message_id-id.ensures.small.0
-          c.message_id-id.ensures.small.1 (omega arith)
+          c.message_id-id.ensures.small.1 (omega arith) new
           (seen_more c.self.inside.messages c.make_room.new.self c.add.new.self c.message_id-id.ensures.id
-          c.make_room.ensures.same c.add.ensures);
+          c.make_room.ensures.same c.make_room.ensures.few c.add.ensures.added c.add.ensures.few);
     })
 
 pub invariant_of-self-in_err-put-in-None : goal.invariant_of-self-in_err-put-in-None
@@ -61,7 +61,7 @@ invariant_of-self-in_err-put-in-None c =
       messages = c.in_err-put-in-None.ensures.err h.unexpected h.claimed next h.messages;
       queues = h.queues;
       names = names_kept deeds h.names c.self.inside.receives c.make_room.new.self (λ i. refl)
-          c.make_room.ensures.same;
+          c.make_room.ensures.same (λ few. few) c.make_room.ensures.few;
     }
 
 pub invariant_of-self-in-None : goal.invariant_of-self-in-None
@@ -84,9 +84,9 @@ invariant_of-self-in-None c =
           (message_fresh deeds h.queues c.args.a.env.from c.args.a.n new);
       queues = rw (without_first-none test h.posted none) at (arrive-none deeds h.queues c.args.a new none);
       names = names_arrive deeds h.names c.args.a (next + 1) c.add-in-None.new.self c.message_id-id.ensures.small.0
-          c.message_id-id.ensures.small.1 (omega arith)
+          c.message_id-id.ensures.small.1 (omega arith) new
           (seen_more c.self.inside.messages c.make_room.new.self c.add-in-None.new.self c.message_id-id.ensures.id
-          c.make_room.ensures.same c.add-in-None.ensures);
+          c.make_room.ensures.same c.make_room.ensures.few c.add-in-None.ensures.added c.add-in-None.ensures.few);
     })
 
 pub returns-in-Some-clause-oldest : goal.returns-in-Some-clause-oldest
@@ -106,5 +106,6 @@ returns-in_ok-put-in-None-clause-oldest c =
 pub overflow_add-self : goal.overflow_add-self
 overflow_add-self c =
     let h = c.self.invariant in
-    let small = next_small c.self.inside.done.items h.names h.queues.in_turn.two_receives h.queues.in_turn.two_messages in
+    let small = next_small c.self.inside.done.items h.names h.queues.in_turn.two_receives
+    h.queues.in_turn.two_messages in
     omega (arith, small)

@@ -14,5 +14,6 @@ invariant_of-result c =
       receives = c.new-2.ensures.none 0;
       messages = c.new-3.ensures.none 0;
       queues = queues-none;
-      names = names_none c.new-4.result c.new-5.result c.new-4.ensures c.new-5.ensures;
+      names = names_none c.new-4.result c.new-5.result c.new-4.ensures.none
+          c.new-5.ensures.none c.new-4.ensures.few c.new-5.ensures.few;
     })

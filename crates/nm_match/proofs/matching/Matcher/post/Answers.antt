@@ -20,7 +20,7 @@ invariant_of-self c =
       messages = h.messages;
       queues = h.queues;
       names = names_kept c.self.inside.done.items h.names c.make_room.new.self c.self.inside.messages
-          c.make_room.ensures.same (λ i. refl);
+          c.make_room.ensures.same (λ i. refl) c.make_room.ensures.few (λ few. few);
     }
 
 pub invariant_of-self-in-Some : goal.invariant_of-self-in-Some
@@ -41,9 +41,9 @@ invariant_of-self-in-Some c =
           h.messages (not_claimed h.queues test c.in-Some.a is_first);
       queues = post-some deeds h.queues c.args.p c.in-Some.a new is_first;
       names = names_post deeds h.names c.args.p c.self.inside.order c.add.new.self
-          c.receive_id-id.ensures.small (omega arith)
+          c.receive_id-id.ensures.small (omega arith) new
           (seen_more c.self.inside.receives c.make_room.new.self c.add.new.self c.receive_id-id.ensures.id
-          c.make_room.ensures.same c.add.ensures);
+          c.make_room.ensures.same c.make_room.ensures.few c.add.ensures.added c.add.ensures.few);
     })
 
 pub invariant_of-self-in_err-put-in-None : goal.invariant_of-self-in_err-put-in-None
@@ -59,7 +59,7 @@ invariant_of-self-in_err-put-in-None c =
       messages = c.in-None.ensures.others h.unexpected h.claimed next (arrivals_apart deeds h.queues) h.messages;
       queues = h.queues;
       names = names_kept deeds h.names c.make_room.new.self c.self.inside.messages c.make_room.ensures.same
-          (λ i. refl);
+          (λ i. refl) c.make_room.ensures.few (λ few. few);
     }
 
 pub invariant_of-self-in-None : goal.invariant_of-self-in-None
@@ -81,9 +81,9 @@ invariant_of-self-in-None c =
       messages = left;
       queues = rw (without_first-none test h.unexpected none) at (post-none deeds h.queues c.args.p new none);
       names = names_post deeds h.names c.args.p (c.self.inside.order + 1) c.add-in-None.new.self
-          c.receive_id-id.ensures.small (omega arith)
+          c.receive_id-id.ensures.small (omega arith) new
           (seen_more c.self.inside.receives c.make_room.new.self c.add-in-None.new.self c.receive_id-id.ensures.id
-          c.make_room.ensures.same c.add-in-None.ensures);
+          c.make_room.ensures.same c.make_room.ensures.few c.add-in-None.ensures.added c.add-in-None.ensures.few);
     })
 
 pub returns-in-Some-clause-oldest : goal.returns-in-Some-clause-oldest

@@ -18,7 +18,7 @@ invariant_of-self c =
       messages = h.messages;
       queues = h.queues;
       names = names_kept c.self.inside.done.items h.names c.make_room.new.self c.self.inside.messages
-          c.make_room.ensures.same (λ i. refl);
+          c.make_room.ensures.same (λ i. refl) c.make_room.ensures.few (λ few. few);
     }
 
 pub invariant_of-self-2 : goal.invariant_of-self-2
@@ -36,7 +36,7 @@ invariant_of-self-2 c =
       messages = c.take_claimed.ensures.left h.unexpected h.claimed c.self.inside.next h.messages
           (claimed_unqueued h.queues c.args.from c.args.n claimed);
       queues = receive_claimed deeds h.queues c.args.number c.args.from c.args.n new claimed;
-      names = names_matched deeds h.names c.args.number c.args.from c.args.n c.add.new.self
+      names = names_matched deeds h.names c.args.number c.args.from c.args.n c.add.new.self new
           (seen_more c.self.inside.receives c.make_room.new.self c.add.new.self c.receive_id-id.ensures.id
-          c.make_room.ensures.same c.add.ensures);
+          c.make_room.ensures.same c.make_room.ensures.few c.add.ensures.added c.add.ensures.few);
     })
