@@ -1,7 +1,7 @@
 -- Where an event breaks a rule of its rank something is told.
 use Rattle.std.proofs.Common.{◌≡◌, ℕ, ◌==◌, ◌&&◌, ◌||◌, Bool, true, false, not, cond, Option, Some, None, List, [], ◌∷◌}
 use Rattle.std.proofs.Common.{length, refl, sym, ◌∙◌, ap, subst, arith}
-use Rattle.std.specs.Prelude.{All, IsSomeAnd, IsTrue, MatchBool, MatchOption, is_some, map, nat_lt, option_and_then}
+use Rattle.std.specs.Prelude.{All, IsSomeAnd, IsTrue, MatchBool, MatchOption, map, nat_lt, option_and_then}
 use Rattle.std.specs.Prelude.{option_map}
 use Rattle.std.specs.Bool.{OnTrue}
 use Rattle.std.specs.List.{list_any}
@@ -56,11 +56,6 @@ use Rattle.nm_check_rank.proofs.CancelLemmas.{is_that_recall, some_of_kind}
 use Rattle.nm_check_rank.proofs.DecideLemmas.{decides_both, decides_nat}
 use Rattle.nm_check_rank.proofs.ManyLemmas.{passed_head, same_head}
 use Rattle.nm_check_rank.proofs.PushLemmas.{since_happened}
-
--- what is told where it breaks
-pub some_told : {X : Type 0} (P : Type 0) (o : Option X) → (o ≡ None → P) → (P → ⊥) → is_some o ≡ true
-some_told P None keeps not = absurd (not (keeps refl))
-some_told P (Some x) keeps not = refl
 
 pub not_none : {X : Type 0} (x : X) → Some x ≡ None → ⊥
 not_none x same = none-some x (sym same)

@@ -1,16 +1,13 @@
 -- The results of requests, by the tables.
-use Rattle.std.proofs.Common.{◌≡◌, ℕ, Bool, false, not, ◌&&◌, Option, Some, None, List, ◌∙◌, ap}
-use Rattle.std.specs.Prelude.{IsTrue, if◌then◌else◌, option_and_then}
+use Rattle.std.proofs.Common.{◌≡◌, ℕ, Bool, false, Option, Some, None, List, ◌∙◌, ap}
+use Rattle.std.specs.Prelude.{if◌then◌else◌, option_and_then}
 use Rattle.nm_types.specs.declared.answers.Answer.{Answer}
 use Rattle.nm_types.specs.declared.answers.Answer.TheVariants as answer
 use Rattle.nm_history.specs.declared.events.Event.{Event}
 use Rattle.nm_history.specs.declared.plain.Pair.{Pair}
-use Rattle.nm_history.specs.Completion.{is_here, is_taken, pair_of_receive, result_of, shown}
+use Rattle.nm_history.specs.Completion.{is_here, pair_of_receive, result_of, shown}
 use Rattle.nm_history.specs.Completion.Request.{Receiving}
-use Rattle.nm_history.specs.Happens.{happened, is_cancel, is_claim}
-use Rattle.nm_history.specs.Matching.{is_claimed, matched_pairs}
-use Rattle.nm_lookups.specs.Deciding.{Decides}
-use Rattle.nm_check_rank.proofs.DecideLemmas.{decides_as, decides_true}
+use Rattle.nm_history.specs.Happens.{happened, is_cancel}
 
 -- the result of a receive that was not cancelled
 pub receive_result : (h : List Event) (number : ℕ) (o : Option Pair) (r : Option Answer) →
@@ -22,11 +19,3 @@ receive_result h number o r kept pairs is =
     is ∙ ap (λ (o : Option Pair). option_and_then (λ pair. if is_here h pair then Some (shown pair) else None) o) pairs
     ∙ ap (λ (b : Bool). if b then Some answer.Cancelled
     else option_and_then (λ pair. if is_here h pair then Some (shown pair) else None) (pair_of_receive h number)) kept
-
--- a claimed message that no receive took
-pub claimed_decided : (h : List Event) (from n : ℕ) (claimed taken r : Bool) → claimed ≡ happened (is_claim from n) h →
-    taken ≡ is_taken h from n → r ≡ (claimed && not taken) → Decides r (IsTrue (is_claimed h (matched_pairs h) from n))
-claimed_decided h from n claimed taken r c t is =
-    decides_as (IsTrue (is_claimed h (matched_pairs h) from n)) r (is_claimed h (matched_pairs h) from n)
-    (is ∙ ap (λ (b : Bool). b && not taken) c ∙ ap (λ (b : Bool). happened (is_claim from n) h && not b) t)
-    (decides_true (is_claimed h (matched_pairs h) from n))
