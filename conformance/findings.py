@@ -113,7 +113,7 @@ def of_finding(script: Script, group: Group) -> list[str]:
     there = ", ".join(f"`{short(it)}`" for it in finding.there[:MOST_SHOWN]) or (
         "to wait" if command.word in ("wait", "await") else "no answer")
     told = [f"`{short(str(it), NARROW)}`" for it in group.report.answers[:finding.before][-MOST_LINES:]]
-    before = [f"    told before it: {', '.join(told)}"] if told else []
+    before = [f"    answers before it: {', '.join(told)}"] if told else []
     return [f"{place} answers `{short(finding.answer)}`; lawful there: {there}", *before, *of_meaning(finding.answer)]
 
 

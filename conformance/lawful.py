@@ -1,23 +1,23 @@
 #!/usr/bin/env python3
-"""Says whether what the ranks of a script told is what MPI allows; else the first answer in time that isn't, and what
-could have been told in its place. The machine is in worlds.py; nothing here is proved.
+"""Says whether MPI allows the answers of a script's ranks; else names the first answer in time that it doesn't allow,
+and what the command could have answered instead. The machine is in worlds.py; nothing here is proved.
 
     usage: lawful.py [--cut any] STATES <SCRIPT_AND_ANSWERS
 
 The input is a script, a line `---`, then the answers in the order of time, one a line: `RANK LINE ANSWER`, or
-`RANK LINE waits` for a rank that waits there in the end; the others are at their ends. STATES is how many states a search
-may meet. With `--cut any` the length that a receive tells that was too short is not compared. `./lawful` is the same,
-proved, without the lines `there`.
+`RANK LINE waits` for a rank that is blocked there at the end; the others are at their ends. STATES is how many states
+a search may meet. With `--cut any` the length in a `cut` is not compared. `./lawful` is the same, proved, without the
+lines `there`.
 
-    lawful                              0   some lawful run tells this, and rests where these ranks wait
-    unlawful N: RANK LINE ANSWER        8   a lawful run can tell the answers of the first N - 1 lines, none those of N
-    there ANSWER                            one line for each answer of that command that could be told in its place
-    unlawful rest: RANK LINE waits      8   all answers can be told, but no run rests so; the first such rank
+    lawful                              0   some lawful run has these answers, and rests where these ranks wait
+    unlawful N: RANK LINE ANSWER        8   a lawful run can have the answers of the first N - 1 lines, none those of N
+    there ANSWER                            one line for each answer that this command could have had instead
+    unlawful rest: RANK LINE waits      8   all answers are possible, but no run rests so; the first such rank
     unlawful rest: RANK ends            8   .. which is not at its end
     limit                               7   STATES were not enough
-    fault script LINE KIND              3   the bytes before `---` are no script
-    fault answers LINE                  9   the first line behind `---`, counted from 1, that is of no line of the script,
-                                            of one that was told, or of a rank that waits; 0: there is no `---`
+    fault script LINE KIND              3   the bytes before `---` are not a script
+    fault answers LINE                  9   the first line after `---`, counted from 1, that is of no line of the script,
+                                            of one that has its answer, or of a rank that waits; 0: there is no `---`
 """
 from __future__ import annotations
 
