@@ -14,7 +14,7 @@
 //! - `next` makes the next call of a thread's program, and answers `false` exactly if the thread made all of
 //!   them (`last`, `more`).
 //! - The log that `multi` gives is one legal history of one rank, with each thread's whole program, each call
-//!   once and in its order (`whole`). Its bytes can be counted in 64 bits (`countable`).
+//!   once and in its order, and none cut short (`whole`). Its bytes can be counted in 64 bits (`countable`).
 //! - `text` gives exactly `log_text` of the log.
 //! # What is only tested
 //! That threads run at once, and that the calls succeed with ample memory. No clause orders the calls of
