@@ -107,7 +107,7 @@ packets_next {S} n pairs pairs' xs xs' x all split counted so_far =
     ∙ append_assoc (report.packets_of pairs) (counts_to n x.actor.port) (counts_of n xs')
     ∙ ap (λ (ys : List (Player S)). report.packets_of pairs ++ counts_of n ys) (sym split) ∙ so_far
 
-pub ends_next : {S : Type 0} (shows : S → SourceView) (gives : S → List Numbered → ℕ → Type 0)
+pub ends_next : {S B : Type 0} (shows : S → SourceView B) (gives : S → List Numbered → ℕ → Type 0)
     (commands : ℕ → List Numbered) (k m : ℕ) (ends ends' : List Ended) (xs xs' : List (Player S)) (x : Player S)
     (all : List Ended) → xs ≡ x ∷ xs' → m ≡ k + 1 →
     (IsAtWork shows gives x (commands k) → ends' ≡ ends ++ ended_of (commands k) x.actor.process ∷ []) →

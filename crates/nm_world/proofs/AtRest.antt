@@ -28,7 +28,7 @@ use Rattle.nm_world.proofs.Runs.{in_place_at}
 use Rattle.nm_types.proofs.ListLemmas.{get_from_map, get_map, get_some}
 
 -- the commands that the sources are left with are those of the players
-pub all_at_work : {S : Type 0} (shows : S → SourceView) (gives : S → List Numbered → ℕ → Type 0) (shape : Sizes)
+pub all_at_work : {S B : Type 0} (shows : S → SourceView B) (gives : S → List Numbered → ℕ → Type 0) (shape : Sizes)
     (f : Fabric Packet) (r : Rings) (commands : ℕ → List Numbered) (k : ℕ) (players : List (Player S)) →
     InPlace shows gives shape f r k players → AreGiven gives commands k (map (λ (x : Player S). x.source) players) →
     AreAtWork shows gives commands k players
@@ -38,7 +38,7 @@ all_at_work shows gives shape f r commands k (x ∷ players) place given = (
   all_at_work shows gives shape f r commands (k + 1) players place.2 given.1,
 )
 
-work_at : {S : Type 0} (shows : S → SourceView) (gives : S → List Numbered → ℕ → Type 0)
+work_at : {S B : Type 0} (shows : S → SourceView B) (gives : S → List Numbered → ℕ → Type 0)
     (commands : ℕ → List Numbered) (k i m : ℕ) (players : List (Player S)) (x : Player S) → m ≡ k + i →
     AreAtWork shows gives commands k players → slice_get players i ≡ Some x → IsAtWork shows gives x (commands m)
 work_at shows gives commands k i m [] x is work at = absurd (none at) where
@@ -53,7 +53,7 @@ work_at {S} shows gives commands k zero m (y ∷ players) x is work at =
 work_at shows gives commands k (suc i) m (y ∷ players) x is work at =
     work_at shows gives commands (k + 1) i m players x (omega (arith, is)) work.1 at
 
-pub each_ends : {S : Type 0} (shows : S → SourceView) (gives : S → List Numbered → ℕ → Type 0) →
+pub each_ends : {S B : Type 0} (shows : S → SourceView B) (gives : S → List Numbered → ℕ → Type 0) →
     ((commands : List Numbered) (last : ℕ) (a : Actor) → ActorInvariant commands last a →
     IsStill commands a.process → EndsAt a.process.rank.sizes commands a.port.rank a) →
     (shape : Sizes) (f : Fabric Packet) (r : Rings) (commands : ℕ → List Numbered) (players : List (Player S))

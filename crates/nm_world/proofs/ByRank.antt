@@ -16,7 +16,7 @@ use Rattle.nm_cells.specs.declared.port.Port.{Port}
 use Rattle.std.proofs.lemmas.List.Elements.{All-cons}
 use Rattle.nm_history.specs.Quiescence.{commands_by_rank}
 use Rattle.nm_process.specs.Places.{ArePlaces, ScriptedView, gives_lines, shown}
-use Rattle.nm_world.specs.Players.{AreGiven, BeginsAt, GivesLess}
+use Rattle.nm_world.specs.Players.{AreGiven, BeginsAt, GoesOn}
 use Rattle.nm_world.specs.ByRank.{AreByRank, AreScripts, Notes}
 
 -- the number of a rank's line behind others
@@ -134,18 +134,18 @@ scripts_begin ranks lines k (s ∷ scripts) are =
 
 -- it gives them still at the end
 pub scripts_give : (ranks : ℕ) (lines : List Line) (k : ℕ) (scripts left : List ScriptedView) →
-    AreScripts ranks lines k scripts → AllZip (GivesLess gives_lines) scripts left →
+    AreScripts ranks lines k scripts → AllZip (GoesOn shown gives_lines) scripts left →
     AreGiven gives_lines (commands_by_rank lines) k left
-scripts_give ranks lines k [] [] are gave = tt
-scripts_give ranks lines k [] (t ∷ left) are gave = absurd gave
-scripts_give ranks lines k (s ∷ scripts) [] are gave = absurd gave
-scripts_give ranks lines k (s ∷ scripts) (t ∷ left) are gave =
+scripts_give ranks lines k [] [] are went = tt
+scripts_give ranks lines k [] (t ∷ left) are went = absurd went
+scripts_give ranks lines k (s ∷ scripts) [] are went = absurd went
+scripts_give ranks lines k (s ∷ scripts) (t ∷ left) are went =
     let own = commands_of t.me t.lines in
-    let before = gave.0 own (t.next + 1) (refl, refl) in
+    let before = went.0.gave own (t.next + 1) (refl, refl) in
     let same : own ≡ commands_of k lines = before.gives.0 ∙ ap (λ (r : ℕ). commands_of r s.lines) are.1
     ∙ ap (λ (ls : List Line). commands_of k ls) are.0 in (
       record { before = t.next + 1; gives = (sym same, refl) },
-      scripts_give ranks lines (k + 1) scripts left are.4 gave.1,
+      scripts_give ranks lines (k + 1) scripts left are.4 went.1,
     )
 
 -- one more

@@ -189,7 +189,7 @@ done_append : {S : Type 0} (n : ℕ) (xs ys : List (Player S)) → done_of n (xs
 done_append n [] ys = omega arith
 done_append n (x ∷ xs) ys = let rest = done_append n xs ys in omega (arith, rest)
 
-pub all_up : {S : Type 0} (n : ℕ) (shows : S → SourceView) (gives : S → List Numbered → ℕ → Type 0) (f : Fabric Packet) (r : Rings) (xs ys : List (Player S)) →
+pub all_up : {S B : Type 0} (n : ℕ) (shows : S → SourceView B) (gives : S → List Numbered → ℕ → Type 0) (f : Fabric Packet) (r : Rings) (xs ys : List (Player S)) →
     AllPlayOn shows gives f r xs ys → done_of n xs ≤ done_of n ys
 all_up n shows gives f r [] [] kept = omega arith
 all_up n shows gives f r [] (y ∷ ys) kept = absurd kept
@@ -209,7 +209,7 @@ or_sum x y x' y' false false up to p_is q_is =
     less_false (x + y) (x' + y') (omega (arith, one, two, up, to))
 
 -- both halves
-pub did_halves : {S : Type 0} (n : ℕ) (shows : S → SourceView) (gives : S → List Numbered → ℕ → Type 0) (f : Fabric Packet) (r : Rings) (xs ys xs' ys' : List (Player S)) (p q : Bool) →
+pub did_halves : {S B : Type 0} (n : ℕ) (shows : S → SourceView B) (gives : S → List Numbered → ℕ → Type 0) (f : Fabric Packet) (r : Rings) (xs ys xs' ys' : List (Player S)) (p q : Bool) →
     AllPlayOn shows gives f r xs xs' → AllPlayOn shows gives f r ys ys' → p ≡ did_any n xs xs' → q ≡ did_any n ys ys' →
     (p || q) ≡ did_any n (xs ++ ys) (xs' ++ ys')
 did_halves n shows gives f r xs ys xs' ys' p q one two p_is q_is =
@@ -219,7 +219,7 @@ did_halves n shows gives f r xs ys xs' ys' p q one two p_is q_is =
     (all_up n shows gives f r ys ys' two) p_is q_is))
 
 -- from one to the next, of many
-pub did_any_on : {S : Type 0} (n : ℕ) (shows : S → SourceView) (gives : S → List Numbered → ℕ → Type 0) (f : Fabric Packet) (r : Rings) (xs ys zs : List (Player S)) (p q : Bool) →
+pub did_any_on : {S B : Type 0} (n : ℕ) (shows : S → SourceView B) (gives : S → List Numbered → ℕ → Type 0) (f : Fabric Packet) (r : Rings) (xs ys zs : List (Player S)) (p q : Bool) →
     AllPlayOn shows gives f r xs ys → AllPlayOn shows gives f r ys zs → p ≡ did_any n xs ys → q ≡ did_any n ys zs →
     (p || q) ≡ did_any n xs zs
 did_any_on n shows gives f r xs ys zs p q one two = or_less (done_of n xs) (done_of n ys) (done_of n zs) p q
@@ -282,7 +282,7 @@ did_iff n a b up = (
 )
 
 -- and of many
-some_grew : {S : Type 0} (n : ℕ) (shows : S → SourceView) (gives : S → List Numbered → ℕ → Type 0) (f : Fabric Packet) (r : Rings) (xs ys : List (Player S)) → AllPlayOn shows gives f r xs ys →
+some_grew : {S B : Type 0} (n : ℕ) (shows : S → SourceView B) (gives : S → List Numbered → ℕ → Type 0) (f : Fabric Packet) (r : Rings) (xs ys : List (Player S)) → AllPlayOn shows gives f r xs ys →
     done_of n xs < done_of n ys → SomeGrew n xs ys
 some_grew n shows gives f r [] [] kept more = absurd (omega (arith, more))
 some_grew n shows gives f r [] (y ∷ ys) kept more = absurd kept
@@ -308,7 +308,7 @@ some_grew {S} n shows gives f r (x ∷ xs) (y ∷ ys) kept more =
         grew = one.grew;
       }
 
-some_did : {S : Type 0} (n : ℕ) (shows : S → SourceView) (gives : S → List Numbered → ℕ → Type 0) (f : Fabric Packet) (r : Rings) (xs ys : List (Player S)) (k : ℕ) (a b : Player S) →
+some_did : {S B : Type 0} (n : ℕ) (shows : S → SourceView B) (gives : S → List Numbered → ℕ → Type 0) (f : Fabric Packet) (r : Rings) (xs ys : List (Player S)) (k : ℕ) (a b : Player S) →
     AllPlayOn shows gives f r xs ys → slice_get xs k ≡ Some a → slice_get ys k ≡ Some b → Grew n a.actor b.actor →
     done_of n xs < done_of n ys
 some_did n shows gives f r [] [] k a b kept was is grew = cc
@@ -325,7 +325,7 @@ some_did n shows gives f r (x ∷ xs) (y ∷ ys) (suc k) a b kept was is grew =
     let rest = some_did n shows gives f r xs ys k a b kept.1 was is grew in
     let up = done_up n x.actor y.actor kept.0.grows in omega (arith, rest, up)
 
-pub did_any_iff : {S : Type 0} (n : ℕ) (shows : S → SourceView) (gives : S → List Numbered → ℕ → Type 0) (f : Fabric Packet) (r : Rings) (xs ys : List (Player S)) →
+pub did_any_iff : {S B : Type 0} (n : ℕ) (shows : S → SourceView B) (gives : S → List Numbered → ℕ → Type 0) (f : Fabric Packet) (r : Rings) (xs ys : List (Player S)) →
     AllPlayOn shows gives f r xs ys → (did_any n xs ys ≡ true) ↔ SomeGrew n xs ys
 did_any_iff n shows gives f r xs ys kept = (
   λ is. some_grew n shows gives f r xs ys kept (is_less (done_of n xs) (done_of n ys) (sym is)),
@@ -334,7 +334,7 @@ did_any_iff n shows gives f r xs ys kept = (
 )
 
 -- of a call that tells whether something was done
-pub grew_where_moved : {E : Type 0} {S : Type 0} (result : Result Bool E) (n : ℕ) (shows : S → SourceView)
+pub grew_where_moved : {E : Type 0} {S B : Type 0} (result : Result Bool E) (n : ℕ) (shows : S → SourceView B)
     (gives : S → List Numbered → ℕ → Type 0) (f : Fabric Packet) (r : Rings) (x y : Player S) →
     IfOk result (λ _. PlaysOn shows gives f r x y) → IfOk result (λ moved. moved ≡ did n x.actor y.actor) →
     IfOk result (λ moved. (moved ≡ true) ↔ Grew n x.actor y.actor)
@@ -344,7 +344,7 @@ grew_where_moved (Ok m) n shows gives f r x y kept moved = (
   λ grew. moved ∙ (did_iff n x.actor y.actor kept.grows).1 grew,
 )
 
-pub some_grew_where_moved : {E : Type 0} {S : Type 0} (result : Result Bool E) (n : ℕ) (shows : S → SourceView)
+pub some_grew_where_moved : {E : Type 0} {S B : Type 0} (result : Result Bool E) (n : ℕ) (shows : S → SourceView B)
     (gives : S → List Numbered → ℕ → Type 0) (f : Fabric Packet) (r : Rings) (xs ys : List (Player S)) →
     IfOk result (λ _. AllPlayOn shows gives f r xs ys) → IfOk result (λ moved. moved ≡ did_any n xs ys) →
     IfOk result (λ moved. (moved ≡ true) ↔ SomeGrew n xs ys)

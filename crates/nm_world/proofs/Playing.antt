@@ -13,7 +13,7 @@ use Rattle.nm_world.specs.declared.actors.Actor.{Actor}
 use Rattle.nm_world.specs.declared.players.Player.{Player}
 use Rattle.nm_world.specs.Actors.{Continues, HasPorts, Seat, did}
 use Rattle.nm_world.specs.Idle.{Moves}
-use Rattle.nm_world.specs.Players.{IsAtWork, PlayerInvariant, PlaysOn, WasTold}
+use Rattle.nm_world.specs.Players.{GoesOn, IsAtWork, PlayerInvariant, PlaysOn, WasTold}
 use Rattle.nm_world.proofs.Did.{did_on}
 use Rattle.nm_world.proofs.Grows.{grows_on, grows_same}
 use Rattle.nm_world.proofs.Told.{none_more}
@@ -30,15 +30,32 @@ none_answered a b p on at =
     ap answers_given on.grows.events.1 ∙ none_more a.process.rank.events on.grows.events.0
     (ap ran_lines (sym on.grows.events.1) ∙ same)
 
-module _ {S : Type 0} (shows : S → SourceView) (gives : S → List Numbered → ℕ → Type 0) (f : Fabric Packet) (r : Rings)
+module _ {S B : Type 0} (shows : S → SourceView B) (gives : S → List Numbered → ℕ → Type 0) (f : Fabric Packet) (r : Rings)
   where
+    source_same : (s : S) → GoesOn shows gives s s
+    source_same s = record {
+      gave = λ commands last given. record { before = last; gives = given };
+      begun = refl;
+      ranks = refl;
+      hears = refl;
+    }
+
+    source_on : (s t u : S) → GoesOn shows gives s t → GoesOn shows gives t u → GoesOn shows gives s u
+    source_on s t u one two = record {
+      gave = λ commands last given.
+          let before = two.gave commands last given in
+          one.gave commands before.before before.gives;
+      begun = two.begun ∙ one.begun;
+      ranks = two.ranks ∙ one.ranks;
+      hears = two.hears ∙ one.hears;
+    }
+
     pub plays_same : (x : Player S) → PlayerInvariant shows gives f r x → PlaysOn shows gives f r x x
     plays_same x s = record {
       stands = s;
       seat = refl;
       grows = grows_same x.actor;
-      gave = λ commands last given. record { before = last; gives = given };
-      hears = refl;
+      source = source_same x.source;
     }
 
     pub plays_on : (x y z : Player S) → PlaysOn shows gives f r x y → PlaysOn shows gives f r y z →
@@ -47,10 +64,7 @@ module _ {S : Type 0} (shows : S → SourceView) (gives : S → List Numbered �
       stands = two.stands;
       seat = two.seat ∙ one.seat;
       grows = grows_on x.actor y.actor z.actor one.grows two.grows;
-      gave = λ commands last given.
-          let before = two.gave commands last given in
-          one.gave commands before.before before.gives;
-      hears = two.hears ∙ one.hears;
+      source = source_on x.source y.source z.source one.source two.source;
     }
 
     -- one step more of a loop that tells whether something was done
@@ -74,8 +88,7 @@ module _ {S : Type 0} (shows : S → SourceView) (gives : S → List Numbered �
       };
       seat = on.seat;
       grows = on.grows;
-      gave = λ commands last given. record { before = last; gives = given };
-      hears = refl;
+      source = source_same x.source;
     }
 
     pub moves_actor : (x y : Player S) (some : Bool) → PlayerInvariant shows gives f r x →

@@ -1,7 +1,7 @@
 -- Lists of players by rank.
 use Rattle.std.proofs.Common.{◌≡◌, ℕ, zero, suc, ◌+◌, ◌<◌, ◌&&◌, not, Bool, true, false, Some, None, List, []}
 use Rattle.std.proofs.Common.{◌∷◌, ◌++◌, length, map, refl, sym, ap, ◌∙◌, subst, arith}
-use Rattle.std.specs.List.{All, AllZip, slice_get}
+use Rattle.std.specs.List.{All, AllByRecursion, AllZip, slice_get}
 use Rattle.std.proofs.lemmas.List.Elements.{All-cons}
 use Rattle.std.proofs.lemmas.Option.{get_or_from_slice_get}
 use mathlib.Core.Logic.{dite}
@@ -17,7 +17,8 @@ use Rattle.nm_copyring.specs.Ports as ring
 use Rattle.nm_process.specs.Sources.{SourceView}
 use Rattle.nm_world.specs.declared.players.Player.{Player}
 use Rattle.nm_world.specs.Actors.{Seat, seat_of}
-use Rattle.nm_world.specs.Players.{AllPlayOn, GivesLess, IsAtWork, PlayerInvariant}
+use Rattle.nm_world.specs.Players.{AllPlayOn, GoesOn, IsAtWork, PlayerInvariant}
+use Rattle.nm_world.specs.Records.{HasHeard}
 use Rattle.nm_world.specs.Rest.{CanMove}
 use Rattle.nm_world.specs.Runs.{AreRanked, InPlace, NewInOrder, PairAgrees, SomeMoves}
 use Rattle.nm_world.proofs.Chosen.{same_there}
@@ -28,7 +29,7 @@ use Rattle.nm_types.proofs.TruthLemmas.{and_left, and_right}
 use Rattle.nm_types.specs.declared.packets.Packet.{Packet}
 
 -- one more was asked whether it can move
-pub moves_more : {S : Type 0} (shows : S → SourceView) (gives : S → List Numbered → ℕ → Type 0)
+pub moves_more : {S B : Type 0} (shows : S → SourceView B) (gives : S → List Numbered → ℕ → Type 0)
     (players : List (Player S)) (n : ℕ) (x : Player S) (all moves : Bool) → slice_get players n ≡ Some x →
     (moves ≡ true → (commands : List Numbered) → IsAtWork shows gives x commands → CanMove commands x.actor.process) →
     (all ≡ false → SomeMoves shows gives players) → (all && not moves) ≡ false → SomeMoves shows gives players
@@ -65,7 +66,7 @@ rows_more players n all one last before both i j a b low at to = dite (ℕ_discr
     (last (and_right all one both) j a b (subst (λ k. slice_get players k ≡ Some a) e at) to))
     (λ ne. before (and_left all one both) i j a b (omega (arith, low, ne)) at to)
 
-module _ {S : Type 0} (shows : S → SourceView) (gives : S → List Numbered → ℕ → Type 0) (f : Fabric Packet) (r : Rings)
+module _ {S B : Type 0} (shows : S → SourceView B) (gives : S → List Numbered → ℕ → Type 0) (f : Fabric Packet) (r : Rings)
   where
     pub all_kept_same : (xs : List (Player S)) → All (PlayerInvariant shows gives f r) xs →
         AllPlayOn shows gives f r xs xs
@@ -103,15 +104,15 @@ module _ {S : Type 0} (shows : S → SourceView) (gives : S → List Numbered �
         (each k x (place_below xs k x at)) in
         (s.ports.cells.2, s.ports.rings.1.1 ∙ s.ports.ranks.1 ∙ sym s.ports.ranks.0)
 
-    -- their sources may give no others than before
-    pub all_gave : (xs ys : List (Player S)) → AllPlayOn shows gives f r xs ys →
-        AllZip (GivesLess gives) (map (λ (x : Player S). x.source) xs) (map (λ (x : Player S). x.source) ys)
-    all_gave [] [] kept = tt
-    all_gave [] (y ∷ ys) kept = absurd kept
-    all_gave (x ∷ xs) [] kept = absurd kept
-    all_gave (x ∷ xs) (y ∷ ys) kept = (kept.0.gave, all_gave xs ys kept.1)
+    -- their sources went on
+    pub all_went : (xs ys : List (Player S)) → AllPlayOn shows gives f r xs ys →
+        AllZip (GoesOn shows gives) (map (λ (x : Player S). x.source) xs) (map (λ (x : Player S). x.source) ys)
+    all_went [] [] kept = tt
+    all_went [] (y ∷ ys) kept = absurd kept
+    all_went (x ∷ xs) [] kept = absurd kept
+    all_went (x ∷ xs) (y ∷ ys) kept = (kept.0.source, all_went xs ys kept.1)
 
-module _ {S : Type 0} (shows : S → SourceView) (gives : S → List Numbered → ℕ → Type 0) (shape : Sizes)
+module _ {S B : Type 0} (shows : S → SourceView B) (gives : S → List Numbered → ℕ → Type 0) (shape : Sizes)
     (f : Fabric Packet) (r : Rings) where
   pub in_place_stands : (k : ℕ) (players : List (Player S)) → InPlace shows gives shape f r k players →
       All (PlayerInvariant shows gives f r) players
@@ -126,6 +127,13 @@ module _ {S : Type 0} (shows : S → SourceView) (gives : S → List Numbered �
   in_place_kept k (a ∷ us) [] p h = absurd h
   in_place_kept k (a ∷ us) (b ∷ bs) p h =
       (h.0.stands, h.0.seat ∙ p.1, in_place_kept (k + 1) us bs p.2 h.1)
+
+  -- each counts the commands that ran, and was told their answers
+  pub in_place_heard : (k : ℕ) (players : List (Player S)) → InPlace shows gives shape f r k players →
+      AllByRecursion (HasHeard shows) players
+  in_place_heard k [] p = tt
+  in_place_heard k (x ∷ players) p =
+      (record { at = p.0.at; told = p.0.told }, in_place_heard (k + 1) players p.2)
 
   pub in_place_at : (k i : ℕ) (players : List (Player S)) (x : Player S) → InPlace shows gives shape f r k players →
       slice_get players i ≡ Some x →
@@ -172,7 +180,7 @@ new_in_order f r k (p ∷ ps) (q ∷ qs) many one other =
       later i = omega arith
 
 -- the players that are cast for new ports
-pub placed_new : {S : Type 0} (shows : S → SourceView) (gives : S → List Numbered → ℕ → Type 0) (shape : Sizes)
+pub placed_new : {S B : Type 0} (shows : S → SourceView B) (gives : S → List Numbered → ℕ → Type 0) (shape : Sizes)
     (f : Fabric Packet) (r : Rings) (ps : List (Port Packet)) (qs : List RingPort) (players : List (Player S)) →
     ((f : Fabric Packet) (r : Rings) → (f.ranks ≡ shape.ranks) × (r.ranks ≡ shape.ranks) → NewInOrder f r 0 ps qs →
     InPlace shows gives shape f r 0 players) → f.ranks ≡ shape.ranks → r.ranks ≡ shape.ranks → length ps ≡ length qs →

@@ -27,7 +27,7 @@ use Rattle.nm_types.specs.declared.packets.Packet.{Packet}
 abbrev RestsUnlessWorn : {S : Type 0} → (S → List Numbered → ℕ → Type 0) → Player S → Player S → Type 0
 RestsUnlessWorn gives x y = IsFresh x.actor.process.rank → Rests gives x y
 
-module _ {S : Type 0} (n : ℕ) (shows : S → SourceView) (gives : S → List Numbered → ℕ → Type 0) (f : Fabric Packet)
+module _ {S B : Type 0} (n : ℕ) (shows : S → SourceView B) (gives : S → List Numbered → ℕ → Type 0) (f : Fabric Packet)
     (r : Rings) (all : Bool) where
   pub swept_none : Swept n shows gives f r all false [] []
   swept_none = record { kept = tt; moved = refl; still = λ none. tt; idle = λ none every. tt }
@@ -87,11 +87,11 @@ module _ {S : Type 0} (n : ℕ) (shows : S → SourceView) (gives : S → List N
       subst (λ (olds : List (Player S)). Swept n shows gives f r all p olds ys) (take_all k xs (omega (arith, past, many)))
       (subst (λ (news : List (Player S)). Swept n shows gives f r all p (take k xs) news) (take_all k ys past) s.swept)
 
-pub swept_first : {S : Type 0} (n : ℕ) (shows : S → SourceView) (gives : S → List Numbered → ℕ → Type 0) (f : Fabric Packet) (r : Rings) (p : Bool) (xs ys : List (Player S)) →
+pub swept_first : {S B : Type 0} (n : ℕ) (shows : S → SourceView B) (gives : S → List Numbered → ℕ → Type 0) (f : Fabric Packet) (r : Rings) (p : Bool) (xs ys : List (Player S)) →
     Swept n shows gives f r true p xs ys → HasSwept n shows gives f r p xs ys
 swept_first n shows gives f r p xs ys s = record { kept = s.kept; moved = s.moved; idle = λ none. s.idle none refl }
 
-rests_still : {S : Type 0} (shows : S → SourceView) (gives : S → List Numbered → ℕ → Type 0) (f : Fabric Packet)
+rests_still : {S B : Type 0} (shows : S → SourceView B) (gives : S → List Numbered → ℕ → Type 0) (f : Fabric Packet)
     (r : Rings) (a b c : Player S) → RestsUnlessWorn gives a b → PlaysOn shows gives f r b c × StaysUnlessWorn b c →
     RestsUnlessWorn gives a c
 rests_still shows gives f r a b c rests on fresh =
@@ -103,7 +103,7 @@ rests_still shows gives f r a b c rests on fresh =
     }
 
 -- a sweep more
-pub swept_on : {S : Type 0} (n : ℕ) (shows : S → SourceView) (gives : S → List Numbered → ℕ → Type 0) (f : Fabric Packet) (r : Rings) (all : Bool) (xs ys zs : List (Player S))
+pub swept_on : {S B : Type 0} (n : ℕ) (shows : S → SourceView B) (gives : S → List Numbered → ℕ → Type 0) (f : Fabric Packet) (r : Rings) (all : Bool) (xs ys zs : List (Player S))
     (p q : Bool) → HasSwept n shows gives f r p xs ys → Swept n shows gives f r all q ys zs →
     HasSwept n shows gives f r (p || q) xs zs
 swept_on n shows gives f r all xs ys zs p q before one = record {
@@ -116,7 +116,7 @@ swept_on n shows gives f r all xs ys zs p q before one = record {
 }
 
 -- what two crews have told of their actors holds of all of them
-pub swept_halves : {S : Type 0} (n : ℕ) (shows : S → SourceView) (gives : S → List Numbered → ℕ → Type 0) (f : Fabric Packet) (r : Rings) (xs ys xs' ys' : List (Player S)) (p q : Bool) →
+pub swept_halves : {S B : Type 0} (n : ℕ) (shows : S → SourceView B) (gives : S → List Numbered → ℕ → Type 0) (f : Fabric Packet) (r : Rings) (xs ys xs' ys' : List (Player S)) (p q : Bool) →
     HasSwept n shows gives f r p xs xs' → HasSwept n shows gives f r q ys ys' →
     HasSwept n shows gives f r (p || q) (xs ++ ys) (xs' ++ ys')
 swept_halves n shows gives f r xs ys xs' ys' p q one two = record {
@@ -127,7 +127,7 @@ swept_halves n shows gives f r xs ys xs' ys' p q one two = record {
 }
 
 -- and so what all crews have told
-pub swept_all : {S : Type 0} (n : ℕ) (shows : S → SourceView) (gives : S → List Numbered → ℕ → Type 0) (f : Fabric Packet) (r : Rings) (old new : List (Player S)) (some : Bool) →
+pub swept_all : {S B : Type 0} (n : ℕ) (shows : S → SourceView B) (gives : S → List Numbered → ℕ → Type 0) (f : Fabric Packet) (r : Rings) (old new : List (Player S)) (some : Bool) →
     HaveTold (HasSwept n shows gives f r) some old new → HasSwept n shows gives f r some old new
 swept_all n shows gives f r old new some (sole told) = told
 swept_all n shows gives f r old new some (halves {p} {q} {xs} {ys} {xs'} {ys'} front back) =

@@ -13,11 +13,11 @@ use Rattle.nm_world.specs.declared.players.Player.{Player}
 use Rattle.nm_world.specs.Actors.{ActorInvariant, Grew, Grows, HasPorts, done_by, seat_of}
 
 -- a source that is told answers was told these
-abbrev pub WasTold : SourceView → List Answer → Type 0
+abbrev pub WasTold : {B : Type 0} → SourceView B → List Answer → Type 0
 WasTold v answers = IfSome v.told (λ told. told ≡ answers)
 
 -- a source of which no command ran, for a run of n ranks
-pub record BeginsAt {S : Type 0} (shows : S → SourceView) (gives : S → List Numbered → ℕ → Type 0) (n : ℕ) (s : S)
+pub record BeginsAt {S B : Type 0} (shows : S → SourceView B) (gives : S → List Numbered → ℕ → Type 0) (n : ℕ) (s : S)
     : Type 0 where
   pub at : (shows s).at ≡ 0
   pub ranks : (shows s).ranks ≡ n
@@ -26,7 +26,7 @@ pub record BeginsAt {S : Type 0} (shows : S → SourceView) (gives : S → List 
 
 -- Its actor has its ports, its source counts the commands that ran and was told the answers of its rank's
 -- history, and whatever commands its source goes on to give, its actor stands at them.
-pub record PlayerInvariant {S : Type 0} (shows : S → SourceView) (gives : S → List Numbered → ℕ → Type 0)
+pub record PlayerInvariant {S B : Type 0} (shows : S → SourceView B) (gives : S → List Numbered → ℕ → Type 0)
     (f : Fabric Packet) (r : Rings) (x : Player S) : Type 0 where
   pub ports : HasPorts f r x.actor
   pub at : (shows x.source).at ≡ x.actor.process.at
@@ -36,7 +36,7 @@ pub record PlayerInvariant {S : Type 0} (shows : S → SourceView) (gives : S �
 
 -- A player's source gives these commands, and counts those that ran, and its actor's process is at work on
 -- them.
-pub record IsAtWork {S : Type 0} (shows : S → SourceView) (gives : S → List Numbered → ℕ → Type 0) (x : Player S)
+pub record IsAtWork {S B : Type 0} (shows : S → SourceView B) (gives : S → List Numbered → ℕ → Type 0) (x : Player S)
     (commands : List Numbered) : Type 0 where
   pub last : ℕ
   pub given : gives x.source commands last
@@ -48,21 +48,30 @@ pub record GaveBefore (gave : List Numbered → ℕ → Type 0) (commands : List
   pub before : ℕ
   pub gives : gave commands before
 
--- it is the same player, it stands, it goes on from where it was, and its source may give no others than
--- before
-pub record PlaysOn {S : Type 0} (shows : S → SourceView) (gives : S → List Numbered → ℕ → Type 0)
+-- a source may give no other commands than before
+abbrev pub GivesLess : {S : Type 0} → (S → List Numbered → ℕ → Type 0) → S → S → Type 0
+GivesLess gives s t = (commands : List Numbered) (last : ℕ) → gives t commands last → GaveBefore (gives s) commands
+
+-- A source went on: it may give no other commands than before, was the same at first, is for as many ranks, and
+-- is told answers if it was.
+pub record GoesOn {S B : Type 0} (shows : S → SourceView B) (gives : S → List Numbered → ℕ → Type 0) (s t : S)
+    : Type 0 where
+  pub gave : GivesLess gives s t
+  pub begun : (shows t).begun ≡ (shows s).begun
+  pub ranks : (shows t).ranks ≡ (shows s).ranks
+  pub hears : is_some (shows t).told ≡ is_some (shows s).told
+
+-- it is the same player, it stands, and it and its source go on from where they were
+pub record PlaysOn {S B : Type 0} (shows : S → SourceView B) (gives : S → List Numbered → ℕ → Type 0)
     (f : Fabric Packet) (r : Rings) (x y : Player S) : Type 0 where
   pub stands : PlayerInvariant shows gives f r y
   pub seat : seat_of y.actor ≡ seat_of x.actor
   pub grows : Grows x.actor y.actor
-  pub gave :
-      (commands : List Numbered) (last : ℕ) → gives y.source commands last →
-      GaveBefore (gives x.source) commands
-  pub hears : is_some (shows y.source).told ≡ is_some (shows x.source).told
+  pub source : GoesOn shows gives x.source y.source
 
 -- so it is with each of a list
 abbrev pub AllPlayOn :
-    {S : Type 0} → (S → SourceView) → (S → List Numbered → ℕ → Type 0) → Fabric Packet → Rings →
+    {S B : Type 0} → (S → SourceView B) → (S → List Numbered → ℕ → Type 0) → Fabric Packet → Rings →
     List (Player S) → List (Player S) → Type 0
 AllPlayOn shows gives f r = AllZip (PlaysOn shows gives f r)
 
@@ -83,10 +92,6 @@ done_of n (x ∷ players) = done_by n x.actor + done_of n players
 -- whether one of them did something between two moments
 abbrev pub did_any : {S : Type 0} → ℕ → List (Player S) → List (Player S) → Bool
 did_any n old new = nat_lt (done_of n old) (done_of n new)
-
--- a source may give no other commands than before
-abbrev pub GivesLess : {S : Type 0} → (S → List Numbered → ℕ → Type 0) → S → S → Type 0
-GivesLess gives s t = (commands : List Numbered) (last : ℕ) → gives t commands last → GaveBefore (gives s) commands
 
 -- these sources give the commands of the ranks from k on
 abbrev pub AreGiven :

@@ -1,14 +1,15 @@
 -- What there is to tell of actors at rest.
-use Rattle.std.specs.Prelude.{◌≡◌, ℕ, ◌+◌, nat_lt, Some, option_map, List, [], ◌∷◌, ◌++◌, map, filter, slice_get}
+use Rattle.std.specs.Prelude.{◌≡◌, ℕ, ◌+◌, nat_lt, Some, is_some, option_map, List, [], ◌∷◌, ◌++◌, map, filter, slice_get}
 use Rattle.std.specs.List.{range_with_len}
 use Rattle.nm_types.specs.Commands.{Numbered}
 use Rattle.nm_history.specs.Quiescence.{Ended, Packets}
+use Rattle.nm_history.specs.Totals.{answers_given}
 use Rattle.nm_cells.specs.declared.port.Port.{Port}
 use Rattle.nm_cells.specs.Ports.{knows, sent_by}
 use Rattle.nm_process.specs.Processes.{ProcessView}
 use Rattle.nm_process.specs.Sources.{SourceView}
 use Rattle.nm_world.specs.declared.players.Player.{Player}
-use Rattle.nm_world.specs.Players.{IsAtWork}
+use Rattle.nm_world.specs.Players.{IsAtWork, WasTold}
 use Rattle.nm_types.specs.declared.packets.Packet.{Packet}
 
 -- a process at the end of its run: the command at which it waits is the next of these
@@ -19,6 +20,22 @@ ended_of commands v =
       waits = option_map (λ c. c.line) (slice_get commands v.at);
       events = v.rank.events;
     }
+
+-- a player's source counts the commands that its process ran, and was told the answers of its history
+pub record HasHeard {S B : Type 0} (shows : S → SourceView B) (x : Player S) : Type 0 where
+  pub at : (shows x.source).at ≡ x.actor.process.at
+  pub told : WasTold (shows x.source) (answers_given x.actor.process.rank.events)
+
+-- A source at the end of its rank: it counts the commands that ran, was told the answers of the rank's history,
+-- and its next command, if there is one, is that in which the rank waits.
+pub record HasStopped {S B : Type 0} (shows : S → SourceView B) (gives : S → List Numbered → ℕ → Type 0) (s : S)
+    (e : Ended) : Type 0 where
+  pub at : (shows s).at ≡ e.at
+  pub told : WasTold (shows s) (answers_given e.events)
+  pub waits :
+      (commands : List Numbered) (last : ℕ) → gives s commands last →
+      e.waits ≡ option_map (λ c. c.line) (slice_get commands (shows s).at)
+  pub next : is_some e.waits ≡ is_some (shows s).next
 
 -- how many packets a port sent to each of n ranks, where there are some
 abbrev pub counts_to : ℕ → Port Packet → List Packets
@@ -33,7 +50,7 @@ counts_of n (x ∷ players) = counts_to n x.actor.port ++ counts_of n players
 
 -- the source of each of these players gives the commands of its rank, from the rank k on
 abbrev pub AreAtWork :
-    {S : Type 0} → (S → SourceView) → (S → List Numbered → ℕ → Type 0) → (ℕ → List Numbered) → ℕ → List (Player S) →
+    {S B : Type 0} → (S → SourceView B) → (S → List Numbered → ℕ → Type 0) → (ℕ → List Numbered) → ℕ → List (Player S) →
     Type 0
 AreAtWork shows gives commands k [] = Unit {0}
 AreAtWork shows gives commands k (x ∷ players) =

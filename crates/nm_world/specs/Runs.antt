@@ -28,7 +28,7 @@ use Rattle.nm_types.specs.declared.packets.Packet.{Packet}
 
 -- the players stand, and are those of the ranks from k on, in order
 abbrev pub InPlace :
-    {S : Type 0} → (S → SourceView) → (S → List Numbered → ℕ → Type 0) → Sizes → Fabric Packet → Rings → ℕ →
+    {S B : Type 0} → (S → SourceView B) → (S → List Numbered → ℕ → Type 0) → Sizes → Fabric Packet → Rings → ℕ →
     List (Player S) → Type 0
 InPlace shows gives shape f r k [] = Unit {0}
 InPlace shows gives shape f r k (x ∷ players) =
@@ -37,12 +37,12 @@ InPlace shows gives shape f r k (x ∷ players) =
 
 -- whatever commands of these a player's source gives and its actor stands at, it is still
 abbrev pub IsStillAt :
-    {S : Type 0} → (S → SourceView) → (S → List Numbered → ℕ → Type 0) → Player S → Type 0
+    {S B : Type 0} → (S → SourceView B) → (S → List Numbered → ℕ → Type 0) → Player S → Type 0
 IsStillAt shows gives x =
     (commands : List Numbered) → IsAtWork shows gives x commands → IsStill commands x.actor.process
 
 -- one of these can move, whatever commands its source gives
-pub record SomeMoves {S : Type 0} (shows : S → SourceView) (gives : S → List Numbered → ℕ → Type 0)
+pub record SomeMoves {S B : Type 0} (shows : S → SourceView B) (gives : S → List Numbered → ℕ → Type 0)
     (players : List (Player S)) : Type 0 where
   pub place : ℕ
   pub player : Player S

@@ -17,7 +17,7 @@ StaysUnlessWorn x y = IsFresh x.actor.process.rank → y.actor.process ≡ x.act
 
 -- Each of these players was kept, and `some` tells whether one did something. Where none did, the
 -- processes are as they were, and where all made a turn, none could move.
-pub record Swept {S : Type 0} (n : ℕ) (shows : S → SourceView) (gives : S → List Numbered → ℕ → Type 0)
+pub record Swept {S B : Type 0} (n : ℕ) (shows : S → SourceView B) (gives : S → List Numbered → ℕ → Type 0)
     (f : Fabric Packet) (r : Rings) (all some : Bool) (old new : List (Player S)) : Type 0 where
   pub kept : AllPlayOn shows gives f r old new
   pub moved : some ≡ did_any n old new
@@ -26,7 +26,7 @@ pub record Swept {S : Type 0} (n : ℕ) (shows : S → SourceView) (gives : S �
 
 -- What a crew, or several, have told after some sweeps over these players: each was kept, `some` tells
 -- whether one did something, and where none did, none could move.
-pub record HasSwept {S : Type 0} (n : ℕ) (shows : S → SourceView) (gives : S → List Numbered → ℕ → Type 0)
+pub record HasSwept {S B : Type 0} (n : ℕ) (shows : S → SourceView B) (gives : S → List Numbered → ℕ → Type 0)
     (f : Fabric Packet) (r : Rings) (some : Bool) (old new : List (Player S)) : Type 0 where
   pub kept : AllPlayOn shows gives f r old new
   pub moved : some ≡ did_any n old new

@@ -18,6 +18,8 @@
 //!   `bound`).
 //! - `run_sources` answers the record of a run of the commands that its sources gave, and what the closed
 //!   ports carried is what its histories call for (`run`, `home`, `done`). So it is with `run` and a script.
+//! - Each source was told exactly the answers of its rank's history, if it is told any, and has gone on from
+//!   where it was (`run_sources`: `stopped`, `goes_on`).
 //! # What is only tested
 //! That a probe sees the packet that came last (`nm_rows::world`), that two ranks are at work at the same
 //! time (`nm_rows::cli`), and that no crew sleeps for good (`.ci/small`). Why it doesn't stands in

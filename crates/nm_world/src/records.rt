@@ -1,11 +1,15 @@
 //! What there is to tell of players at rest.
 
-ghost use Rattle.std.specs.Prelude.{◌≡◌, ◌<◌, ◌≤◌, [], ◌∷◌, ◌++◌, ◌+◌, ℕ, List, length, map, option_map, slice_get, IfOk, OnOk};
+ghost use Rattle.std.specs.Prelude.{◌≡◌, ◌<◌, ◌≤◌, [], ◌∷◌, ◌++◌, ◌+◌, ℕ, List, length, map, slice_get, IfOk, OnOk};
+ghost use Rattle.std.specs.Prelude.{is_some, option_map};
+ghost use Rattle.std.specs.List.{AllByRecursion, AllZip};
 ghost use Rattle.nm_types.specs.Commands.{Numbered};
 ghost use Rattle.nm_cells.specs.Ports.{knows};
-ghost use Rattle.nm_report.specs.Ends.{are_done, ends_of, packets_of};
-ghost use Rattle.nm_world.specs.Players.{IsAtWork};
-ghost use Rattle.nm_world.specs.Records.{AreAtWork, AreKnown, counts_of, counts_to, ended_from, ended_of};
+ghost use Rattle.nm_history.specs.Totals.{answers_given};
+ghost use Rattle.nm_report.specs.Ends.{are_done, end_of_account, ends_of, packets_of};
+ghost use Rattle.nm_world.specs.Players.{IsAtWork, WasTold};
+ghost use Rattle.nm_world.specs.Records.{AreAtWork, AreKnown, HasHeard, HasStopped, counts_of, counts_to};
+ghost use Rattle.nm_world.specs.Records.{ended_from, ended_of};
 
 use crate::{Actor, Player};
 use nm_copyring::RingPort;
@@ -30,7 +34,8 @@ pub(crate) struct Parts<S> {
 
 // The line of the next command, if there is one.
 fn next_line<S: Source>(source: &S) -> Option<u32>
-    ensures { (commands : List Numbered) (last : ℕ) → S.gives source.now commands last →
+    ensures some { is_some result ≡ is_some (S.shows source.now).next }
+    ensures line { (commands : List Numbered) (last : ℕ) → S.gives source.now commands last →
         result ≡ option_map (λ c. c.line) (slice_get commands (S.shows source.now).at) }
 {
     match source.next() {
@@ -41,9 +46,12 @@ fn next_line<S: Source>(source: &S) -> Option<u32>
 
 // What became of a rank, and what its process kept beside that.
 fn account<S: Source>(process: Process, source: &S) -> (RankAccount, Leavings)
-    ensures { (commands : List Numbered) (last : ℕ) → S.gives source.now commands last →
+    ensures ended { (commands : List Numbered) (last : ℕ) → S.gives source.now commands last →
         (S.shows source.now).at ≡ process.at →
         ends_of (result.0 ∷ []) ≡ ended_of commands process ∷ [] }
+    ensures stopped { (S.shows source.now).at ≡ process.at →
+        WasTold (S.shows source.now) (answers_given process.rank.events) →
+        HasStopped S.shows S.gives source.now (end_of_account result.0) }
 {
     let at = process.at();
     let waits = next_line(source);
@@ -81,6 +89,7 @@ pub(crate) fn add<T: Drop>(list: &mut Vec<T>, x: T) -> Result<(), Memory>
 // The parts of one player more. Its process goes first, so that a way out has little to let go.
 fn tell<S: Source>(parts: &mut Parts<S>, player: Player<S>, ranks: u8) -> Result<(), Memory>
     requires known { ranks ≤ (knows player.actor.port).ranks }
+    requires heard { HasHeard S.shows player }
     ensures ports { OnOk result
         (parts.new.ports.items ≡ parts.old.ports.items ++ player.actor.port ∷ []) }
     ensures rings { OnOk result
@@ -92,6 +101,9 @@ fn tell<S: Source>(parts: &mut Parts<S>, player: Player<S>, ranks: u8) -> Result
         IsAtWork S.shows S.gives player commands →
         ends_of parts.new.ranks
         ≡ ends_of parts.old.ranks ++ ended_of commands player.actor.process ∷ []) }
+    ensures stopped { OnOk result (
+        AllZip (HasStopped S.shows S.gives) parts.old.sources.items (ends_of parts.old.ranks) →
+        AllZip (HasStopped S.shows S.gives) parts.new.sources.items (ends_of parts.new.ranks)) }
     ensures packets { OnOk result (packets_of parts.new.pairs
         ≡ packets_of parts.old.pairs ++ counts_to ranks player.actor.port) }
     ensures done { OnOk result (parts.old.done ≡ are_done (ends_of parts.old.ranks) →
@@ -122,12 +134,15 @@ pub(crate) fn parts_of<S: Source>(
     ranks: u8,
 ) -> Result<Parts<S>, Memory>
     requires known { AreKnown ranks players.items }
+    requires heard { AllByRecursion (HasHeard S.shows) players.items }
     ensures ports { IfOk result (λ x. x.ports.items ≡ map (λ p. p.actor.port) players.items) }
     ensures rings { IfOk result (λ x. x.rings.items ≡ map (λ p. p.actor.ring) players.items) }
     ensures sources { IfOk result (λ x. x.sources.items ≡ map (λ p. p.source) players.items) }
     ensures ends { IfOk result (λ x. (commands : ℕ → List Numbered) →
         AreAtWork S.shows S.gives commands 0 players.items →
         ends_of x.ranks ≡ ended_from commands 0 players.items) }
+    ensures stopped { IfOk result (λ x.
+        AllZip (HasStopped S.shows S.gives) x.sources.items (ends_of x.ranks)) }
     ensures packets { IfOk result (λ x. packets_of x.pairs ≡ counts_of ranks players.items) }
     ensures done { IfOk result (λ x. x.done ≡ are_done (ends_of x.ranks)) }
 {

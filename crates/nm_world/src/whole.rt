@@ -13,7 +13,8 @@ ghost use Rattle.nm_cells.specs.Ports.{knows};
 ghost use Rattle.nm_copyring.specs.declared.port.Rings.{Rings};
 ghost use Rattle.nm_copyring.specs.Ports as ring_port;
 ghost use Rattle.nm_process.specs.Lines.{AreLines};
-ghost use Rattle.nm_world.specs.Players.{AllPlayOn, AreGiven, BeginsAt, GivesLess, PlayerInvariant};
+ghost use Rattle.nm_world.specs.Players.{AllPlayOn, AreGiven, BeginsAt, GoesOn, PlayerInvariant};
+ghost use Rattle.nm_world.specs.Records.{HasStopped};
 ghost use Rattle.nm_world.specs.Rest.{Each};
 ghost use Rattle.nm_world.specs.Runs.{AllAgree, AreRanked, InPlace};
 ghost use Rattle.nm_world.specs.Runs.{IsStillAt, IsWhole, IsWholeBy, NewInOrder, PairAgrees, RowAgrees, SomeMoves};
@@ -201,7 +202,8 @@ fn cast<S: Source>(
 ///
 /// It calls `gate.turn(rank)` before each turn of a rank. Whatever commands the sources are left with, the
 /// record tells a lawful run of them that is at rest, what went from rank to rank is what its histories
-/// call for, all cells are home, and `done` tells whether no rank waits.
+/// call for, all cells are home, and `done` tells whether no rank waits. Each source was told exactly the
+/// answers of its rank's history, if it is told any, and its next command is that in which its rank waits.
 pub fn run_sources<R: Threads + Wait + Sync, S: Source + Send, G: Gate + Sync>(
     rt: &R,
     alloc: Global,
@@ -215,7 +217,10 @@ pub fn run_sources<R: Threads + Wait + Sync, S: Source + Send, G: Gate + Sync>(
     ensures run { IfOk result (λ x. (commands : ℕ → List Numbered) →
         AreInRange shape.ranks commands → AreGiven S.gives commands 0 x.sources.items →
         IsWholeBy shape commands x.record x.ways.cells x.ways.rings) }
-    ensures gave { IfOk result (λ x. AllZip (GivesLess S.gives) sources.items x.sources.items) }
+    ensures goes_on { IfOk result (λ x.
+        AllZip (GoesOn S.shows S.gives) sources.items x.sources.items) }
+    ensures stopped { IfOk result (λ x.
+        AllZip (HasStopped S.shows S.gives) x.sources.items (ends_of x.record.ranks)) }
     ensures home { IfOk result (λ x. AllCellsFree x.record) }
     ensures account { IfOk result (λ x. x.record.cells ≡ x.ways.cells.cells) }
     ensures done { IfOk result (λ x. x.record.done ≡ are_done (ends_of x.record.ranks)) }

@@ -1,9 +1,10 @@
 use Rattle.std.proofs.Common.{◌≡◌, ◌++◌, ℕ, List, length, map}
+use Rattle.std.specs.List.{AllByRecursion, AllZip}
 use Rattle.std.specs.Vec.Iter.{into_iter_items}
 use Rattle.nm_types.specs.Commands.{Numbered}
 use Rattle.nm_report.specs.Ends.{are_done, ends_of, packets_of}
 use Rattle.nm_world.specs.declared.players.Player.{Player}
-use Rattle.nm_world.specs.Records.{AreAtWork, AreKnown, counts_of, ended_from}
+use Rattle.nm_world.specs.Records.{AreAtWork, AreKnown, HasHeard, HasStopped, counts_of, ended_from}
 use Rattle.nm_world.proofs.records.parts_of.Given as goal
 
 abbrev pub invariant-loop-player : goal.invariant-loop-player
@@ -15,6 +16,8 @@ invariant-loop-player g l = record {
   sources : l.parts.sources.items ++ map (λ (x : Player _). x.source) (into_iter_items l.player-iterator)
       ≡ map (λ (x : Player _). x.source) l.fn.players.items;
   known : AreKnown l.fn.ranks (into_iter_items l.player-iterator);
+  heard : AllByRecursion (HasHeard g.S.Source.shows) (into_iter_items l.player-iterator);
+  stopped : AllZip (HasStopped g.S.Source.shows g.S.Source.gives) l.parts.sources.items (ends_of l.parts.ranks);
   ends : (commands : ℕ → List Numbered) →
       AreAtWork g.S.Source.shows g.S.Source.gives commands 0 l.fn.players.items →
       AreAtWork g.S.Source.shows g.S.Source.gives commands (length l.parts.ranks) (into_iter_items l.player-iterator)

@@ -13,7 +13,7 @@ use Rattle.nm_world.proofs.Results.{clash}
 use Rattle.nm_world.proofs.Runs.{moves_more}
 use Rattle.nm_world.proofs.whole.are_still.Goals as goal
 
-still_more : {S : Type 0} (shows : S → SourceView) (gives : S → List Numbered → ℕ → Type 0) (players : List (Player S))
+still_more : {S B : Type 0} (shows : S → SourceView B) (gives : S → List Numbered → ℕ → Type 0) (players : List (Player S))
     (n : ℕ) (x : Player S) (all moves : Bool) → slice_get players n ≡ Some x →
     (moves ≡ false → IsStillAt shows gives x) →
     (all ≡ true → (k : ℕ) → k < n → IfSome (slice_get players k) (IsStillAt shows gives)) → (all && not moves) ≡ true →

@@ -31,4 +31,4 @@ returns-clause-run g c =
     c.in_ok-left.ensures.run (commands_by_rank lines)
     (λ i. in_range_from shape.ranks i 2 lines c.requires.script.lines_in_range)
     (scripts_give c.ranks.result lines 0 c.in_ok-scripts.scripts.items left.sources.items
-    c.in_ok-scripts.ensures.scripts c.in_ok-left.ensures.gave)
+    c.in_ok-scripts.ensures.scripts c.in_ok-left.ensures.goes_on)

@@ -17,7 +17,7 @@ use Rattle.nm_copyring.specs.Ports as ring_port
 use Rattle.nm_report.specs.Ends.{ends_of, packets_of}
 use Rattle.nm_world.specs.declared.actors.Actor.{Actor}
 use Rattle.nm_world.specs.declared.players.Player.{Player}
-use Rattle.nm_world.specs.Players.{AreGiven, GivesLess}
+use Rattle.nm_world.specs.Players.{AreGiven, GoesOn}
 use Rattle.nm_world.specs.Records.{AreKnown, counts_of}
 use Rattle.nm_world.specs.Rest.{IsClosed, IsRingClosed}
 use Rattle.nm_world.specs.Runs.{AreCarriedBy}
@@ -25,7 +25,8 @@ use Rattle.nm_world.proofs.Accounts.{told_run}
 use Rattle.nm_world.proofs.AtRest.{actors_taken, all_at_work, all_taken_of, carried_of, closed_many, each_ends}
 use Rattle.nm_world.proofs.Chosen.{map_twice}
 use Rattle.nm_world.proofs.Counted.{carried_counts}
-use Rattle.nm_world.proofs.Runs.{all_gave, in_place_at, in_place_kept, in_place_stands, kept_many, placed_new}
+use Rattle.nm_world.proofs.Runs.{all_went, in_place_at, in_place_heard, in_place_kept, in_place_stands, kept_many}
+use Rattle.nm_world.proofs.Runs.{placed_new}
 use Rattle.nm_world.proofs.whole.run_sources.Goals as goal
 use Rattle.nm_types.proofs.ListLemmas.{get_from_map}
 
@@ -80,7 +81,10 @@ parts_of-requires g c =
     let at_end = in_place_kept shows gives c.args.shape f r 0 cast players place settled.kept in
     let known : AreKnown c.args.shape.ranks players = λ k x at.
     (in_place_at shows gives c.args.shape f r 0 k players x at_end at).0.ports.cells.2 ∙ fabric.fabric.0 in
-    record { known = subst (λ (n : ℕ). AreKnown n players) (sym (c.ranks.ensures ∙ fabric.fabric.0)) known }
+    record {
+      known = subst (λ (n : ℕ). AreKnown n players) (sym (c.ranks.ensures ∙ fabric.fabric.0)) known;
+      heard = in_place_heard shows gives c.args.shape f r 0 players at_end;
+    }
 
 pub close-closed-requires-clause-ports : goal.close-closed-requires-clause-ports
 close-closed-requires-clause-ports g c k p at =
@@ -193,16 +197,19 @@ returns-clause-run g c commands in_range given =
       };
     }
 
-pub returns-clause-gave : goal.returns-clause-gave
-returns-clause-gave g c =
+pub returns-clause-goes_on : goal.returns-clause-goes_on
+returns-clause-goes_on g c =
     let shows = g.S.Source.shows in
     let gives = g.S.Source.gives in
     let players = c.settle_all.new.players.items in
-    let all = all_gave shows gives c.in_ok-fabric.fabric c.in_ok-rings.rings c.in_ok-players.players.items players
+    let all = all_went shows gives c.in_ok-fabric.fabric c.in_ok-rings.rings c.in_ok-players.players.items players
     c.in_ok-settle_all.ensures.kept in
-    subst (λ ss. AllZip (GivesLess gives) ss c.in_ok-parts.parts.sources.items) c.in_ok-players.ensures.sources
-    (subst (λ ts. AllZip (GivesLess gives) (map (λ (x : Player _). x.source) c.in_ok-players.players.items) ts)
+    subst (λ ss. AllZip (GoesOn shows gives) ss c.in_ok-parts.parts.sources.items) c.in_ok-players.ensures.sources
+    (subst (λ ts. AllZip (GoesOn shows gives) (map (λ (x : Player _). x.source) c.in_ok-players.players.items) ts)
     (sym c.in_ok-parts.ensures.sources) all)
+
+pub returns-clause-stopped : goal.returns-clause-stopped
+returns-clause-stopped g c = c.in_ok-parts.ensures.stopped
 
 pub returns-clause-home : goal.returns-clause-home
 returns-clause-home g c =

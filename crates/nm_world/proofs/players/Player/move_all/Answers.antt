@@ -153,7 +153,7 @@ returns g c =
                 (ut ∙ tp ∙ ps ∙ sa) (ran.stuck n4.1 fresh_u commands last given);
           };
       looked = λ commands last given.
-          let before = five.gave commands last given in
+          let before = five.source.gave commands last given in
           turn_looked f r a s p t u e.actor one.kept two.kept three.kept four.kept five.grows commands before.before
           (stands.stands commands before.before before.gives) sent.moves.stepped.at pushed.moves.stepped.at
           took.moves.stepped.at pulled.moves.stepped.at took.polled pulled.moves.stepped.worn ran.worn

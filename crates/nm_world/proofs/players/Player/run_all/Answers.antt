@@ -82,7 +82,7 @@ loop-ran-preserved g c =
           c.in_ok-run_next.field-0 ran) ∙ all.1;
       first = λ e. absurd (omega (arith, e));
       polled = λ commands last given.
-          let before = three.kept.gave commands last given in
+          let before = three.kept.source.gave commands last given in
           let gave = subst (λ s. gives s commands before.before) two.source before.gives in
           looked_more commands before.before f r a.actor b.actor m.actor d.actor one.kept.grows
           (ap (λ (s : Seat). s.sizes.ranks) one.kept.seat) (one.kept.stands.stands commands before.before gave) moves.kept

@@ -186,9 +186,13 @@ returns-in_ok-pass-in-Ran g c =
         };
         seat = seat_is a v a.port.rank refl sizes;
         grows = grown.0;
-        gave = λ commands last given.
-            let before = passed.gives commands last given in
-            record { before = before.before; gives = before.gives };
-        hears = hears_more _ _ _ passed.told;
+        source = record {
+          gave = λ commands last given.
+              let before = passed.gives commands last given in
+              record { before = before.before; gives = before.gives };
+          begun = passed.begun;
+          ranks = passed.counted.1;
+          hears = hears_more _ _ _ passed.told;
+        };
       };
     }
