@@ -1,6 +1,6 @@
 -- The line of the command after those that ran.
 use Rattle.std.proofs.Common.{sym, ap}
-use Rattle.std.specs.Prelude.{is_some, option_map}
+use Rattle.std.specs.Prelude.{option_map}
 use Rattle.nm_types.specs.Commands.{Numbered}
 use Rattle.nm_world.proofs.records.next_line.Goals as goal
 
