@@ -2,28 +2,25 @@
 //!
 //! An `Actor` is a process with its port to the fabric and its port to the copy rings. A `Player` is an actor
 //! with what gives it its commands, whatever that is (`nm_process::Source`). A turn of it sends and pushes
-//! what there is, takes what came, and runs commands. A round makes turns of all players in crews, one for
+//! what there is, takes what arrived, and runs commands. A round makes turns of all players in crews, one for
 //! each processor, until none has anything to do, and `run_sources` makes rounds until all are at rest. `run`
 //! of a script is one call of it.
 //!
 //! # What a contract sees
 //! The process and the ports of each actor, and its source. The bells of the crews are not seen.
 //! # What is proved
-//! - Each turn keeps how the player stands, and loses nothing (`turn`: `kept`). It answers `true` exactly
-//!   where something was sent, taken or run, and `false` only where nothing could be (`moved`, `grew`,
-//!   `idle`); so it is with a round and all players. It is said of all commands that the source may go on to
-//!   give.
-//! - A port polls before each command that looks at what came (`turn`: `looked`).
-//! - A turn takes at most 140 word steps for each rank, and 2,048, whatever the others do (`turn`:
-//!   `bound`).
-//! - `run_sources` answers the record of a run of the commands that its sources gave, and what the closed
-//!   ports carried is what its histories call for (`run`, `home`, `done`). So it is with `run` and a script.
-//! - Each source was told exactly the answers of its rank's history, if it is told any, and has gone on from
-//!   where it was (`run_sources`: `stopped`, `goes_on`).
+//! - Each turn keeps the player's invariant, and loses nothing (`turn`: `kept`). It answers `true` exactly if
+//!   something was sent, taken or run, and `false` only if nothing could be (`moved`, `grew`, `idle`); a
+//!   round does so for all players. This holds for all commands that the source may go on to give.
+//! - A port polls before each command that looks at arrivals (`turn`: `looked`).
+//! - A turn takes at most 140 word steps for each rank, and 2,048, whatever the others do (`turn`: `bound`).
+//! - `run_sources` gives the record of a run of the commands that its sources gave, and what the closed ports
+//!   carried is what its histories call for (`run`, `home`, `done`). `run` does so for a script.
+//! - Each source was given exactly the answers of its rank's history, if it takes any, and goes on from where
+//!   it was (`run_sources`: `stopped`, `goes_on`).
 //! # What is only tested
-//! That a probe sees the packet that came last (`nm_rows::world`), that two ranks are at work at the same
-//! time (`nm_rows::cli`), and that no crew sleeps for good (`.ci/small`). Why it doesn't stands in
-//! `bells`.
+//! That a probe sees the packet that arrived last (`nm_rows::world`), that two ranks are at work at the same
+//! time (`nm_rows::cli`), and that no crew sleeps for good (`.ci/small`). `bells` says why.
 #![tactic(auto)]
 
 mod actors;
