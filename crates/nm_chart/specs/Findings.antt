@@ -1,22 +1,18 @@
 -- What there is to say of a script and a trace, and the flag in its picture.
 use Rattle.std.specs.Prelude.{◌≡◌, ℕ, ◌≤◌, List, ◌++◌, IfSome, Option, Some, None, codes, decimal, length}
 use Rattle.std.specs.Prelude.{slice_get}
-use Rattle.nm_types.specs.Sizes.{Sizes}
 use Rattle.nm_history.specs.declared.events.Event.{Event}
 use Rattle.nm_outside.specs.Told.{Rose}
 use Rattle.nm_script.specs.declared.command_line.CommandLine.{CommandLine}
 use Rattle.nm_report.specs.declared.accounts.RankAccount.{RankAccount}
-use Rattle.nm_report.specs.declared.records.RunRecord.{RunRecord}
-use Rattle.nm_trace.specs.Traces.{IsTraceOf}
-use Rattle.nm_check.specs.Checks.{IsInput}
 use Rattle.nm_diagram.specs.Frames.{whole}
 use Rattle.nm_picture.specs.declared.flags.Flag.{Flag}
 use Rattle.nm_picture.specs.declared.flags.Flag.TheVariants as flag
 use Rattle.nm_picture.specs.Flags.{IsFlaggedIn}
 use Rattle.nm_check.specs.Done.{Ending}
 use Rattle.nm_chart.specs.Given.{IsReadFor, IsSaid}
-use Rattle.nm_chart.specs.Endings.{usage, widest}
-use Rattle.nm_check.specs.Answers.{IsAsked, NotAsked, read_of, unread}
+use Rattle.nm_chart.specs.Endings.{usage}
+use Rattle.nm_check.specs.Answers.{IsAsked, NotAsked, read_of, unread, verdict_status}
 use Rattle.nm_check.specs.Found.{IsFound}
 use Rattle.nm_check.specs.declared.breaks.finding.Found.{Found}
 use Rattle.nm_check.specs.declared.breaks.finding.Found.TheVariants as found
@@ -52,11 +48,11 @@ Says Usage text = text ≡ usage
 Says Unread text = text ≡ unread
 Says (NoScript line) text = text ≡ fault_text (codes "script") line
 Says (NoTrace line) text = text ≡ fault_text (codes "trace") line
-Says (Drawn run its_flag) text = IsFlaggedIn whole its_flag run text
+Says (Drawn run verdict its_flag) text = IsFlaggedIn whole its_flag run text
 
 -- the status of a finding that was written
 abbrev pub status_of : Finding → ℕ
-status_of (Drawn run its_flag) = 0
+status_of (Drawn run verdict its_flag) = verdict_status verdict
 status_of Usage = 2
 status_of (NoScript line) = 3
 status_of Unread = 4
@@ -64,38 +60,26 @@ status_of (NoTrace line) = 9
 
 -- a picture has room for the ranks
 abbrev pub CanBeDrawn : Finding → Type 0
-CanBeDrawn (Drawn run its_flag) = length run.ranks ≤ 256
+CanBeDrawn (Drawn run verdict its_flag) = length run.ranks ≤ 256
 CanBeDrawn _ = Unit {0}
 
--- what stands behind the first line `---` is the trace of a record of some shape
-abbrev pub HasTrace : List ℕ → Type 0
-HasTrace bytes =
-    (front : List ℕ) × (rest : List ℕ) × IsInput bytes front rest × (shape : Sizes) × (shape.ranks ≤ 64)
-    × (run : RunRecord) × IsTraceOf shape rest run
+-- .. of a record that was found
+abbrev pub CanBeFound : Found → Type 0
+CanBeFound (found.Judged before j run) = length run.ranks ≤ 256
+CanBeFound _ = Unit {0}
 
--- this is found of the bytes in some sizes
-abbrev pub IsFoundIn : List ℕ → Found → Type 0
-IsFoundIn bytes what = (cells : ℕ) × (eager : ℕ) × IsFound cells eager bytes what
-
--- the trace behind the first line `---` is that of this record, and has its flag at this place
-abbrev pub IsFinding : List ℕ → Place → Finding → Type 0
-IsFinding bytes where_broken (Drawn run its_flag) =
-    (front : List ℕ) × (rest : List ℕ) × IsInput bytes front rest × IsTraceOf widest rest run
-    × (its_flag ≡ flag_of run.ranks where_broken)
-IsFinding bytes where_broken _ = ⊥
-
--- what there is to say of what was found
-abbrev pub IsFindingOf : List ℕ → Found → Finding → Type 0
-IsFindingOf bytes found.NoTrace finding = finding ≡ NoTrace 0
-IsFindingOf bytes (found.NoScript line kind) finding = finding ≡ NoScript line
-IsFindingOf bytes (found.BadTrace before line stop) finding = finding ≡ NoTrace line
-IsFindingOf bytes (found.Judged before verdict where_broken evidence) finding = IsFinding bytes where_broken finding
+-- what there is to say of what was found: of a trace its record, the verdict, and the flag at its place
+abbrev pub finding_of : Found → Finding
+finding_of found.NoTrace = NoTrace 0
+finding_of (found.NoScript line kind) = NoScript line
+finding_of (found.BadTrace before line stop) = NoTrace line
+finding_of (found.Judged before j run) = Drawn run j.verdict (flag_of run.ranks j.place)
 
 -- what there is to say of bytes in these sizes
 pub record IsAnswerIn (line : CommandLine) (finding : Finding) (bytes : List ℕ) : Type 0 where
   pub what : Found
   pub right : IsFound line.cells line.eager bytes what
-  pub said : IsFindingOf bytes what finding
+  pub said : finding ≡ finding_of what
 
 -- an answer is right: by the words, by the bytes of the source, and by its count of faults before and after
 abbrev pub IsAnswer : List (List ℕ) → Option (List ℕ) → ℕ → ℕ → Finding → Type 0

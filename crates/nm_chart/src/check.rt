@@ -7,7 +7,8 @@
 //! Bytes as a list of numbers. `nm_check::breaks` says what is found of them, `nm_picture` what a picture
 //! with a flag is; `specs/Findings.antt` joins the two.
 //! # What is proved
-//! - At status 0 what was written is the picture of the trace, with a flag at the place that
+//! - At status 0 what was written is the picture of a trace that holds, and at 8 that of a broken one,
+//!   whose record is the one that is judged, with a flag at the place that
 //!   `nm_check::breaks` finds, where it is an event or the end of a rank. At 2 the words are not taken, and
 //!   nothing was read; at 3 there is no script, at 9 no trace. They yield to 4, 5 and 6.
 //! - At 5 the sink took a front of the text that was due. At 6 nothing was written.

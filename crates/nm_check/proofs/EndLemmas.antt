@@ -10,12 +10,13 @@ use Rattle.nm_check.specs.declared.checked.checks.Checked.TheVariants as checked
 use Rattle.nm_check.specs.Found.{IsFound, checked_of}
 use Rattle.nm_check.specs.declared.breaks.finding.Found.{Found}
 use Rattle.nm_check.specs.declared.breaks.finding.Found.TheVariants.{NoTrace, NoScript, BadTrace, Judged}
-use Rattle.nm_check.specs.Answers.{IsAnswer, IsAsked, IsFoundIn, IsFoundOf, IsQuoteOf, IsTraced, IsWritten}
+use Rattle.nm_check.specs.Answers.{IsAnswer, IsAsked, IsFoundIn, IsFoundOf, AreQuotesOf, IsTraced, IsWritten}
 use Rattle.nm_check.specs.Answers.{NotAsked, SaysVerdict, WasRead, found_status, status_of, text_of, unread, usage}
 use Rattle.nm_check.specs.Answers.{verdict_status}
 use Rattle.nm_check.specs.Done.{Ending}
 use Rattle.nm_check.specs.Endings.{IsSpoken, IsStatus, IsTold, OrFails, OrUnwritten}
-use Rattle.nm_check.specs.Quotes.{quote_of}
+use Rattle.nm_check.specs.Quotes.{quotes_of}
+use Rattle.nm_check.specs.declared.verdict.quotes.Quotes.{Quotes}
 use Rattle.nm_check.specs.declared.verdict.answers.Response.{Response}
 use Rattle.nm_check.specs.declared.verdict.answers.Response.TheVariants.{Usage, Unread, Told}
 
@@ -32,7 +33,7 @@ spoken : (found : Found) (k : ℕ) → k ≡ found_status found → IsSpoken k
 spoken NoTrace k h = inr (inr (inr h))
 spoken (NoScript line kind) k h = inr (inl h)
 spoken (BadTrace before line stop) k h = inr (inr (inr h))
-spoken (Judged before verdict place evidence) k h = judged_spoken verdict k h
+spoken (Judged before j run) k h = judged_spoken j.verdict k h
 
 not_spoken : (k : ℕ) → (k ≡ 0 → ⊥) → (k ≡ 3 → ⊥) → (k ≡ 8 → ⊥) → (k ≡ 9 → ⊥) → IsSpoken k → ⊥
 not_spoken k a b c d (inl h) = a h
@@ -55,14 +56,14 @@ six s = not_spoken 6 (λ h. cc) (λ h. cc) (λ h. cc) (λ h. cc) s
 no_five : (answer : Response) → 5 ≡ status_of answer → ⊥
 no_five Usage h = cc
 no_five Unread h = cc
-no_five (Told found quote) h = five (spoken found 5 h)
+no_five (Told found quotes) h = five (spoken found 5 h)
 
 -- what holds is said so
 zero_of : (found : Found) → checked_of found ≡ checked.Judged Holds → found_status found ≡ 0
 zero_of NoTrace h = absurd cc
 zero_of (NoScript line kind) h = absurd cc
 zero_of (BadTrace before line stop) h = absurd cc
-zero_of (Judged before verdict place evidence) h = let same : verdict ≡ Holds = cc in ap verdict_status same
+zero_of (Judged before j run) h = let same : j.verdict ≡ Holds = cc in ap verdict_status same
 
 -- a script and a trace of one of its runs hold
 holds_for : (line : CommandLine) (input : Option (List ℕ)) (found : Found) → IsFoundOf line input found →
@@ -80,13 +81,13 @@ module _ {e : Ending} where
       NotAsked e.words × Appends e.before e.after usage
   usage_is Usage ends h = (ends.right, (whole ends 2 h (λ f. cc)).1)
   usage_is Unread ends h = absurd (let w = (whole ends 2 h (λ f. cc)).0 in cc)
-  usage_is (Told found quote) ends h = absurd (two (spoken found 2 (whole ends 2 h (λ f. cc)).0))
+  usage_is (Told found quotes) ends h = absurd (two (spoken found 2 (whole ends 2 h (λ f. cc)).0))
 
   pub not_taken_is : (answer : Response) → SaysVerdict e answer → NotAsked e.words →
       OrUnwritten (e.status ≡ 2) e.status
   not_taken_is Usage ends none = elim ends.said [ inl p ↦ inl p.0 | inr p ↦ inr (inl p.0) ]
   not_taken_is Unread ends none = absurd (none ends.right.0.0 ends.right.0.1)
-  not_taken_is (Told found quote) ends none = absurd (none ends.right.0 ends.right.1.asked)
+  not_taken_is (Told found quotes) ends none = absurd (none ends.right.0 ends.right.1.asked)
 
   pub told_is : (answer : Response) → SaysVerdict e answer → IsSpoken e.status →
       IsTold e.words e.input e.status e.before e.after
@@ -100,14 +101,14 @@ module _ {e : Ending} where
         | inl p ↦ four (subst IsSpoken p.0 s)
         | inr p ↦ five (subst IsSpoken p.0 s)
       ])
-  told_is (Told found quote) ends s =
+  told_is (Told found quotes) ends s =
       elim ends.said [
         | inl p ↦ record {
           line = ends.right.0;
           asked = ends.right.1.asked;
           found = found;
           right = ends.right.2;
-          quote = quote;
+          quotes = quotes;
           quoted = ends.right.3;
           ended = p.0;
           said = p.1;
@@ -119,7 +120,7 @@ module _ {e : Ending} where
       Rose e.read_old e.read_new × Appends e.before e.after unread
   unread_is Usage ends h = absurd (let w = (whole ends 4 h (λ f. cc)).0 in cc)
   unread_is Unread ends h = (ends.right.1, (whole ends 4 h (λ f. cc)).1)
-  unread_is (Told found quote) ends h = absurd (four (spoken found 4 (whole ends 4 h (λ f. cc)).0))
+  unread_is (Told found quotes) ends h = absurd (four (spoken found 4 (whole ends 4 h (λ f. cc)).0))
 
   pub unwritten_is : (answer : Response) → SaysVerdict e answer → e.status ≡ 5 →
       Rose e.write_old e.write_new × (answer : Response)
@@ -135,20 +136,20 @@ module _ {e : Ending} where
       OrFails P e.status
   unless_unread Unread ends make = elim ends.said [ inl p ↦ inr (inl p.0) | inr p ↦ inr (inr (inl p.0)) ]
   unless_unread Usage ends make = inl (make tt)
-  unless_unread (Told found quote) ends make = inl (make tt)
+  unless_unread (Told found quotes) ends make = inl (make tt)
 
   -- a status is never 6 where something was said
   pub not_six : (answer : Response) → SaysVerdict e answer → e.status ≡ 6 → ⊥
   not_six Usage ends h = let w = (whole ends 6 h (λ f. cc)).0 in cc
   not_six Unread ends h = let w = (whole ends 6 h (λ f. cc)).0 in cc
-  not_six (Told found quote) ends h = six (spoken found 6 (whole ends 6 h (λ f. cc)).0)
+  not_six (Told found quotes) ends h = six (spoken found 6 (whole ends 6 h (λ f. cc)).0)
 
   pub holds_is : (answer : Response) → SaysVerdict e answer → (line : CommandLine) → IsAsked e.words line →
       IsSomeAnd e.input (IsWritten line) → OrFails (e.status ≡ 0) e.status
   holds_is Usage ends line asked written = absurd (ends.right line asked)
   holds_is Unread ends line asked written =
       elim ends.said [ inl p ↦ inr (inl p.0) | inr p ↦ inr (inr (inl p.0)) ]
-  holds_is (Told found quote) ends line asked written =
+  holds_is (Told found quotes) ends line asked written =
       let its = subst (λ l. IsSomeAnd e.input (IsWritten l)) (ends.right.1.only line asked) written in
       let zero = holds_for ends.right.0 e.input found ends.right.2 its in
       elim ends.said [ inl p ↦ inl (p.0 ∙ zero) | inr p ↦ inr (inr (inl p.0)) ]
@@ -156,7 +157,7 @@ module _ {e : Ending} where
   pub status_is : (answer : Response) → SaysVerdict e answer → IsStatus e.status
   status_is Usage ends = elim ends.said [ inl p ↦ inr (inl p.0) | inr p ↦ inr (inr (inr (inl p.0))) ]
   status_is Unread ends = elim ends.said [ inl p ↦ inr (inr (inl p.0)) | inr p ↦ inr (inr (inr (inl p.0))) ]
-  status_is (Told found quote) ends =
+  status_is (Told found quotes) ends =
       elim ends.said [ inl p ↦ inl (spoken found e.status p.0) | inr p ↦ inr (inr (inr (inl p.0))) ]
 
 -- what was found of the bytes that were read is so of those of the source
@@ -168,8 +169,8 @@ found_of line None bytes found read right placed holds = tt
 found_of line (Some all) bytes found read right placed holds =
     subst (λ b. IsFoundIn line found b) read (record { checked = right; placed = placed; holds = holds })
 
--- the line that was read is that of the source
-pub quote_read : (input : Option (List ℕ)) (bytes : List ℕ) (found : Found) (quote : Option (List ℕ)) →
-    IfSome input (λ all. bytes ≡ take 67108865 all) → quote ≡ quote_of bytes found → IsQuoteOf input found quote
-quote_read None bytes found quote read is = tt
-quote_read (Some all) bytes found quote read is = is ∙ ap (λ (b : List ℕ). quote_of b found) read
+-- the lines that were read are those of the source
+pub quotes_read : (input : Option (List ℕ)) (bytes : List ℕ) (found : Found) (quotes : Quotes) →
+    IfSome input (λ all. bytes ≡ take 67108865 all) → quotes ≡ quotes_of bytes found → AreQuotesOf input found quotes
+quotes_read None bytes found quotes read is = tt
+quotes_read (Some all) bytes found quotes read is = is ∙ ap (λ (b : List ℕ). quotes_of b found) read

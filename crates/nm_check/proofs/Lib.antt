@@ -6,9 +6,9 @@ pub mod FailLemmas
 mod FedLemmas
 mod HeldLemmas
 mod InputLemmas
+mod JudgementLemmas
 mod LastLemmas
 mod LineLemmas
-mod MiscountLemmas
 mod OtherLemmas
 mod RangeLemmas
 mod RankLemmas

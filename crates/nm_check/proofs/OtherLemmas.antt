@@ -1,7 +1,7 @@
 -- The other line of a rule between two ranks.
 use Rattle.std.proofs.Common.{◌≡◌, ℕ, ◌<◌, ◌≤◌, Option, Some, None, Bool, List, [], refl, sym, ◌∙◌, ap, subst}
-use Rattle.std.proofs.Common.{length, arith}
-use Rattle.std.specs.Prelude.{IfSome, option_map, position, slice_get}
+use Rattle.std.proofs.Common.{cond, get_or, length, true, false, arith}
+use Rattle.std.specs.Prelude.{IsSomeAnd, option_map, position, slice_get}
 use Rattle.std.specs.Option.{option_map_or}
 use Rattle.std.proofs.lemmas.Option.{slice_get_within}
 use Rattle.std.proofs.lemmas.List.Quantifiers.{position-Some}
@@ -10,19 +10,15 @@ use Rattle.nm_types.specs.declared.scripts.Line.{Line}
 use Rattle.nm_history.specs.declared.events.Event.{Event}
 use Rattle.nm_history.specs.declared.events.Happened.{Happened}
 use Rattle.nm_history.specs.declared.events.Happened.TheVariants.{Out, Ran}
-use Rattle.nm_history.specs.AtEach.{AtEach}
-use Rattle.nm_history.specs.Quiescence.{EachRank, Ended, history_of}
-use Rattle.nm_history.specs.RankRun.{Always, NumberAt}
+use Rattle.nm_history.specs.Quiescence.{Ended, history_of}
 use Rattle.nm_report.specs.declared.accounts.RankAccount.{RankAccount}
-use Rattle.nm_report.specs.declared.records.RunRecord.{RunRecord}
 use Rattle.nm_report.specs.Ends.{ends_of}
-use Rattle.nm_check_ranks.specs.Marked.{KeepsLocal}
-use Rattle.nm_check_ranks.specs.declared.clauses.CarriedClause.{CarriedClause}
-use Rattle.nm_check.specs.declared.verdicts.Verdict.{Verdict}
-use Rattle.nm_check.specs.declared.verdicts.Verdict.TheVariants.{Holds, Own, Carried, Rest, Home, Done}
-use Rattle.nm_check.specs.CellCounts.{verdict_cells}
+use Rattle.nm_check_rank.specs.Tabled.{AreRankTables}
+use Rattle.nm_check_rank.specs.declared.paired.tables.Tables.{Tables}
+use Rattle.nm_check_ranks.specs.Tabled.{EachTabled}
+use Rattle.nm_check_ranks.proofs.TableLemmas.{table_inside}
 use Rattle.nm_check.specs.Incidents.{place_incident}
-use Rattle.nm_check.specs.Others.{IsAgainst, IsCarriedOther, IsOther, first_line, is_mate}
+use Rattle.nm_check.specs.Others.{IsAgainst, IsCarriedOther, first_line, is_mate}
 use Rattle.nm_check.specs.Places.{events_in, line_of}
 use Rattle.nm_check.specs.declared.breaks.places.Place.{Place}
 use Rattle.nm_check.specs.declared.breaks.places.Place.TheVariants.{Nowhere, Event as EventAt, Behind, Standing}
@@ -39,16 +35,6 @@ none_at lines ranks i j (Behind r) not = refl
 none_at lines ranks i j (Standing r waits) not = refl
 none_at lines ranks i j (Count at line) not = refl
 none_at lines ranks i j (LastLine line) not = refl
-
--- nor has a rule of another kind
-pub none_of : (lines : List Line) (run : RunRecord) (v : Verdict) (place : Place) →
-    ((c : CarriedClause) (from to : ℕ) → v ≡ Carried c from to → ⊥) → IsOther lines run v place None
-none_of lines run Holds place not = refl
-none_of lines run (Own c rank) place not = refl
-none_of lines run (Carried c from to) place not = absurd (not c from to refl)
-none_of lines run (Rest c) place not = refl
-none_of lines run Home place not = refl
-none_of lines run Done place not = refl
 
 -- an event of another kind is held against its mate
 pub against_mate : (lines : List Line) (ranks : List Ended) (x : ℕ) (before : List Event) (what : Happened) (y : ℕ)
@@ -69,25 +55,23 @@ no_incident ranks (Standing r waits) not = refl
 no_incident ranks (Count at line) not = refl
 no_incident ranks (LastLine line) not = refl
 
--- another verdict than that on them has no cells
-pub not_of_cells : (run : RunRecord) (v : Verdict) → (v ≡ Home → ⊥) → None ≡ verdict_cells run v
-not_of_cells run Holds not = refl
-not_of_cells run (Own c rank) not = refl
-not_of_cells run (Carried c from to) not = refl
-not_of_cells run (Rest c) not = refl
-not_of_cells run Home not = absurd (not refl)
-not_of_cells run Done not = refl
+-- one of two numbers is less, as both are
+pub one_of : (b : Bool) (j i n : ℕ) → j < n → i < n → cond b j i < n
+one_of true j i n low_j low_i = low_j
+one_of false j i n low_j low_i = low_i
 
--- a rank's messages and receives are numbered
-pub numbered_of : (ranks : List Ended) (y : ℕ) → EachRank KeepsLocal ranks →
-    (n : ℕ) × Always (NumberAt n) (history_of ranks y)
-unfolding AtEach
-numbered_of ranks y each = by_rank (slice_get ranks y) (each y)
+-- what is looked up of a rank, by its history
+pub tables_here : (lines : List Line) (ranks : List RankAccount) (tables : List Tables) (y : ℕ) (t : Tables) →
+    EachTabled lines (ends_of ranks) tables → y < length ranks → t ≡ get_or tables y t →
+    AreRankTables y lines (history_of (ends_of ranks) y) t
+tables_here lines ranks tables y t tabled inside is =
+    by_rank (slice_get (ends_of ranks) y)
+    (tabled.each y t (table_inside ranks tables y (lines, tabled) inside) is)
   where
-    by_rank : (o : Option Ended) → IfSome o (KeepsLocal y) →
-        (n : ℕ) × Always (NumberAt n) (option_map_or (λ rank. rank.events) o [])
-    by_rank None own = (0, tt)
-    by_rank (Some rank) own = (own.ranks, own.numbers)
+    by_rank : (o : Option Ended) → IsSomeAnd o (λ rank. AreRankTables y lines rank.events t) →
+        AreRankTables y lines (option_map_or (λ rank. rank.events) o []) t
+    by_rank None there = absurd there
+    by_rank (Some rank) there = there
 
 -- a rank that has an event is one of the ranks
 pub known_by : (ranks : List Ended) (y k : ℕ) → k < length (history_of ranks y) → y < length ranks

@@ -1,30 +1,24 @@
 -- The rank of a verdict on its own run.
 use Rattle.std.proofs.Common.{◌≡◌, ℕ, ◌<◌, ◌≤◌, None, Some, Option, List, get_or, length, refl, sym, take, ◌∙◌, ap, subst}
 use Rattle.std.proofs.Common.{arith}
-use Rattle.std.specs.Prelude.{IfOk, IsSomeAnd, MatchOption, Result, Ok, Err, slice_get}
+use Rattle.std.specs.Prelude.{IsSomeAnd, slice_get}
 use Rattle.std.proofs.lemmas.Option.{slice_get_read, slice_get_within}
 use Rattle.nm_types.proofs.ListLemmas.{get_map}
-use Rattle.nm_types.specs.declared.lists.Memory.{Memory}
 use Rattle.nm_types.specs.declared.scripts.Line.{Line}
 use Rattle.nm_types.specs.Commands.{Numbered, commands_of}
 use Rattle.nm_types.specs.Sizes.{Sizes}
 use Rattle.nm_history.specs.declared.events.Event.{Event}
 use Rattle.nm_history.specs.Quiescence.{Ended}
-use Rattle.nm_history.specs.RankRun.{IsRankRun}
 use Rattle.nm_report.specs.declared.accounts.RankAccount.{RankAccount}
 use Rattle.nm_report.specs.declared.records.RunRecord.{RunRecord}
 use Rattle.nm_report.specs.Ends.{end_of_account, ends_of}
-use Rattle.nm_check_rank.specs.FirstBroken.{IsFirstBroken}
 use Rattle.nm_check_rank.specs.OwnBreaks.{BreaksAt, IsBreach, IsBreachAt}
-use Rattle.nm_check_rank.specs.OwnClauses.{KeepsOwn, own_order}
 use Rattle.nm_check_rank.specs.declared.breaks.Break.{Break}
 use Rattle.nm_check_rank.specs.declared.breaks.Break.TheVariants.{At}
 use Rattle.nm_check_rank.specs.declared.clauses.OwnClause.{OwnClause}
-use Rattle.nm_check_rank.specs.declared.clauses.OwnClause.TheVariants as own
 use Rattle.nm_check_rank.specs.declared.paired.breaches.Breach.{Breach}
 use Rattle.nm_check_rank.specs.declared.paired.dues.Due.{Due}
 use Rattle.nm_check.specs.OwnFirsts.{IsOwnFirst}
-use Rattle.nm_check.specs.Verdicts.{BreaksOwn, Judges}
 use Rattle.nm_check.specs.declared.verdicts.Verdict.{Verdict}
 use Rattle.nm_check.specs.declared.verdicts.Verdict.TheVariants.{Own}
 use Rattle.nm_check.specs.Places.{IsPlace, events_in, place_in}
@@ -53,18 +47,6 @@ breach_inside shape commands at h c due k breach = by_event (slice_get h k) refl
         IsSomeAnd o (λ e. IsSomeAnd due (BreaksAt shape commands (take k h) e c)) → k < length h
     by_event None here some = absurd some
     by_event (Some e) here some = slice_get_within h k e here
-
--- a run keeps each rule
-whole_keeps : (shape : Sizes) (commands : List Numbered) (at : ℕ) (h : List Event) → IsRankRun shape commands at h →
-    (c : OwnClause) → KeepsOwn shape commands at h c
-whole_keeps shape commands at h run own.Answers = run.answers
-whole_keeps shape commands at h run own.Starts = run.starts
-whole_keeps shape commands at h run own.Numbers = run.numbers
-whole_keeps shape commands at h run own.Cancels = run.cancels
-whole_keeps shape commands at h run own.Wholes = run.wholes
-whole_keeps shape commands at h run own.Ends = run.ends
-whole_keeps shape commands at h run own.Stamps = run.stamps
-whole_keeps shape commands at h run own.Claims = run.claims
 
 module _ (lines ls : List Line) (run : RunRecord) (clause : OwnClause) (i : ℕ) (verdict : Verdict) (a : RankAccount)
     (es : List Event) (is : verdict ≡ Own clause i) (here : slice_get run.ranks i ≡ Some a) (same_lines : ls ≡ lines)
@@ -115,31 +97,3 @@ module _ (lines ls : List Line) (run : RunRecord) (clause : OwnClause) (i : ℕ)
       (subst (λ (o : Option Ended). IsSomeAnd o (λ e. (b : Breach)
       × IsBreach run.shape (commands_of i lines) e.at e.events b
       × (place ≡ place_in (ends_of run.ranks) i e.events b.place))) (sym end_here) (b, breach_there b breaks, at))
-
-  -- where it breaks a rule first is of its verdict
-  own_here : (b : Breach) → IsBreach run.shape (commands_of i ls) a.at es b → IsOwnFirst lines run verdict (Some b)
-  own_here b breaks =
-      subst (λ (v : Verdict). IsOwnFirst lines run v (Some b)) (sym is)
-      (subst (λ (o : Option Ended). IsSomeAnd o (λ e. IsBreach run.shape (commands_of i lines) e.at e.events b))
-      (sym end_here) (breach_there b breaks))
-
-  -- its verdict has a rule that it breaks
-  broken_here : Judges lines run verdict → IsRankRun run.shape (commands_of i ls) a.at es → ⊥
-  broken_here judged whole =
-      let broken : BreaksOwn run.shape lines (ends_of run.ranks) clause i =
-      subst (λ (v : Verdict). Judges lines run v) is judged in
-      let first : IsFirstBroken (KeepsOwn run.shape (commands_of i lines) a.at a.history.events) own_order clause =
-      subst (λ (o : Option Ended). IsSomeAnd o (λ rank. IsFirstBroken
-      (KeepsOwn run.shape (commands_of i lines) rank.at rank.events) own_order clause)) end_here broken.first in
-      let own : IsRankRun run.shape (commands_of i lines) a.at a.history.events =
-      subst (λ (h : List Event). IsRankRun run.shape (commands_of i lines) a.at h) same_events
-      (subst (λ (l : List Line). IsRankRun run.shape (commands_of i l) a.at es) same_lines whole) in
-      first.broken (whole_keeps run.shape (commands_of i lines) a.at a.history.events own clause)
-
-  -- .. by where its events are found to break one
-  pub own_first_here : Judges lines run verdict → (found : Result (Option Breach) Memory) →
-      IfOk found (λ f. MatchOption f (IsRankRun run.shape (commands_of i ls) a.at es)
-      (IsBreach run.shape (commands_of i ls) a.at es)) → IfOk found (IsOwnFirst lines run verdict)
-  own_first_here judged (Ok None) whole = absurd (broken_here judged whole)
-  own_first_here judged (Ok (Some b)) breaks = own_here b breaks
-  own_first_here judged (Err e) told = tt

@@ -1,7 +1,7 @@
 -- Events by their ranks and places.
 use Rattle.std.proofs.Common.{◌≡◌, ◌⊎◌, inl, inr, ℕ, zero, suc, ◌<◌, ◌≤◌, Option, Some, None, List, [], ◌∷◌, length}
 use Rattle.std.proofs.Common.{refl, sym, ap, subst, arith}
-use Rattle.std.specs.Prelude.{IfOk, IfSome, IsSomeAnd, Result, option_and_then, slice_get}
+use Rattle.std.specs.Prelude.{IfSome, IsSomeAnd, option_and_then, slice_get}
 use Rattle.std.specs.Option.{option_map_or}
 use Rattle.std.proofs.lemmas.List.{length-map}
 use Rattle.nm_types.specs.declared.scripts.Line.{Line}
@@ -27,11 +27,7 @@ use Rattle.nm_check_ranks.specs.declared.rest.clauses.RestClause.TheVariants as 
 use Rattle.nm_check_ranks.specs.declared.rest.firsts.EventRule.{EventRule}
 use Rattle.nm_check_ranks.specs.declared.rest.firsts.EventRule.TheVariants as rule
 use Rattle.nm_check.specs.Verdicts.{BreaksCarried, RunsItsOwn}
-use Rattle.nm_check.specs.declared.verdicts.Verdict.{Verdict}
-use Rattle.nm_check.specs.declared.verdicts.Verdict.TheVariants.{Holds, Own, Carried, Rest, Home, Done}
-use Rattle.nm_report.specs.declared.records.RunRecord.{RunRecord}
-use Rattle.nm_types.specs.declared.lists.Memory.{Memory}
-use Rattle.nm_check.specs.Places.{IsEventPlace, IsPlace, IsRestPlace, IsTracePlace, event_rule, events_in}
+use Rattle.nm_check.specs.Places.{IsEventPlace, IsRestPlace, event_rule, events_in}
 use Rattle.nm_check.specs.declared.breaks.places.Place.{Place}
 use Rattle.nm_check.proofs.EventLemmas.{rank_le}
 
@@ -189,21 +185,10 @@ event_placed lines ranks packets rule.Asked place is = is
 event_placed lines ranks packets rule.Recalls place is = is
 
 -- there is no other rule but those on waiting and on counts
-pub no_place : (c : RestClause) → event_rule c ≡ None → (c ≡ rest.Waits → ⊥) → (c ≡ rest.Counts → ⊥) → ⊥
-no_place rest.Eager none not_waits not_counts = no_some _ (sym none)
-no_place rest.Asked none not_waits not_counts = no_some _ (sym none)
-no_place rest.Recalls none not_waits not_counts = no_some _ (sym none)
-no_place rest.Arrived none not_waits not_counts = no_some _ (sym none)
-no_place rest.Waits none not_waits not_counts = not_waits refl
-no_place rest.Counts none not_waits not_counts = not_counts refl
-
--- the place of a verdict but for those on the last lines
-pub inside_trace : (count : ℕ) (lines : List Line) (run : RunRecord) (verdict : Verdict)
-    (placed : Result Place Memory) → (verdict ≡ Home → ⊥) → (verdict ≡ Done → ⊥) →
-    IfOk placed (IsPlace lines run verdict) → IfOk placed (IsTracePlace count lines run verdict)
-inside_trace count lines run Holds placed not_home not_done is = is
-inside_trace count lines run (Own c i) placed not_home not_done is = is
-inside_trace count lines run (Carried c i j) placed not_home not_done is = is
-inside_trace count lines run (Rest c) placed not_home not_done is = is
-inside_trace count lines run Home placed not_home not_done is = absurd (not_home refl)
-inside_trace count lines run Done placed not_home not_done is = absurd (not_done refl)
+pub only_waits : (c : RestClause) → event_rule c ≡ None → (c ≡ rest.Counts → ⊥) → c ≡ rest.Waits
+only_waits rest.Eager none not_counts = absurd (no_some _ (sym none))
+only_waits rest.Asked none not_counts = absurd (no_some _ (sym none))
+only_waits rest.Recalls none not_counts = absurd (no_some _ (sym none))
+only_waits rest.Arrived none not_counts = absurd (no_some _ (sym none))
+only_waits rest.Waits none not_counts = refl
+only_waits rest.Counts none not_counts = absurd (not_counts refl)

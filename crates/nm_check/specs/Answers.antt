@@ -17,7 +17,8 @@ use Rattle.nm_check.specs.Done.{Ending, IsSaid}
 use Rattle.nm_check.specs.Found.{IsFound, checked_of}
 use Rattle.nm_check.specs.declared.breaks.finding.Found.{Found}
 use Rattle.nm_check.specs.declared.breaks.finding.Found.TheVariants.{NoTrace, NoScript, BadTrace, Judged}
-use Rattle.nm_check.specs.Quotes.{quote_of}
+use Rattle.nm_check.specs.Quotes.{quotes_of}
+use Rattle.nm_check.specs.declared.verdict.quotes.Quotes.{Quotes}
 use Rattle.nm_check.specs.VerdictTexts.{found_text}
 use Rattle.nm_check.specs.declared.verdict.answers.Response.{Response}
 use Rattle.nm_check.specs.declared.verdict.answers.Response.TheVariants.{Usage, Unread, Told}
@@ -38,7 +39,7 @@ unread = codes "fault read\n"
 abbrev pub text_of : Response → List ℕ
 text_of Usage = usage
 text_of Unread = unread
-text_of (Told found quote) = found_text found quote
+text_of (Told found quotes) = found_text found quotes
 
 -- the status of a verdict: whether the trace holds
 abbrev pub verdict_status : Verdict → ℕ
@@ -50,13 +51,13 @@ abbrev pub found_status : Found → ℕ
 found_status NoTrace = 9
 found_status (NoScript line kind) = 3
 found_status (BadTrace before line stop) = 9
-found_status (Judged before verdict place evidence) = verdict_status verdict
+found_status (Judged before j run) = verdict_status j.verdict
 
 -- the status of an answer that was written
 abbrev pub status_of : Response → ℕ
 status_of Usage = 2
 status_of Unread = 4
-status_of (Told found quote) = found_status found
+status_of (Told found quotes) = found_status found
 
 -- the words ask for a verdict: they are those of a check
 abbrev pub IsAsked : List (List ℕ) → CommandLine → Type 0
@@ -93,9 +94,9 @@ pub record IsFoundIn (line : CommandLine) (found : Found) (bytes : List ℕ) : T
 abbrev pub IsFoundOf : CommandLine → Option (List ℕ) → Found → Type 0
 IsFoundOf line input found = IfSome input (λ bytes. IsFoundIn line found (read_of bytes))
 
--- .. and this is the line that is told, as it stands in them, if it is told
-abbrev pub IsQuoteOf : Option (List ℕ) → Found → Option (List ℕ) → Type 0
-IsQuoteOf input found quote = IfSome input (λ bytes. quote ≡ quote_of (read_of bytes) found)
+-- .. and these are the lines that are told, as they stand in them
+abbrev pub AreQuotesOf : Option (List ℕ) → Found → Quotes → Type 0
+AreQuotesOf input found quotes = IfSome input (λ bytes. quotes ≡ quotes_of (read_of bytes) found)
 
 -- the words ask for this and nothing else
 pub record AsksFor (words : List (List ℕ)) (line : CommandLine) : Type 0 where
@@ -106,8 +107,8 @@ pub record AsksFor (words : List (List ℕ)) (line : CommandLine) : Type 0 where
 abbrev pub IsAnswer : List (List ℕ) → Option (List ℕ) → ℕ → ℕ → Response → Type 0
 IsAnswer words input old new Usage = NotAsked words
 IsAnswer words input old new Unread = ((line : CommandLine) × IsAsked words line) × Rose old new
-IsAnswer words input old new (Told found quote) =
-    (line : CommandLine) × AsksFor words line × IsFoundOf line input found × IsQuoteOf input found quote
+IsAnswer words input old new (Told found quotes) =
+    (line : CommandLine) × AsksFor words line × IsFoundOf line input found × AreQuotesOf input found quotes
 
 -- the source was read
 abbrev pub WasRead : Response → Type 0

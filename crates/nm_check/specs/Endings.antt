@@ -3,20 +3,21 @@ use Rattle.std.specs.Prelude.{◌≡◌, ℕ, ◌⊎◌, List, Option}
 use Rattle.nm_script.specs.declared.command_line.CommandLine.{CommandLine}
 use Rattle.nm_outside.specs.Told.{Appends}
 use Rattle.nm_check.specs.declared.breaks.finding.Found.{Found}
-use Rattle.nm_check.specs.Answers.{IsAsked, IsFoundOf, IsQuoteOf, found_status}
+use Rattle.nm_check.specs.Answers.{IsAsked, IsFoundOf, AreQuotesOf, found_status}
 use Rattle.nm_check.specs.VerdictTexts.{found_text}
+use Rattle.nm_check.specs.declared.verdict.quotes.Quotes.{Quotes}
 
--- The words ask for a verdict, and it was said of the bytes what they are, with the line that is told.
+-- The words ask for a verdict, and it was said of the bytes what they are, with the lines that are told.
 pub record IsTold (words : List (List ℕ)) (input : Option (List ℕ)) (status : ℕ)
     (old new : Option (List ℕ)) : Type 0 where
   pub line : CommandLine
   pub asked : IsAsked words line
   pub found : Found
   pub right : IsFoundOf line input found
-  pub quote : Option (List ℕ)
-  pub quoted : IsQuoteOf input found quote
+  pub quotes : Quotes
+  pub quoted : AreQuotesOf input found quotes
   pub ended : status ≡ found_status found
-  pub said : Appends old new (found_text found quote)
+  pub said : Appends old new (found_text found quotes)
 
 -- the statuses at which something was said of the bytes
 abbrev pub IsSpoken : ℕ → Type 0

@@ -4,16 +4,13 @@ use Rattle.nm_types.specs.declared.scripts.Line.{Line}
 use Rattle.nm_types.specs.Sizes.{Sizes}
 use Rattle.nm_script.specs.Rules.{IsFirstFault}
 use Rattle.nm_script.specs.Spelled.{IsTextOf}
-use Rattle.nm_report.specs.declared.records.RunRecord.{RunRecord}
 use Rattle.nm_trace.specs.Traces.{IsFirstBad, IsTraceOf}
-use Rattle.nm_check.specs.Verdicts.{Judges}
 use Rattle.nm_check.specs.Checks.{IsInput, sizes}
 use Rattle.nm_check.specs.Inputs.{HasNoCut}
 use Rattle.nm_check.specs.declared.checked.checks.Checked.{Checked}
 use Rattle.nm_check.specs.declared.checked.checks.Checked.TheVariants as checked
-use Rattle.nm_check.specs.Evidences.{IsEvidence}
+use Rattle.nm_check.specs.Judgements.{IsJudgement}
 use Rattle.nm_check.specs.Lines.{Stands}
-use Rattle.nm_check.specs.Places.{IsTracePlace}
 use Rattle.nm_check.specs.Stops.{IsStop, lines_in}
 use Rattle.nm_check.specs.declared.breaks.finding.Found.{Found}
 use Rattle.nm_check.specs.declared.breaks.finding.Found.TheVariants.{NoTrace, NoScript, BadTrace, Judged}
@@ -23,16 +20,15 @@ abbrev pub checked_of : Found → Checked
 checked_of NoTrace = checked.NoTrace
 checked_of (NoScript line kind) = checked.NoScript line kind
 checked_of (BadTrace before line stop) = checked.BadTrace line
-checked_of (Judged before verdict place evidence) = checked.Judged verdict
+checked_of (Judged before j run) = checked.Judged j.verdict
 
 -- behind so many lines, the trace is judged by the script's lines, and breaks the rule there first; or it is none
 abbrev pub IsTraceFound : Sizes → List Line → ℕ → List ℕ → Found → Type 0
 IsTraceFound shape lines before rest (BadTrace front line stop) =
     (front ≡ before) × IsFirstBad shape rest line × IsStop shape rest line stop
-IsTraceFound shape lines before rest (Judged front verdict place evidence) =
-    (front ≡ before) × (run : RunRecord) × IsTraceOf shape rest run × Judges lines run verdict
-    × IsTracePlace (lines_in rest) lines run verdict place × Stands rest run verdict place evidence
-    × IsEvidence lines run verdict place evidence
+IsTraceFound shape lines before rest (Judged front j run) =
+    (front ≡ before) × IsTraceOf shape rest run × IsJudgement (lines_in rest) lines run j
+    × Stands rest run j.verdict j.place j.why
 IsTraceFound shape lines before rest _ = ⊥
 
 -- the lines before it are no script, or the trace is judged by it

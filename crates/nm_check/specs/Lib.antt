@@ -7,6 +7,7 @@ pub mod Evidences
 pub mod Found
 pub mod Incidents
 pub mod Inputs
+pub mod Judgements
 pub mod Lines
 pub mod Miscounts
 pub mod Others

@@ -4,6 +4,7 @@ use Rattle.std.specs.Prelude.{option_and_then, option_map, slice_get}
 use Rattle.std.specs.Option.{option_map_or}
 use Rattle.nm_script.specs.Lines.{lines_of}
 use Rattle.nm_check.specs.declared.breaks.counts.Miscount.{Miscount}
+use Rattle.nm_check.specs.declared.verdict.quotes.Quotes.{Quotes}
 use Rattle.nm_check.specs.declared.breaks.evidence.Evidence.{Evidence}
 use Rattle.nm_check.specs.declared.breaks.finding.Found.{Found}
 use Rattle.nm_check.specs.declared.breaks.finding.Found.TheVariants.{Judged}
@@ -30,9 +31,18 @@ quoted_line place evidence = None
 
 -- .. and that of the whole input, counted from 1: so many lines and the line `---` stand before the trace
 abbrev pub told_line : Found → Option ℕ
-told_line (Judged before verdict place evidence) = option_map (λ line. before + 1 + line) (quoted_line place evidence)
+told_line (Judged before j run) = option_map (λ line. before + 1 + line) (quoted_line j.place j.why)
 told_line found = None
 
--- its bytes
-abbrev pub quote_of : List ℕ → Found → Option (List ℕ)
-quote_of bytes found = option_and_then (λ line. slice_get (lines_of bytes) (line - 1)) (told_line found)
+-- .. and that of the other rank's event that it is held against, if it is held against one
+abbrev pub other_line : Found → Option ℕ
+other_line (Judged before j run) = option_map (λ line. before + 1 + line) j.why.other
+other_line found = None
+
+-- the bytes of a line of the whole input, counted from 1, if it is told
+abbrev pub text_at : List ℕ → Option ℕ → Option (List ℕ)
+text_at bytes told = option_and_then (λ line. slice_get (lines_of bytes) (line - 1)) told
+
+-- .. of both lines
+abbrev pub quotes_of : List ℕ → Found → Quotes
+quotes_of bytes found = record { line = text_at bytes (told_line found); other = text_at bytes (other_line found) }

@@ -16,45 +16,60 @@ abbrev pub own_words : OwnClause → List ℕ
 own_words own.Stamps =
     codes "the stamps of a rank are at least 1 and rise, and this one is not greater than the one before"
 own_words own.Numbers =
-    codes "the sends to each rank, the arrivals from each and the receives are numbered from 0, and this number is not the next, or the rank is none of the script's"
+    codes "the sends to each rank, the arrivals from each and the receives are numbered from 0, and this number is not the next, or the rank is none of the script's (MPI 3.1, 3.5)"
 own_words own.Claims =
-    codes "a matched probe that shows a message has its one claim, of the first free message that it selects, and there is no other claim"
+    codes "a matched probe that shows a message has its one claim, of the first free message that it selects, and there is no other claim (MPI 3.1, 3.8.2)"
 own_words own.Starts =
-    codes "a start that was taken has its one send or receive since the answer before, with the arguments of its line, asking exactly where it is synchronous or longer than --eager says, and there is no other"
+    codes "a start that was taken has its one send or receive since the answer before, with the arguments of its line, by rendezvous exactly where it is synchronous or longer than --eager says, and there is no other (MPI 3.1, 3.2, 3.4 and 3.7.2)"
 own_words own.Cancels =
-    codes "a cancel has its one event since the answer before, and there is no other, and that of a receive is done exactly where the receive has no message"
+    codes "a cancel has its one event since the answer before, and there is no other, and that of a receive is done exactly where the receive has no message (MPI 3.1, 3.8.4)"
 own_words own.Wholes =
-    codes "a message is whole once, after it came, and after a receive took it where it was sent by asking"
+    codes "a message is whole once, after it came, and after a receive took it where it was sent by rendezvous (MPI 3.1, 3.4 and 3.7.3)"
 own_words own.Ends =
-    codes "a message leaves once, after its send, is withdrawn once, after it came, done exactly where it is free, and a recall is answered once"
+    codes "a message leaves once, after its send, is withdrawn once, after it came, done exactly where it is free, and a recall is answered once (MPI 3.1, 3.7.3 and 3.8.4)"
 own_words own.Answers =
-    codes "the commands of a rank run in order, each with the answer that matching gives it on the events before"
+    codes "the commands of a rank run in order, each with the answer that matching gives it on the events before (MPI 3.1, 3.5, 3.7.3 and 3.8)"
 
 -- the rule of the messages from one rank to another
 abbrev pub carried_words : CarriedClause → List ℕ
 carried_words carried.Messages =
-    codes "the messages that came are the first that were sent, in order, each with its envelope and a greater stamp"
+    codes "the messages that came are the first that were sent, in order, each with its envelope and a greater stamp (MPI 3.1, 3.5)"
 carried_words carried.Bodies =
-    codes "a receive shows the body of the send that it is paired with"
+    codes "a receive shows the body of the send that it is paired with (MPI 3.1, 3.2.4)"
 carried_words carried.Outs =
-    codes "a message that was sent by asking leaves only after a receive took it, by stamps"
+    codes "a message that was sent by rendezvous leaves only after a receive took it, by stamps (MPI 3.1, 3.4)"
 carried_words carried.Withdrawals =
-    codes "a withdrawal comes after its recall, and the answer to a recall after its withdrawal, with the same word"
+    codes "a withdrawal comes after its recall, and the answer to a recall after its withdrawal, with the same word (MPI 3.1, 3.8.4)"
 
 -- the rule of all ranks at rest
 abbrev pub rest_words : RestClause → List ℕ
 rest_words rest.Arrived =
-    codes "all that was sent has come"
+    codes "all that was sent has come (MPI 3.1, 3.5)"
 rest_words rest.Eager =
-    codes "each message that was sent without asking has left and is whole"
+    codes "each message that was sent eagerly has left and is whole (MPI 3.1, 3.4)"
 rest_words rest.Asked =
-    codes "each message that was sent by asking and that a receive took has left and is whole, and one that is claimed alone has done neither"
+    codes "each message that was sent by rendezvous and that a receive took has left and is whole, and one that is claimed alone has done neither (MPI 3.1, 3.4 and 3.8.2)"
 rest_words rest.Recalls =
-    codes "each recall is answered"
+    codes "each recall is answered (MPI 3.1, 3.8.4)"
 rest_words rest.Waits =
-    codes "each rank is at its end, or waits at its next command, which can't go on"
+    codes "each rank is at its end, or waits at its next command, which can't go on (MPI 3.1, 3.7.3 and 3.8.1)"
 rest_words rest.Counts =
     codes "the counts of packets are those that the events call for"
+
+-- what is left of an event in the end
+abbrev pub left_words : RestClause → List ℕ
+left_words rest.Arrived =
+    codes "it never came"
+left_words rest.Eager =
+    codes "it never left, or was never whole"
+left_words rest.Asked =
+    codes "a receive took it, and it never left or was never whole; or it is claimed alone, and did"
+left_words rest.Recalls =
+    codes "it was never answered"
+left_words rest.Waits =
+    codes ""
+left_words rest.Counts =
+    codes ""
 
 -- why a line is none of a script
 abbrev pub kind_words : Kind → List ℕ

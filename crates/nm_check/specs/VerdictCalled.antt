@@ -28,20 +28,20 @@ found_word many.More = codes "are two or more"
 -- another number of events is called for than was found
 abbrev pub many_words : Many → Many → List ℕ
 many_words called found =
-    codes "; since the answer before there is to be "
+    codes "since the answer before there is to be "
     ++ (many_word called ++ (codes ", and there " ++ found_word found))
 
 -- another message is claimed than is to be, if one is
 abbrev pub claim_words : Option Message → Message → List ℕ
 claim_words (Some called) found =
-    codes "; it is to be " ++ (from_words called.rank called.n ++ (codes ", and is " ++ from_words found.rank found.n))
+    codes "it is to be " ++ (from_words called.rank called.n ++ (codes ", and is " ++ from_words found.rank found.n))
 claim_words None found =
-    codes "; no message is to be claimed for that line, and it is " ++ from_words found.rank found.n
+    codes "no message is to be claimed for that line, and it is " ++ from_words found.rank found.n
 
 -- a claim for another line
 abbrev pub named_words : ℕ → ℕ → List ℕ
 named_words called found =
-    codes "; its claim is to name line " ++ (decimal called ++ (codes ", and names line " ++ decimal found))
+    codes "its claim is to name line " ++ (decimal called ++ (codes ", and names line " ++ decimal found))
 
 -- a request
 abbrev pub request_words : Request → List ℕ
@@ -51,7 +51,7 @@ request_words (Receiving number) = receive_words number
 -- another request is cancelled than is to be
 abbrev pub of_words : Request → Request → List ℕ
 of_words called found =
-    codes "; it is to be of " ++ (request_words called ++ (codes ", and is of " ++ request_words found))
+    codes "it is to be of " ++ (request_words called ++ (codes ", and is of " ++ request_words found))
 
 -- what a start is
 abbrev pub sort_word : Sort → List ℕ
@@ -61,15 +61,15 @@ sort_word sort.Matched = codes "a receive of a claimed message"
 
 -- the name of an argument
 abbrev pub name_word : Argument → List ℕ
-name_word (arg.Sort s) = codes "; it"
-name_word (arg.To to) = codes "; its destination"
-name_word (arg.From from) = codes "; its source"
-name_word (arg.Tag tag) = codes "; its tag"
-name_word (arg.Context ctx) = codes "; its context"
-name_word (arg.Length len) = codes "; its length"
-name_word (arg.Capacity cap) = codes "; its capacity"
-name_word (arg.Message message) = codes "; its message"
-name_word (arg.Line line) = codes "; its command"
+name_word (arg.Sort s) = codes "it"
+name_word (arg.To to) = codes "its destination"
+name_word (arg.From from) = codes "its source"
+name_word (arg.Tag tag) = codes "its tag"
+name_word (arg.Context ctx) = codes "its context"
+name_word (arg.Length len) = codes "its length"
+name_word (arg.Capacity cap) = codes "its capacity"
+name_word (arg.Message message) = codes "its message"
+name_word (arg.Line line) = codes "its command"
 
 -- .. and its value
 abbrev pub value_words : Argument → List ℕ

@@ -11,12 +11,12 @@ pair_text pair =
 
 -- a count that stands where another one is called for, or none
 abbrev pub found_words : Option PairCount → PairCount → List ℕ
-found_words (Some called) found = codes "; it is to be " ++ (pair_text called ++ (codes ", and is " ++ pair_text found))
-found_words None found = codes "; no more counts are called for, and it is " ++ pair_text found
+found_words (Some called) found = codes "it is to be " ++ (pair_text called ++ (codes ", and is " ++ pair_text found))
+found_words None found = codes "no more counts are called for, and it is " ++ pair_text found
 
 -- a count that is called for where none stands
 abbrev pub missing_words : Option PairCount → List ℕ
-missing_words (Some called) = codes "; " ++ (pair_text called ++ codes " is to stand before it")
+missing_words (Some called) = codes "" ++ (pair_text called ++ codes " is to stand before it")
 missing_words None = codes ""
 
 -- the count that is called for, and the one that stands there

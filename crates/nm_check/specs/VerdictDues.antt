@@ -42,13 +42,13 @@ told_words t = codes "`" ++ (told_word t ++ (shown_words t ++ codes "`"))
 -- an answer that was called for, if there is one, and the one that was found
 abbrev pub answer_words : Option Told → Told → List ℕ
 answer_words (Some called) found =
-    codes "; its answer is to be " ++ (told_words called ++ (codes ", and is " ++ told_words found))
-answer_words None found = codes "; it can't go on, and its answer is " ++ told_words found
+    codes "its answer is to be " ++ (told_words called ++ (codes ", and is " ++ told_words found))
+answer_words None found = codes "it can't go on, and its answer is " ++ told_words found
 
 -- the next command, if one is left
 abbrev pub next_words : Option ℕ → List ℕ
-next_words (Some next) = codes "; the next one is in line " ++ decimal next
-next_words None = codes "; no command of it is left"
+next_words (Some next) = codes "the next one is in line " ++ decimal next
+next_words None = codes "no command of it is left"
 
 -- a stamp, a number or a rank that was called for, and the one that was found
 abbrev pub number_words : List ℕ → ℕ → ℕ → List ℕ
@@ -56,31 +56,31 @@ number_words name called found = name ++ (decimal called ++ (codes ", and is " +
 
 -- what stands against an event
 abbrev pub objection_words : Objection → List ℕ
-objection_words against.Again = codes "; the same happened to its message before"
-objection_words against.NotCome = codes "; its message had not come"
-objection_words against.NotTaken = codes "; its message was sent by asking, and no receive had taken it"
-objection_words against.NotSent = codes "; its message was not sent before"
-objection_words against.NotRecalled = codes "; its message was not recalled before"
-objection_words against.Done = codes "; it is to be `done`, and is `late`"
-objection_words against.Late = codes "; it is to be `late`, and is `done`"
-objection_words against.NotClaimed = codes "; its message was not claimed before"
-objection_words against.Taken = codes "; a receive had taken its message"
-objection_words against.NoMessage = codes "; its handle has no live message"
-objection_words against.Asking = codes "; a synchronous send asks, and this one does not"
+objection_words against.Again = codes "the same happened to its message before"
+objection_words against.NotCome = codes "its message had not come"
+objection_words against.NotTaken = codes "its message was sent by rendezvous, and no receive had taken it"
+objection_words against.NotSent = codes "its message was not sent before"
+objection_words against.NotRecalled = codes "its message was not recalled before"
+objection_words against.Done = codes "it is to be `done`, and is `late`"
+objection_words against.Late = codes "it is to be `late`, and is `done`"
+objection_words against.NotClaimed = codes "its message was not claimed before"
+objection_words against.Taken = codes "a receive had taken its message"
+objection_words against.NoMessage = codes "its handle has no live message"
+objection_words against.Asking = codes "a synchronous send goes by rendezvous, and this one does not"
 
--- whether a send of so many bytes asks by this limit
+-- whether a send of so many bytes goes by rendezvous by this limit
 abbrev pub eager_words : ℕ → ℕ → Bool → List ℕ
 eager_words limit len asks =
-    codes "; --eager does not fit: by " ++ (decimal limit ++ (codes " a send of " ++ (decimal len
-    ++ (if asks then codes " bytes does not ask, and this one does" else codes " bytes asks, and this one does not"))))
+    codes "--eager does not fit: by " ++ (decimal limit ++ (codes " a send of " ++ (decimal len
+    ++ (if asks then codes " bytes is eager, and this one is not" else codes " bytes is not eager, and this one is"))))
 
 -- what was called for, and what was found
 abbrev pub some_words : Due → List ℕ
 some_words (due.Command next) = next_words next
 some_words (due.Answer called found) = answer_words called found
-some_words (due.Stamp last found) = number_words (codes "; its stamp is to be greater than ") last found
-some_words (due.Number called found) = number_words (codes "; its number is to be ") called found
-some_words (due.Rank ranks found) = number_words (codes "; its rank is to be less than ") ranks found
+some_words (due.Stamp last found) = number_words (codes "its stamp is to be greater than ") last found
+some_words (due.Number called found) = number_words (codes "its number is to be ") called found
+some_words (due.Rank ranks found) = number_words (codes "its rank is to be less than ") ranks found
 some_words (due.Eager limit len asks) = eager_words limit len asks
 some_words (due.Against objection) = objection_words objection
 some_words (due.Many called found) = many_words called found

@@ -34,13 +34,14 @@ pub mod counts;
 pub mod evidence;
 mod finding;
 pub mod incidents;
+pub mod judgements;
 mod others;
-mod own;
 mod places;
 mod placing;
 pub(crate) mod stops;
 
 pub use evidence::Evidence;
 pub use finding::{Found, find};
+pub use judgements::Judgement;
 pub use places::Place;
 pub use stops::Stop;

@@ -14,7 +14,7 @@
 //! on what a change of one line makes of them (`tests/traces`).
 
 mod checks;
-mod inputs;
+pub(crate) mod inputs;
 mod texts;
 
 pub use checks::{Checked, check};

@@ -1,6 +1,6 @@
 //! The judge of a record.
 
-ghost use Rattle.std.specs.Prelude.{◌≡◌, ◌<◌, IfOk, List, MatchOption, length};
+ghost use Rattle.std.specs.Prelude.{◌≡◌, ◌<◌, IfOk, List, MatchOption, None, length};
 ghost use Rattle.nm_types.specs.declared.scripts.Line as script_line;
 ghost use Rattle.nm_types.specs.Sizes.{Sizes};
 ghost use Rattle.nm_history.specs.Quiescence.{AreQuiescent, EachPair, EachRank};
@@ -8,6 +8,7 @@ ghost use Rattle.nm_history.specs.Run.{IsRunOf};
 ghost use Rattle.nm_report.specs.Ends.{ends_of, packets_of};
 ghost use Rattle.nm_report.specs.Lawful.{IsRunIn};
 ghost use Rattle.nm_check.specs.declared.verdicts.Verdict.TheVariants.{Holds};
+ghost use Rattle.nm_check.specs.OwnFirsts.{IsOwnFirst};
 ghost use Rattle.nm_check.specs.Verdicts.{Judges, RunsItsOwn};
 ghost use Rattle.nm_check_ranks.specs.CarriedClauses.{PairDelivered};
 ghost use Rattle.nm_check_ranks.specs.Marked.{BreaksPair};
@@ -75,7 +76,8 @@ fn judge_rest(
 
 /// The verdict on a record whose ranks make a run.
 fn judge_ends(run: &RunRecord) -> Verdict
-    ensures { (lines : List script_line.Line) →
+    ensures between { (lines : List script_line.Line) → IsOwnFirst lines run.now result None }
+    ensures first { (lines : List script_line.Line) →
         IsRunOf run.now.shape lines (ends_of run.now.ranks) (packets_of run.now.pairs) →
         Judges lines run.now result }
 {
@@ -88,6 +90,35 @@ fn judge_ends(run: &RunRecord) -> Verdict
     Verdict::Holds
 }
 
+/// The verdict on a record whose ranks run their own commands, by what is looked up of them.
+pub(crate) fn judge_tabled(
+    alloc: Global,
+    script: &Script,
+    run: &RunRecord,
+    tables: &[Tables],
+) -> Result<Verdict, Memory>
+    requires whole { length run.now.ranks ≡ run.now.shape.ranks }
+    requires few { length run.now.ranks < 256 }
+    requires runs { EachRank (RunsItsOwn run.now.shape script.now.lines) (ends_of run.now.ranks) }
+    requires tabled { EachTabled script.now.lines (ends_of run.now.ranks) tables.now }
+    ensures first { IfOk result (Judges script.now.lines run.now) }
+    ensures between { IfOk result (λ verdict. IsOwnFirst script.now.lines run.now verdict None) }
+{
+    let lines = script.lines.as_slice();
+    let ranks = run.ranks.as_slice();
+    if let Some(pair) = judge_pairs(alloc, lines, ranks, tables)? {
+        return Ok(Verdict::Carried {
+            clause: pair.broken.clause,
+            from: pair.from,
+            to: pair.broken.to,
+        });
+    }
+    if let Some(clause) = judge_rest(lines, ranks, run.pairs.as_slice(), tables) {
+        return Ok(Verdict::Rest { clause });
+    }
+    Ok(judge_ends(run))
+}
+
 /// Judges whether a record is of a run of a script: it holds exactly where it is, else the verdict
 /// is the first rule that is broken, rank by rank, then pair by pair, then of all ranks.
 pub fn judge(alloc: Global, script: &Script, run: &RunRecord) -> Result<Verdict, Memory>
@@ -98,20 +129,8 @@ pub fn judge(alloc: Global, script: &Script, run: &RunRecord) -> Result<Verdict,
         IfOk result (λ verdict. verdict ≡ Holds) }
 {
     let lines = script.lines.as_slice();
-    let ranks = run.ranks.as_slice();
-    let tables = match judge_ranks(alloc, run.shape, lines, ranks)? {
-        Ranked::Run(tables) => tables,
-        Ranked::Breaks { clause, rank } => return Ok(Verdict::Own { clause, rank }),
-    };
-    if let Some(pair) = judge_pairs(alloc, lines, ranks, &tables)? {
-        return Ok(Verdict::Carried {
-            clause: pair.broken.clause,
-            from: pair.from,
-            to: pair.broken.to,
-        });
+    match judge_ranks(alloc, run.shape, lines, run.ranks.as_slice())? {
+        Ranked::Run(tables) => judge_tabled(alloc, script, run, &tables),
+        Ranked::Breaks { clause, rank, .. } => Ok(Verdict::Own { clause, rank }),
     }
-    if let Some(clause) = judge_rest(lines, ranks, run.pairs.as_slice(), &tables) {
-        return Ok(Verdict::Rest { clause });
-    }
-    Ok(judge_ends(run))
 }

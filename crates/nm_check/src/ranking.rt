@@ -5,6 +5,7 @@ ghost use Rattle.nm_report.specs.Ends.{ends_of};
 ghost use Rattle.nm_check.specs.Ranked.{IsRanked};
 
 use nm_check_rank::clauses::OwnClause;
+use nm_check_rank::paired::breaches::Breach;
 use nm_check_rank::paired::judging::{Judged, judge_rank};
 use nm_check_rank::paired::tables::Tables;
 use nm_report::RankAccount;
@@ -12,11 +13,11 @@ use nm_types::{Line, Memory, Shape};
 use std::alloc::Global;
 
 /// All ranks run their own commands, and what is looked up of them; or the first rule that is
-/// broken.
+/// broken, and where its rank breaks one first.
 #[derive(Drop)]
 pub(crate) enum Ranked {
     Run(Vec<Tables>),
-    Breaks { clause: OwnClause, rank: u8 },
+    Breaks { clause: OwnClause, rank: u8, first: Breach },
 }
 
 /// Whether each rank runs its own commands.
@@ -34,11 +35,9 @@ pub(crate) fn judge_ranks(
         let events = rank.history.as_slice();
         match judge_rank(alloc, shape, i as u8, lines, rank.at, events)? {
             Judged::Runs(own) => tables.push(own)?,
-            Judged::Breaks { clause, .. } => {
-                return Ok(Ranked::Breaks {
-                    clause,
-                    rank: i as u8,
-                });
+            Judged::Breaks { clause, first } => {
+                let rank = i as u8;
+                return Ok(Ranked::Breaks { clause, rank, first });
             }
         }
     }

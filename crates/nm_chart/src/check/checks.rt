@@ -1,28 +1,22 @@
 //! The whole program: words, a script and a trace in, a picture and a status out.
 
-ghost use Rattle.std.specs.Prelude.{◌≡◌, ◌≤◌, ◌⊎◌, length, map, string_bytes};
-ghost use Rattle.std.specs.Prelude.{IfErr, IfOk, IfSome, MatchOption};
+ghost use Rattle.std.specs.Prelude.{◌≡◌, ◌⊎◌, map, string_bytes};
+ghost use Rattle.std.specs.Prelude.{IfOk, IfSome, MatchOption};
 ghost use Rattle.nm_script.specs.CommandWords.{InRange};
 ghost use Rattle.nm_outside.specs.Told.{LosesAtMost, Rose};
-ghost use Rattle.nm_trace.specs.Traces.{IsTraceOf, Names};
-ghost use Rattle.nm_chart.specs.Endings.{widest};
 ghost use Rattle.nm_check.specs.Done.{IsDone};
 ghost use Rattle.nm_chart.specs.Given.{IsReadFor, IsSaid};
-ghost use Rattle.nm_chart.specs.Findings.{CanBeDrawn, ChartsCheck, HasTrace, IsAnswer, IsAnswerIn};
-ghost use Rattle.nm_chart.specs.Findings.{IsFinding, IsFindingOf, IsFoundIn, Says};
+ghost use Rattle.nm_chart.specs.Findings.{CanBeDrawn, CanBeFound, ChartsCheck, IsAnswer, IsAnswerIn};
+ghost use Rattle.nm_chart.specs.Findings.{Says, finding_of as finding_of_lem};
 ghost use Rattle.nm_check.specs.Answers.{IsAsked, NotAsked};
 ghost use Rattle.nm_chart.specs.Findings.{WasQuiet, WasRead, status_of};
 
 use crate::check::findings::{Finding, status, text};
 use crate::check::places::flag_of;
-use crate::laws::one_shape_serves_for_all;
-use nm_check::breaks::{Found, Place, find};
-use nm_check::checked::cut;
+use nm_check::breaks::{Found, find};
 use nm_outside::{Sink, Source, Unread, read_up_to, write_all};
-use nm_report::RunRecord;
 use nm_script::command_line::{CommandLine, Mode};
-use nm_trace::{TraceFault, read_trace};
-use nm_types::{Memory, Shape};
+use nm_types::Memory;
 use std::alloc::Global;
 
 /// The most bytes that are read: one more than a script and its trace may have.
@@ -49,47 +43,21 @@ fn asked(words: &[String]) -> Option<CommandLine>
     }
 }
 
-/// The record of which these bytes are the trace, for ranks of any number.
-fn read_widest(alloc: Global, bytes: &[u8]) -> Result<RunRecord, TraceFault>
-    requires { length bytes.now ≤ 67108864 }
-    ensures taken { IfOk result (IsTraceOf widest bytes.now) }
-    ensures bad { IfErr result (Names widest bytes.now) }
-{
-    let shape = Shape::new(64, 1, 0).unwrap();
-    read_trace(alloc, bytes, shape)
-}
-
-/// The record of the trace behind the first line `---`, with a flag at a place.
-fn drawn(alloc: Global, bytes: &[u8], place: Place) -> Result<Finding, Memory>
-    requires { HasTrace bytes.now }
-    ensures finding { IfOk result (IsFinding bytes.now place) }
-    ensures drawn { IfOk result CanBeDrawn }
-{
-    one_shape_serves_for_all();
-    let Some((_, rest)) = cut(bytes) else {
-        return Ok(Finding::NoTrace { line: 0 });
-    };
-    match read_widest(alloc, rest) {
-        Ok(run) => {
-            let flag = flag_of(run.ranks.as_slice(), place);
-            Ok(Finding::Drawn { run, flag })
-        }
-        Err(TraceFault::Bad { line }) => Ok(Finding::NoTrace { line }),
-        Err(TraceFault::Memory) => Err(Memory),
-    }
-}
-
 /// What there is to say of what was found.
-fn finding_of(alloc: Global, bytes: &[u8], found: Found) -> Result<Finding, Memory>
-    requires { IsFoundIn bytes.now found }
-    ensures finding { IfOk result (IsFindingOf bytes.now found) }
-    ensures drawn { IfOk result CanBeDrawn }
+fn finding_of(found: Found) -> Finding
+    requires { CanBeFound found }
+    ensures finding { result ≡ finding_of_lem found }
+    ensures drawn { CanBeDrawn result }
 {
     match found {
-        Found::NoTrace => Ok(Finding::NoTrace { line: 0 }),
-        Found::NoScript { line, .. } => Ok(Finding::NoScript { line }),
-        Found::BadTrace { line, .. } => Ok(Finding::NoTrace { line }),
-        Found::Judged { place, .. } => drawn(alloc, bytes, place),
+        Found::NoTrace => Finding::NoTrace { line: 0 },
+        Found::NoScript { line, .. } => Finding::NoScript { line },
+        Found::BadTrace { line, .. } => Finding::NoTrace { line },
+        Found::Judged { judgement, run, .. } => {
+            let verdict = judgement.verdict;
+            let flag = flag_of(run.ranks.as_slice(), judgement.place);
+            Finding::Drawn { run, verdict, flag }
+        }
     }
 }
 
@@ -100,7 +68,7 @@ fn finding_in(alloc: Global, bytes: &[u8], line: CommandLine) -> Result<Finding,
     ensures drawn { IfOk result CanBeDrawn }
 {
     let found = find(alloc, bytes, line.cells, line.eager)?;
-    finding_of(alloc, bytes, found)
+    Ok(finding_of(found))
 }
 
 /// Finds the answer to the words and the source.
@@ -144,9 +112,9 @@ fn deliver<K: Sink>(sink: &mut K, due: &[u8], finding: &Finding) -> u8
 /// trace to the sink, with a flag where the trace breaks a rule first.
 ///
 /// The words are those of `nemesis check`, with that first word. The status is 0 where the picture
-/// was written, 2 where the words are not taken, 3 where there is no script, 4 where a read failed, 5
-/// where a write failed, 6 for want of memory, and 9 where there is no trace, or more than 67,108,864
-/// bytes. The whole text is in memory before the first write.
+/// was written of a trace that holds, 8 of one that breaks a rule, 2 where the words are not taken, 3
+/// where there is no script, 4 where a read failed, 5 where a write failed, 6 for want of memory, and
+/// 9 where there is no trace, or more than 67,108,864 bytes. The whole text is in memory before the first write.
 pub fn chart_check<S: Source, K: Sink>(
     alloc: Global,
     words: &[String],

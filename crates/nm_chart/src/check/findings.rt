@@ -1,10 +1,12 @@
 //! What there is to say of the words and the source, and how it is said.
 
 ghost use Rattle.std.specs.Prelude.{◌≡◌, IfOk};
+ghost use Rattle.nm_check.specs.Answers.{verdict_status as verdict_status_lem};
 ghost use Rattle.nm_chart.specs.Findings.{CanBeDrawn, Says, fault_text};
 ghost use Rattle.nm_chart.specs.Findings.{status_of};
 
 use crate::answers::USAGE;
+use nm_check::Verdict;
 use nm_diagram::Part;
 use nm_picture::{Flag, flagged_picture};
 use nm_report::RunRecord;
@@ -23,8 +25,12 @@ pub enum Finding {
     /// There is no trace: this line behind `---` is its first that is none, or line 0 where there is
     /// no line `---`, or the input is too long.
     NoTrace { line: u32 },
-    /// There is the trace of a record, with a flag where it breaks a rule first.
-    Drawn { run: RunRecord, flag: Option<Flag> },
+    /// There is the trace of a record, with the verdict on it and a flag where it breaks a rule first.
+    Drawn {
+        run: RunRecord,
+        verdict: Verdict,
+        flag: Option<Flag>,
+    },
 }
 
 /// The bytes of a line.
@@ -52,7 +58,17 @@ pub fn text(alloc: Global, finding: &Finding) -> Result<Vec<u8>, Memory>
         Finding::Unread => Ok(line_of(alloc, "fault read\n")?),
         Finding::NoScript { line } => Ok(fault(alloc, "script", *line)?),
         Finding::NoTrace { line } => Ok(fault(alloc, "trace", *line)?),
-        Finding::Drawn { run, flag } => flagged_picture(alloc, run, Part::whole(), *flag),
+        Finding::Drawn { run, flag, .. } => flagged_picture(alloc, run, Part::whole(), *flag),
+    }
+}
+
+/// The status of a verdict: whether the trace holds.
+fn verdict_status(verdict: Verdict) -> u8
+    ensures { result ≡ verdict_status_lem verdict }
+{
+    match verdict {
+        Verdict::Holds => 0,
+        _ => 8,
     }
 }
 
@@ -61,7 +77,7 @@ pub fn status(finding: &Finding) -> u8
     ensures { result ≡ status_of finding.now }
 {
     match finding {
-        Finding::Drawn { .. } => 0,
+        Finding::Drawn { verdict, .. } => verdict_status(*verdict),
         Finding::Usage => 2,
         Finding::NoScript { .. } => 3,
         Finding::Unread => 4,

@@ -11,13 +11,9 @@ ghost use Rattle.nm_check.specs.declared.checked.checks.Checked.TheVariants as c
 ghost use Rattle.nm_check.specs.Checks.{IsChecked, IsInput, sizes};
 ghost use Rattle.nm_check.specs.Found.{IsFound, IsScriptFound, IsTraceFound, checked_of};
 
-use crate::breaks::evidence::{Evidence, evidence_of};
-use crate::breaks::own::own_first;
-use crate::breaks::places::Place;
-use crate::breaks::placing::trace_place;
+use crate::breaks::judgements::{Judgement, judged};
 use crate::breaks::stops::{Stop, lines_in, stop_at};
-use crate::checked::cut;
-use crate::{Verdict, judge};
+use crate::checked::inputs::cut;
 use nm_report::RunRecord;
 use nm_script::{Kind, ScriptFault};
 use nm_trace::{TraceFault, read_trace};
@@ -28,7 +24,7 @@ use std::alloc::Global;
 const MAX_INPUT: usize = 67_108_864;
 
 /// What there is to say of a script and a trace.
-#[derive(Clone, Copy)]
+#[derive(Drop)]
 pub enum Found {
     /// The input is too long, or has no line `---`.
     NoTrace,
@@ -44,13 +40,12 @@ pub enum Found {
         line: u32,
         stop: Stop,
     },
-    /// The verdict on the trace, where it breaks the rule first, and what the verdict rests on there.
-    /// So many lines stand before the line `---`.
+    /// The verdict on the trace of this record, where it breaks the rule first, and what the verdict
+    /// rests on there. So many lines stand before the line `---`.
     Judged {
         before: u32,
-        verdict: Verdict,
-        place: Place,
-        evidence: Evidence,
+        judgement: Judgement,
+        run: RunRecord,
     },
 }
 
@@ -77,16 +72,11 @@ fn find_in_trace(
     let shape = Shape::new(script.ranks, cells, eager).unwrap();
     match read_trace(alloc, rest, shape) {
         Ok(run) => {
-            let verdict = judge(alloc, script, &run)?;
-            let count = lines_in(rest);
-            let first = own_first(alloc, script, &run, verdict)?;
-            let place = trace_place(alloc, script, &run, verdict, first, count)?;
-            let evidence = evidence_of(alloc, script, &run, verdict, first, place)?;
+            let judgement = judged(alloc, script, &run, lines_in(rest))?;
             Ok(Found::Judged {
                 before,
-                verdict,
-                place,
-                evidence,
+                judgement,
+                run,
             })
         }
         Err(TraceFault::Bad { line }) => {

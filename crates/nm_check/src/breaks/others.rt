@@ -1,6 +1,6 @@
 //! The other place of a rule between two ranks.
 
-ghost use Rattle.std.specs.Prelude.{◌≡◌, ◌<◌, ◌≤◌, ◌==◌, ℕ, if◌then◌else◌, IfOk, Some, length, slice_get};
+ghost use Rattle.std.specs.Prelude.{◌≡◌, ◌<◌, ◌≤◌, ◌==◌, ℕ, if◌then◌else◌, Some, length, slice_get};
 ghost use Rattle.std.specs.Prelude.{option_map, position, take};
 ghost use Rattle.nm_types.specs.Commands.{commands_of};
 ghost use Rattle.nm_types.specs.declared.answers.Answer as given_answer;
@@ -8,25 +8,20 @@ ghost use Rattle.nm_report.specs.Ends.{ends_of};
 ghost use Rattle.nm_history.specs.declared.events.Event as event;
 ghost use Rattle.nm_history.specs.declared.events.Happened.TheVariants.{Ran};
 ghost use Rattle.nm_history.specs.Happens.{is_recall as is_recall_lem, is_send as is_send_lem};
-ghost use Rattle.nm_history.specs.Quiescence.{EachRank, history_of};
-ghost use Rattle.nm_check_rank.specs.Tabled.{AreRankTables};
-ghost use Rattle.nm_check_rank.specs.Takes.{IsTakenAt};
-ghost use Rattle.nm_check_ranks.specs.Marked.{KeepsLocal};
+ghost use Rattle.nm_history.specs.Quiescence.{history_of};
+ghost use Rattle.nm_check_ranks.specs.Tabled.{AreTabled, EachTabled};
 ghost use Rattle.nm_check.specs.Others as spec;
-ghost use Rattle.nm_check.specs.Others.{IsAgainst, IsCarriedOther, IsOther, IsOtherLine, IsTakenLine};
+ghost use Rattle.nm_check.specs.Others.{IsAgainst, IsCarriedOther, IsOtherLine, IsTakenLine};
 ghost use Rattle.nm_check.specs.Others.{is_mate as is_mate_lem, is_withdrawal as is_withdrawal_lem};
 ghost use Rattle.nm_check.specs.Others.{pair_shown};
 ghost use Rattle.nm_check.specs.Places.{events_in, line_of as line_of_lem};
-ghost use Rattle.nm_check.specs.Verdicts.{Judges};
 
-use crate::Verdict;
 use crate::breaks::places::{Place, events_of, line_of};
 use nm_check_rank::paired::tables::Tables;
 use nm_history::plain::Pair;
 use nm_history::{Event, Happened};
-use nm_report::{RankAccount, RunRecord};
-use nm_types::{Line, Memory, Script};
-use std::alloc::Global;
+use nm_report::RankAccount;
+use nm_types::Line;
 
 /// Message n was sent to this rank.
 fn is_send(to: u8, n: u64, what: &Happened) -> bool
@@ -125,35 +120,16 @@ fn send_line(ranks: &[RankAccount], x: u8, n: u64, y: u8) -> Option<u32>
     line_at(ranks, y, at)
 }
 
-/// What is looked up of a rank.
-fn tables_of_rank(
-    alloc: Global,
-    lines: &[Line],
-    ranks: &[RankAccount],
-    y: u8,
-) -> Result<Tables, Memory>
-    requires { EachRank KeepsLocal (ends_of ranks.now) }
-    ensures { IfOk result (AreRankTables y lines.now (history_of (ends_of ranks.now) y)) }
-{
-    Tables::of(alloc, y, lines, events_of(ranks, y))
-}
-
 /// The line of the event by which a receive of rank y took message n of rank x.
-fn taken_line(
-    alloc: Global,
-    lines: &[Line],
-    ranks: &[RankAccount],
-    x: u8,
-    n: u64,
-    y: u8,
-) -> Result<Option<u32>, Memory>
+fn taken_line(ranks: &[RankAccount], tables: &[Tables], x: u8, n: u64, y: u8) -> Option<u32>
+    requires known { y < length ranks.now }
     requires short { events_in (ends_of ranks.now) ≤ 67108864 }
-    requires lawful { EachRank KeepsLocal (ends_of ranks.now) }
-    ensures { IfOk result (IsTakenLine (ends_of ranks.now) x n y) }
+    requires tabled { AreTabled (ends_of ranks.now) tables.now }
+    ensures { IsTakenLine (ends_of ranks.now) x n y result }
 {
-    let tables = tables_of_rank(alloc, lines, ranks, y)?;
-    let at = tables.taken_at(x, n);
-    Ok(line_at(ranks, y, at))
+    let i = y as usize;
+    let at = tables[i].taken_at(x, n);
+    line_at(ranks, y, at)
 }
 
 /// The line of the send of the message that a pair of rank x has.
@@ -169,46 +145,49 @@ fn sent_line(ranks: &[RankAccount], x: u8, pair: Option<Pair>) -> Option<u32>
 
 /// The line of the send of the message that the answer to the command of a line of rank x shows.
 fn shown_line(
-    alloc: Global,
     lines: &[Line],
     ranks: &[RankAccount],
+    tables: &[Tables],
     x: u8,
     at: usize,
     line: u32,
-) -> Result<Option<u32>, Memory>
+) -> Option<u32>
+    requires known { x < length ranks.now }
     requires short { events_in (ends_of ranks.now) ≤ 67108864 }
-    requires lawful { EachRank KeepsLocal (ends_of ranks.now) }
+    requires tabled { EachTabled lines.now (ends_of ranks.now) tables.now }
     ensures { (e : event.Event) (answer : given_answer.Answer) →
         slice_get (history_of (ends_of ranks.now) x) at ≡ Some e → e.what ≡ Ran line answer →
-        IfOk result (λ other. other ≡ spec.sent_line (ends_of ranks.now) x
+        result ≡ spec.sent_line (ends_of ranks.now) x
         (pair_shown (commands_of x lines.now) (take at (history_of (ends_of ranks.now) x))
-        (Ran line answer))) }
+        (Ran line answer)) }
 {
-    let tables = tables_of_rank(alloc, lines, ranks, x)?;
-    let pair = tables.pair_asked(x, lines, at, line);
-    Ok(sent_line(ranks, x, pair))
+    let i = x as usize;
+    let pair = tables[i].pair_asked(x, lines, at, line);
+    sent_line(ranks, x, pair)
 }
 
 /// The line of rank y that the event at a place of rank x is held against.
 fn line_against(
-    alloc: Global,
     lines: &[Line],
     ranks: &[RankAccount],
+    tables: &[Tables],
     x: u8,
     at: usize,
     what: &Happened,
     y: u8,
-) -> Result<Option<u32>, Memory>
+) -> Option<u32>
+    requires known { x < length ranks.now }
+    requires other { y < length ranks.now }
     requires short { events_in (ends_of ranks.now) ≤ 67108864 }
-    requires lawful { EachRank KeepsLocal (ends_of ranks.now) }
+    requires tabled { EachTabled lines.now (ends_of ranks.now) tables.now }
     ensures { (e : event.Event) → slice_get (history_of (ends_of ranks.now) x) at ≡ Some e →
-        e.what ≡ what.now → IfOk result (IsAgainst lines.now (ends_of ranks.now) x
-        (take at (history_of (ends_of ranks.now) x)) what.now y) }
+        e.what ≡ what.now → IsAgainst lines.now (ends_of ranks.now) x
+        (take at (history_of (ends_of ranks.now) x)) what.now y result }
 {
     match what {
-        Happened::Out { n, .. } => taken_line(alloc, lines, ranks, x, *n, y),
-        Happened::Ran { line, .. } => shown_line(alloc, lines, ranks, x, at, *line),
-        _ => Ok(mate_line(ranks, x, what, y)),
+        Happened::Out { n, .. } => taken_line(ranks, tables, x, *n, y),
+        Happened::Ran { line, .. } => shown_line(lines, ranks, tables, x, at, *line),
+        _ => mate_line(ranks, x, what, y),
     }
 }
 
@@ -221,63 +200,45 @@ fn other_rank(i: u8, j: u8, x: u8) -> u8
 
 /// The line that the event of rank x at a place is held against, where x is rank i or rank j.
 fn other_line(
-    alloc: Global,
     lines: &[Line],
     ranks: &[RankAccount],
+    tables: &[Tables],
     i: u8,
     j: u8,
     x: u8,
     at: usize,
-) -> Result<Option<u32>, Memory>
+) -> Option<u32>
+    requires sender { i < length ranks.now }
+    requires receiver { j < length ranks.now }
     requires short { events_in (ends_of ranks.now) ≤ 67108864 }
-    requires lawful { EachRank KeepsLocal (ends_of ranks.now) }
-    ensures { IfOk result (IsOtherLine lines.now (ends_of ranks.now) i j x at) }
+    requires tabled { EachTabled lines.now (ends_of ranks.now) tables.now }
+    ensures { IsOtherLine lines.now (ends_of ranks.now) i j x at result }
 {
     let events = events_of(ranks, x);
     if at >= events.len() {
-        return Ok(None);
+        return None;
     }
     let y = other_rank(i, j, x);
-    line_against(alloc, lines, ranks, x, at, &events[at].what, y)
+    line_against(lines, ranks, tables, x, at, &events[at].what, y)
 }
 
 /// The other line of a place at which the messages from rank i to rank j break a rule.
-fn carried_other(
-    alloc: Global,
+pub fn carried_other(
     lines: &[Line],
     ranks: &[RankAccount],
+    tables: &[Tables],
     i: u8,
     j: u8,
     place: Place,
-) -> Result<Option<u32>, Memory>
+) -> Option<u32>
+    requires sender { i < length ranks.now }
+    requires receiver { j < length ranks.now }
     requires short { events_in (ends_of ranks.now) ≤ 67108864 }
-    requires lawful { EachRank KeepsLocal (ends_of ranks.now) }
-    ensures { IfOk result (IsCarriedOther lines.now (ends_of ranks.now) i j place) }
+    requires tabled { EachTabled lines.now (ends_of ranks.now) tables.now }
+    ensures { IsCarriedOther lines.now (ends_of ranks.now) i j place result }
 {
     match place {
-        Place::Event { rank, at, .. } => other_line(alloc, lines, ranks, i, j, rank, at),
-        _ => Ok(None),
-    }
-}
-
-/// The other line of a verdict's place.
-pub fn other_of(
-    alloc: Global,
-    script: &Script,
-    run: &RunRecord,
-    verdict: Verdict,
-    place: Place,
-) -> Result<Option<u32>, Memory>
-    requires judged { Judges script.now.lines run.now verdict }
-    requires short { events_in (ends_of run.now.ranks) ≤ 67108864 }
-    ensures { IfOk result (IsOther script.now.lines run.now verdict place) }
-{
-    match verdict {
-        Verdict::Carried { from, to, .. } => {
-            let lines = script.lines.as_slice();
-            let ranks = run.ranks.as_slice();
-            carried_other(alloc, lines, ranks, from, to, place)
-        }
-        _ => Ok(None),
+        Place::Event { rank, at, .. } => other_line(lines, ranks, tables, i, j, rank, at),
+        _ => None,
     }
 }

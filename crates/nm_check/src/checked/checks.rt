@@ -8,18 +8,14 @@ ghost use Rattle.nm_report.specs.declared.records.RunRecord as the_record;
 ghost use Rattle.nm_trace.specs.Traces.{IsTraceOf};
 ghost use Rattle.nm_check.specs.declared.verdicts.Verdict.TheVariants.{Holds};
 ghost use Rattle.nm_check.specs.declared.checked.checks.Checked.TheVariants.{Judged};
-ghost use Rattle.nm_check.specs.Checks.{IsChecked, IsInput, IsScriptChecked, IsTraceChecked};
-ghost use Rattle.nm_check.specs.Checks.{sizes};
+ghost use Rattle.nm_check.specs.Checks.{IsChecked, IsInput, sizes};
+ghost use Rattle.nm_check.specs.Found.{checked_of as checked_of_lem};
 
-use crate::checked::inputs::cut;
-use crate::{Verdict, judge};
-use nm_script::{Kind, ScriptFault};
-use nm_trace::{TraceFault, read_trace};
-use nm_types::{Memory, Script, Shape};
+use crate::Verdict;
+use crate::breaks::{Found, find};
+use nm_script::Kind;
+use nm_types::Memory;
 use std::alloc::Global;
-
-/// The most bytes of a script and a trace.
-const MAX_INPUT: usize = 67_108_864;
 
 /// What there is to say of a script and a trace.
 #[derive(Clone, Copy)]
@@ -34,58 +30,20 @@ pub enum Checked {
     Judged { verdict: Verdict },
 }
 
-/// Judges the trace by its script.
-fn check_trace(
-    alloc: Global,
-    script: &Script,
-    rest: &[u8],
-    cells: u8,
-    eager: u16,
-) -> Result<Checked, Memory>
-    requires some_cell { 1 ≤ cells }
-    requires few_cells { cells ≤ 64 }
-    requires few_eager { eager ≤ 4096 }
-    requires short { length rest.now ≤ 67108864 }
-    ensures checked { IfOk result
-        (IsTraceChecked (sizes cells eager script.now.ranks) script.now.lines rest.now) }
-    ensures holds { (run : the_record.RunRecord) →
-        IsTraceOf (sizes cells eager script.now.ranks) rest.now run →
-        IsRunIn (sizes cells eager script.now.ranks) script.now.lines run →
-        IfOk result (λ checked. checked ≡ Judged Holds) }
+/// What a check says of what was found.
+fn checked_of(found: &Found) -> Checked
+    ensures { result ≡ checked_of_lem found.now }
 {
-    let shape = Shape::new(script.ranks, cells, eager).unwrap();
-    match read_trace(alloc, rest, shape) {
-        Ok(run) => {
-            let verdict = judge(alloc, script, &run)?;
-            Ok(Checked::Judged { verdict })
-        }
-        Err(TraceFault::Bad { line }) => Ok(Checked::BadTrace { line }),
-        Err(TraceFault::Memory) => Err(Memory),
-    }
-}
-
-/// Reads the script, and judges the trace by it.
-fn check_script(
-    alloc: Global,
-    front: &[u8],
-    rest: &[u8],
-    cells: u8,
-    eager: u16,
-) -> Result<Checked, Memory>
-    requires some_cell { 1 ≤ cells }
-    requires few_cells { cells ≤ 64 }
-    requires few_eager { eager ≤ 4096 }
-    requires short { length rest.now ≤ 67108864 }
-    ensures checked { IfOk result (IsScriptChecked cells eager front.now rest.now) }
-    ensures holds { (ranks : ℕ) (lines : List script_line.Line) (run : the_record.RunRecord) →
-        IsTextOf front.now ranks lines → IsTraceOf (sizes cells eager ranks) rest.now run →
-        IsRunIn (sizes cells eager ranks) lines run →
-        IfOk result (λ checked. checked ≡ Judged Holds) }
-{
-    match nm_script::read(alloc, front) {
-        Ok(script) => check_trace(alloc, &script, rest, cells, eager),
-        Err(ScriptFault::Bad { line, kind }) => Ok(Checked::NoScript { line, kind }),
-        Err(ScriptFault::Memory) => Err(Memory),
+    match found {
+        Found::NoTrace => Checked::NoTrace,
+        Found::NoScript { line, kind } => Checked::NoScript {
+            line: *line,
+            kind: *kind,
+        },
+        Found::BadTrace { line, .. } => Checked::BadTrace { line: *line },
+        Found::Judged { judgement, .. } => Checked::Judged {
+            verdict: judgement.verdict,
+        },
     }
 }
 
@@ -105,11 +63,6 @@ pub fn check(alloc: Global, bytes: &[u8], cells: u8, eager: u16) -> Result<Check
         IsTraceOf (sizes cells eager ranks) rest run → IsRunIn (sizes cells eager ranks) lines run →
         IfOk result (λ checked. checked ≡ Judged Holds) }
 {
-    if bytes.len() > MAX_INPUT {
-        return Ok(Checked::NoTrace);
-    }
-    let Some((front, rest)) = cut(bytes) else {
-        return Ok(Checked::NoTrace);
-    };
-    check_script(alloc, front, rest, cells, eager)
+    let found = find(alloc, bytes, cells, eager)?;
+    Ok(checked_of(&found))
 }

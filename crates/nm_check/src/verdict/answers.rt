@@ -5,8 +5,8 @@ ghost use Rattle.nm_check.specs.Answers.{found_status as found_status_lem, statu
 
 use crate::Verdict;
 use crate::breaks::Found;
+use crate::verdict::quotes::Quotes;
 use crate::verdict::texts::found_text;
-use nm_types::Bytes;
 use std::alloc::{AllocError, Global};
 
 /// What there is to say.
@@ -16,8 +16,8 @@ pub enum Response {
     Usage,
     /// The source failed.
     Unread,
-    /// What was found of the bytes, and those of the line that is told, if they are told.
-    Told { found: Found, quote: Option<Bytes> },
+    /// What was found of the bytes, and the bytes of the lines that are told.
+    Told { found: Found, quotes: Quotes },
 }
 
 /// What is said of words that are not taken.
@@ -38,19 +38,19 @@ pub fn text(alloc: Global, answer: &Response) -> Result<Vec<u8>, AllocError>
     match answer {
         Response::Usage => line(alloc, USAGE),
         Response::Unread => line(alloc, "fault read\n"),
-        Response::Told { found, quote } => found_text(alloc, *found, quote),
+        Response::Told { found, quotes } => found_text(alloc, found, quotes),
     }
 }
 
 /// The status of what was found.
-fn found_status(found: Found) -> u8
-    ensures { result ≡ found_status_lem found }
+fn found_status(found: &Found) -> u8
+    ensures { result ≡ found_status_lem found.now }
 {
     match found {
         Found::NoTrace => 9,
         Found::NoScript { .. } => 3,
         Found::BadTrace { .. } => 9,
-        Found::Judged { verdict, .. } => match verdict {
+        Found::Judged { judgement, .. } => match judgement.verdict {
             Verdict::Holds => 0,
             _ => 8,
         },
@@ -64,6 +64,6 @@ pub fn status(answer: &Response) -> u8
     match answer {
         Response::Usage => 2,
         Response::Unread => 4,
-        Response::Told { found, .. } => found_status(*found),
+        Response::Told { found, .. } => found_status(found),
     }
 }

@@ -39,7 +39,7 @@ pub(crate) fn many_words(alloc: Global, called: Many, found: Many) -> Result<Str
     ensures { IfOk result (λ text. string_bytes text ≡ spec.many_words called found) }
 {
     format!(in alloc;
-        "; since the answer before there is to be {}, and there {}",
+        "since the answer before there is to be {}, and there {}",
         many_word(called),
         found_word(found)
     )
@@ -57,10 +57,10 @@ pub(crate) fn claim_words(
     match called {
         Some(message) => {
             let called = from_words(alloc, message.rank, message.n)?;
-            format!(in alloc; "; it is to be {}, and is {}", called, found)
+            format!(in alloc; "it is to be {}, and is {}", called, found)
         }
         None => format!(in alloc;
-            "; no message is to be claimed for that line, and it is {}",
+            "no message is to be claimed for that line, and it is {}",
             found
         ),
     }
@@ -71,7 +71,7 @@ pub(crate) fn named_words(alloc: Global, called: u32, found: u32) -> Result<Stri
     ensures { IfOk result (λ text. string_bytes text ≡ spec.named_words called found) }
 {
     format!(in alloc;
-        "; its claim is to name line {}, and names line {}",
+        "its claim is to name line {}, and names line {}",
         called, found
     )
 }
@@ -92,7 +92,7 @@ pub(crate) fn of_words(alloc: Global, called: Request, found: Request) -> Result
 {
     let called = request_words(alloc, called)?;
     let found = request_words(alloc, found)?;
-    format!(in alloc; "; it is to be of {}, and is of {}", called, found)
+    format!(in alloc; "it is to be of {}, and is of {}", called, found)
 }
 
 /// What a start is.
@@ -131,15 +131,15 @@ fn name_word(argument: Argument) -> &'static str
     ensures { result.now ≡ spec.name_word argument }
 {
     match argument {
-        Argument::Sort(_) => "; it",
-        Argument::To(_) => "; its destination",
-        Argument::From(_) => "; its source",
-        Argument::Tag(_) => "; its tag",
-        Argument::Context(_) => "; its context",
-        Argument::Length(_) => "; its length",
-        Argument::Capacity(_) => "; its capacity",
-        Argument::Message(_) => "; its message",
-        Argument::Line(_) => "; its command",
+        Argument::Sort(_) => "it",
+        Argument::To(_) => "its destination",
+        Argument::From(_) => "its source",
+        Argument::Tag(_) => "its tag",
+        Argument::Context(_) => "its context",
+        Argument::Length(_) => "its length",
+        Argument::Capacity(_) => "its capacity",
+        Argument::Message(_) => "its message",
+        Argument::Line(_) => "its command",
     }
 }
 

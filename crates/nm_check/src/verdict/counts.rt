@@ -30,9 +30,9 @@ fn found_words(
     match called {
         Some(called) => {
             let called = pair_text(alloc, called)?;
-            format!(in alloc; "; it is to be {}, and is {}", called, found)
+            format!(in alloc; "it is to be {}, and is {}", called, found)
         }
-        None => format!(in alloc; "; no more counts are called for, and it is {}", found),
+        None => format!(in alloc; "no more counts are called for, and it is {}", found),
     }
 }
 
@@ -43,7 +43,7 @@ fn missing_words(alloc: Global, called: Option<PairCount>) -> Result<String, All
     match called {
         Some(called) => {
             let called = pair_text(alloc, called)?;
-            format!(in alloc; "; {} is to stand before it", called)
+            format!(in alloc; "{} is to stand before it", called)
         }
         None => format!(in alloc; ""),
     }

@@ -17,13 +17,13 @@ use nm_check_rank::paired::told::Told;
 use std::alloc::{AllocError, Global};
 
 /// What is said before a stamp that was called for.
-const STAMP: &str = "; its stamp is to be greater than ";
+const STAMP: &str = "its stamp is to be greater than ";
 
 /// .. before a number.
-const NUMBER: &str = "; its number is to be ";
+const NUMBER: &str = "its number is to be ";
 
 /// .. and before a number of ranks.
-const RANK: &str = "; its rank is to be less than ";
+const RANK: &str = "its rank is to be less than ";
 
 /// The word of an answer.
 fn told_word(told: Told) -> &'static str
@@ -81,9 +81,9 @@ fn answer_words(alloc: Global, called: Option<Told>, found: Told) -> Result<Stri
     match called {
         Some(called) => {
             let called = told_words(alloc, called)?;
-            format!(in alloc; "; its answer is to be {}, and is {}", called, found)
+            format!(in alloc; "its answer is to be {}, and is {}", called, found)
         }
-        None => format!(in alloc; "; it can't go on, and its answer is {}", found),
+        None => format!(in alloc; "it can't go on, and its answer is {}", found),
     }
 }
 
@@ -92,8 +92,8 @@ fn next_words(alloc: Global, next: Option<u64>) -> Result<String, AllocError>
     ensures { IfOk result (λ text. string_bytes text ≡ next_words_lem next) }
 {
     match next {
-        Some(next) => format!(in alloc; "; the next one is in line {}", next),
-        None => format!(in alloc; "; no command of it is left"),
+        Some(next) => format!(in alloc; "the next one is in line {}", next),
+        None => format!(in alloc; "no command of it is left"),
     }
 }
 
@@ -110,39 +110,39 @@ fn objection_words(objection: Objection) -> &'static str
     ensures { result.now ≡ objection_words_lem objection }
 {
     match objection {
-        Objection::Again => "; the same happened to its message before",
-        Objection::NotCome => "; its message had not come",
-        Objection::NotTaken => "; its message was sent by asking, and no receive had taken it",
-        Objection::NotSent => "; its message was not sent before",
-        Objection::NotRecalled => "; its message was not recalled before",
-        Objection::Done => "; it is to be `done`, and is `late`",
-        Objection::Late => "; it is to be `late`, and is `done`",
-        Objection::NotClaimed => "; its message was not claimed before",
-        Objection::Taken => "; a receive had taken its message",
-        Objection::NoMessage => "; its handle has no live message",
-        Objection::Asking => "; a synchronous send asks, and this one does not",
+        Objection::Again => "the same happened to its message before",
+        Objection::NotCome => "its message had not come",
+        Objection::NotTaken => "its message was sent by rendezvous, and no receive had taken it",
+        Objection::NotSent => "its message was not sent before",
+        Objection::NotRecalled => "its message was not recalled before",
+        Objection::Done => "it is to be `done`, and is `late`",
+        Objection::Late => "it is to be `late`, and is `done`",
+        Objection::NotClaimed => "its message was not claimed before",
+        Objection::Taken => "a receive had taken its message",
+        Objection::NoMessage => "its handle has no live message",
+        Objection::Asking => "a synchronous send goes by rendezvous, and this one does not",
     }
 }
 
-/// Whether a send asks that is not to.
+/// Whether a send goes by rendezvous that is not to.
 fn asking_words(asks: bool) -> &'static str
-    ensures { result.now ≡ (if asks then codes " bytes does not ask, and this one does"
-        else codes " bytes asks, and this one does not") }
+    ensures { result.now ≡ (if asks then codes " bytes is eager, and this one is not"
+        else codes " bytes is not eager, and this one is") }
 {
     if asks {
-        " bytes does not ask, and this one does"
+        " bytes is eager, and this one is not"
     } else {
-        " bytes asks, and this one does not"
+        " bytes is not eager, and this one is"
     }
 }
 
-/// Whether a send of so many bytes asks by this limit.
+/// Whether a send of so many bytes goes by rendezvous by this limit.
 fn eager_words(alloc: Global, limit: u16, len: u64, asks: bool) -> Result<String, AllocError>
     ensures { IfOk result (λ text. string_bytes text ≡ eager_words_lem limit len asks) }
 {
     let words = asking_words(asks);
     format!(in alloc;
-        "; --eager does not fit: by {} a send of {}{}",
+        "--eager does not fit: by {} a send of {}{}",
         limit, len, words
     )
 }

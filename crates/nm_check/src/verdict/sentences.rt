@@ -4,7 +4,7 @@ ghost use Rattle.std.specs.Prelude.{◌≡◌};
 ghost use Rattle.nm_check.specs.Sentences.{own_words as own_words_lem};
 ghost use Rattle.nm_check.specs.Sentences.{carried_words as carried_words_lem};
 ghost use Rattle.nm_check.specs.Sentences.{rest_words as rest_words_lem};
-ghost use Rattle.nm_check.specs.Sentences.{kind_words as kind_words_lem};
+ghost use Rattle.nm_check.specs.Sentences.{kind_words as kind_words_lem, left_words as left_words_lem};
 ghost use Rattle.nm_check.specs.Sentences.{stop_words as stop_words_lem};
 
 use crate::breaks::Stop;
@@ -20,25 +20,25 @@ pub fn own_words(clause: OwnClause) -> &'static str
             "the stamps of a rank are at least 1 and rise, and this one is not greater than the one before"
         }
         OwnClause::Numbers => {
-            "the sends to each rank, the arrivals from each and the receives are numbered from 0, and this number is not the next, or the rank is none of the script's"
+            "the sends to each rank, the arrivals from each and the receives are numbered from 0, and this number is not the next, or the rank is none of the script's (MPI 3.1, 3.5)"
         }
         OwnClause::Claims => {
-            "a matched probe that shows a message has its one claim, of the first free message that it selects, and there is no other claim"
+            "a matched probe that shows a message has its one claim, of the first free message that it selects, and there is no other claim (MPI 3.1, 3.8.2)"
         }
         OwnClause::Starts => {
-            "a start that was taken has its one send or receive since the answer before, with the arguments of its line, asking exactly where it is synchronous or longer than --eager says, and there is no other"
+            "a start that was taken has its one send or receive since the answer before, with the arguments of its line, by rendezvous exactly where it is synchronous or longer than --eager says, and there is no other (MPI 3.1, 3.2, 3.4 and 3.7.2)"
         }
         OwnClause::Cancels => {
-            "a cancel has its one event since the answer before, and there is no other, and that of a receive is done exactly where the receive has no message"
+            "a cancel has its one event since the answer before, and there is no other, and that of a receive is done exactly where the receive has no message (MPI 3.1, 3.8.4)"
         }
         OwnClause::Wholes => {
-            "a message is whole once, after it came, and after a receive took it where it was sent by asking"
+            "a message is whole once, after it came, and after a receive took it where it was sent by rendezvous (MPI 3.1, 3.4 and 3.7.3)"
         }
         OwnClause::Ends => {
-            "a message leaves once, after its send, is withdrawn once, after it came, done exactly where it is free, and a recall is answered once"
+            "a message leaves once, after its send, is withdrawn once, after it came, done exactly where it is free, and a recall is answered once (MPI 3.1, 3.7.3 and 3.8.4)"
         }
         OwnClause::Answers => {
-            "the commands of a rank run in order, each with the answer that matching gives it on the events before"
+            "the commands of a rank run in order, each with the answer that matching gives it on the events before (MPI 3.1, 3.5, 3.7.3 and 3.8)"
         }
     }
 }
@@ -49,14 +49,14 @@ pub fn carried_words(clause: CarriedClause) -> &'static str
 {
     match clause {
         CarriedClause::Messages => {
-            "the messages that came are the first that were sent, in order, each with its envelope and a greater stamp"
+            "the messages that came are the first that were sent, in order, each with its envelope and a greater stamp (MPI 3.1, 3.5)"
         }
-        CarriedClause::Bodies => { "a receive shows the body of the send that it is paired with" }
+        CarriedClause::Bodies => { "a receive shows the body of the send that it is paired with (MPI 3.1, 3.2.4)" }
         CarriedClause::Outs => {
-            "a message that was sent by asking leaves only after a receive took it, by stamps"
+            "a message that was sent by rendezvous leaves only after a receive took it, by stamps (MPI 3.1, 3.4)"
         }
         CarriedClause::Withdrawals => {
-            "a withdrawal comes after its recall, and the answer to a recall after its withdrawal, with the same word"
+            "a withdrawal comes after its recall, and the answer to a recall after its withdrawal, with the same word (MPI 3.1, 3.8.4)"
         }
     }
 }
@@ -66,16 +66,32 @@ pub fn rest_words(clause: RestClause) -> &'static str
     ensures { result.now ≡ rest_words_lem clause }
 {
     match clause {
-        RestClause::Arrived => { "all that was sent has come" }
-        RestClause::Eager => { "each message that was sent without asking has left and is whole" }
+        RestClause::Arrived => { "all that was sent has come (MPI 3.1, 3.5)" }
+        RestClause::Eager => { "each message that was sent eagerly has left and is whole (MPI 3.1, 3.4)" }
         RestClause::Asked => {
-            "each message that was sent by asking and that a receive took has left and is whole, and one that is claimed alone has done neither"
+            "each message that was sent by rendezvous and that a receive took has left and is whole, and one that is claimed alone has done neither (MPI 3.1, 3.4 and 3.8.2)"
         }
-        RestClause::Recalls => { "each recall is answered" }
+        RestClause::Recalls => { "each recall is answered (MPI 3.1, 3.8.4)" }
         RestClause::Waits => {
-            "each rank is at its end, or waits at its next command, which can't go on"
+            "each rank is at its end, or waits at its next command, which can't go on (MPI 3.1, 3.7.3 and 3.8.1)"
         }
         RestClause::Counts => { "the counts of packets are those that the events call for" }
+    }
+}
+
+/// What is left of an event in the end.
+pub fn left_words(clause: RestClause) -> &'static str
+    ensures { result.now ≡ left_words_lem clause }
+{
+    match clause {
+        RestClause::Arrived => { "it never came" }
+        RestClause::Eager => { "it never left, or was never whole" }
+        RestClause::Asked => {
+            "a receive took it, and it never left or was never whole; or it is claimed alone, and did"
+        }
+        RestClause::Recalls => { "it was never answered" }
+        RestClause::Waits => { "" }
+        RestClause::Counts => { "" }
     }
 }
 

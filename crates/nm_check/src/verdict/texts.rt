@@ -1,36 +1,20 @@
-//! The sentence of what was found.
+//! What is said of what was found: the line and its bytes, what stands against it, and the rule.
 
-ghost use Rattle.std.specs.Prelude.{◌≡◌, ◌++◌, IfOk, OnOk, string_bytes};
+ghost use Rattle.std.specs.Prelude.{◌≡◌, ◌++◌, IfOk, OnOk, codes, string_bytes};
 ghost use Rattle.nm_check.specs.OwnFirsts as own;
-ghost use Rattle.nm_check.specs.VerdictTexts.{bad_text as bad_text_lem};
-ghost use Rattle.nm_check.specs.VerdictTexts.{behind_text as behind_text_lem};
-ghost use Rattle.nm_check.specs.VerdictTexts.{carried_text as carried_text_lem};
-ghost use Rattle.nm_check.specs.VerdictTexts.{cells_words as cells_words_lem};
-ghost use Rattle.nm_check.specs.VerdictTexts.{count_text as count_text_lem};
-ghost use Rattle.nm_check.specs.VerdictTexts.{count_words as count_words_lem, home_rule};
-ghost use Rattle.nm_check.specs.VerdictTexts.{command_words as command_words_lem};
-ghost use Rattle.nm_check.specs.VerdictTexts.{found_text as found_text_lem, head_words as head_words_lem};
-ghost use Rattle.nm_check.specs.VerdictTexts.{line_words as line_words_lem};
-ghost use Rattle.nm_check.specs.VerdictTexts.{last_text as last_text_lem, left_text as left_text_lem};
-ghost use Rattle.nm_check.specs.VerdictTexts.{event_words as event_words_lem};
-ghost use Rattle.nm_check.specs.VerdictTexts.{other_words as other_words_lem};
-ghost use Rattle.nm_check.specs.VerdictTexts.{own_text as own_text_lem, rest_text as rest_text_lem};
-ghost use Rattle.nm_check.specs.VerdictTexts.{pair_words as pair_words_lem};
-ghost use Rattle.nm_check.specs.VerdictTexts.{place_words as place_words_lem, quote_words};
-ghost use Rattle.nm_check.specs.VerdictTexts.{rule_words as rule_words_lem};
-ghost use Rattle.nm_check.specs.VerdictTexts.{standing_words as standing_words_lem};
-ghost use Rattle.nm_check.specs.VerdictTexts.{tail_text as tail_text_lem};
-ghost use Rattle.nm_check.specs.VerdictTexts.{verdict_text as verdict_text_lem};
+ghost use Rattle.nm_check.specs.Sentences.{left_words as left_words_lem};
+ghost use Rattle.nm_check.specs.VerdictTexts as spec;
+ghost use Rattle.nm_check.specs.VerdictTexts.{done_rule, home_rule, quote_words};
 
 use crate::breaks::cells::CellCount;
-use crate::breaks::counts::Miscount;
 use crate::breaks::incidents::Incident;
-use crate::breaks::{Evidence, Found, Place, Stop};
+use crate::breaks::{Evidence, Found, Judgement, Place, Stop};
 use crate::verdict::counts::miscount_words;
 use crate::verdict::dues::due_words;
 use crate::verdict::incidents::where_words;
-use crate::verdict::quotes::place_line;
-use crate::verdict::sentences::{carried_words, kind_words, own_words, rest_words, stop_words};
+use crate::verdict::quotes::{Quotes, place_line};
+use crate::verdict::sentences::{carried_words, kind_words, left_words};
+use crate::verdict::sentences::{own_words, rest_words, stop_words};
 use crate::{CarriedClause, OwnClause, RestClause, Verdict};
 use nm_check_rank::paired::breaches::Breach;
 use nm_check_rank::paired::dues::Due;
@@ -39,15 +23,15 @@ use std::alloc::{AllocError, Global};
 
 /// The number of a line of the whole input, and of the line behind `---`.
 fn line_words(alloc: Global, before: u32, line: u32) -> Result<String, AllocError>
-    ensures { IfOk result (λ text. string_bytes text ≡ line_words_lem before line) }
+    ensures { IfOk result (λ text. string_bytes text ≡ spec.line_words before line) }
 {
     let whole = u64::from(before) + 1 + u64::from(line);
-    format!(in alloc; "line {}, which is line {} behind ---", whole, line)
+    format!(in alloc; "line {} (line {} behind ---)", whole, line)
 }
 
 /// The command of an event, if it names one.
 fn command_words(alloc: Global, command: Option<u32>) -> Result<String, AllocError>
-    ensures { IfOk result (λ text. string_bytes text ≡ command_words_lem command) }
+    ensures { IfOk result (λ text. string_bytes text ≡ spec.command_words command) }
 {
     match command {
         Some(line) => format!(in alloc; ", of the command in line {}", line),
@@ -57,7 +41,7 @@ fn command_words(alloc: Global, command: Option<u32>) -> Result<String, AllocErr
 
 /// The line that a place tells, if it tells one.
 fn place_words(alloc: Global, before: u32, line: Option<u32>) -> Result<String, AllocError>
-    ensures { IfOk result (λ text. string_bytes text ≡ place_words_lem before line) }
+    ensures { IfOk result (λ text. string_bytes text ≡ spec.place_words before line) }
 {
     match line {
         Some(line) => line_words(alloc, before, line),
@@ -71,19 +55,11 @@ fn event_words(
     command: Option<u32>,
     incident: Option<Incident>,
 ) -> Result<String, AllocError>
-    ensures { IfOk result (λ text. string_bytes text ≡ event_words_lem command incident) }
+    ensures { IfOk result (λ text. string_bytes text ≡ spec.event_words command incident) }
 {
     let happened = where_words(alloc, incident)?;
     let of = command_words(alloc, command)?;
-    format!(in alloc; "{}{},", happened, of)
-}
-
-/// A rank keeps a rule of its own run at each event, and breaks it in the end.
-fn behind_text(alloc: Global, clause: OwnClause, rank: u8) -> Result<String, AllocError>
-    ensures { IfOk result (λ text. string_bytes text ≡ behind_text_lem clause rank) }
-{
-    let words = own_words(clause);
-    format!(in alloc; "in the end of rank {} a rule breaks: {}\n", rank, words)
+    format!(in alloc; "{}{}", happened, of)
 }
 
 /// The rule that breaks first, of a verdict on a rank's own run.
@@ -106,83 +82,109 @@ fn due_of(first: Option<Breach>) -> Option<Due>
     }
 }
 
-/// Where a rank breaks a rule of its own run first.
-fn own_text(
-    alloc: Global,
-    clause: OwnClause,
-    rank: u8,
-    place: Place,
-    evidence: Evidence,
-) -> Result<String, AllocError>
-    ensures { IfOk result (λ text.
-        string_bytes text ≡ own_text_lem clause rank place evidence) }
+/// What stands against the event at which a rank breaks a rule of its own run first.
+fn own_against(alloc: Global, place: Place, why: Evidence) -> Result<String, AllocError>
+    ensures { IfOk result (λ text. string_bytes text ≡ spec.own_against place why) }
 {
-    let rule = rule_of(clause, evidence.first);
-    let words = own_words(rule);
     match place {
         Place::Event { command, .. } => {
-            let at = event_words(alloc, command, evidence.incident)?;
-            let called = due_words(alloc, due_of(evidence.first))?;
-            format!(in alloc;
-                "{} is the first at which rank {} breaks a rule: {}{}\n",
-                at, rank, words, called
-            )
+            let event = event_words(alloc, command, why.incident)?;
+            let due = due_words(alloc, due_of(why.first))?;
+            format!(in alloc; "{}: {}", event, due)
         }
-        _ => behind_text(alloc, rule, rank),
+        _ => format!(in alloc; ""),
+    }
+}
+
+/// The rule that it breaks.
+fn own_text(alloc: Global, rule: OwnClause, rank: u8, place: Place) -> Result<String, AllocError>
+    ensures { IfOk result (λ text. string_bytes text ≡ spec.own_text rule rank place) }
+{
+    let words = own_words(rule);
+    match place {
+        Place::Event { .. } => format!(in alloc;
+            "\nIt is the first event at which rank {} breaks a rule: {}\n",
+            rank, words
+        ),
+        _ => format!(in alloc; "in the end of rank {} a rule breaks: {}\n", rank, words),
+    }
+}
+
+/// The line of the other rank that an event is held against.
+fn other_words(alloc: Global, before: u32, other: Option<u32>) -> Result<String, AllocError>
+    ensures { IfOk result (λ text. string_bytes text ≡ spec.other_words before other) }
+{
+    match other {
+        Some(line) => {
+            let at = line_words(alloc, before, line)?;
+            format!(in alloc; "it is held against {}", at)
+        }
+        None => format!(in alloc; "the other rank has no event that it is held against"),
+    }
+}
+
+/// What stands against the event at which the messages from one rank to another break a rule first.
+fn carried_against(
+    alloc: Global,
+    before: u32,
+    place: Place,
+    why: Evidence,
+) -> Result<String, AllocError>
+    ensures { IfOk result (λ text. string_bytes text ≡ spec.carried_against before place why) }
+{
+    match place {
+        Place::Event { command, .. } => {
+            let event = event_words(alloc, command, why.incident)?;
+            let other = other_words(alloc, before, why.other)?;
+            format!(in alloc; "{}: {}", event, other)
+        }
+        _ => format!(in alloc; ""),
     }
 }
 
 /// A sender and a receiver.
 fn pair_words(alloc: Global, from: u8, to: u8) -> Result<String, AllocError>
-    ensures { IfOk result (λ text. string_bytes text ≡ pair_words_lem from to) }
+    ensures { IfOk result (λ text. string_bytes text ≡ spec.pair_words from to) }
 {
     format!(in alloc; "rank {} to rank {}", from, to)
 }
 
-/// The line of the other rank.
-fn other_words(alloc: Global, before: u32, other: Option<u32>) -> Result<String, AllocError>
-    ensures { IfOk result (λ text. string_bytes text ≡ other_words_lem before other) }
+/// Where their messages break a rule.
+fn from_where(place: Place) -> &'static str
+    ensures { result.now ≡ spec.from_where place }
 {
-    match other {
-        Some(line) => {
-            let at = line_words(alloc, before, line)?;
-            format!(in alloc; "; of the other rank it is held against {}", at)
-        }
-        None => format!(in alloc; ""),
+    match place {
+        Place::Event { .. } => "\nIt is the first event at which the messages from ",
+        Place::Nowhere => "the messages from ",
+        Place::Behind { .. } => "the messages from ",
+        Place::Standing { .. } => "the messages from ",
+        Place::Count { .. } => "the messages from ",
+        Place::LastLine { .. } => "the messages from ",
     }
 }
 
-/// Where the messages from one rank to another break a rule first.
+/// The rule that the messages from one rank to another break.
 fn carried_text(
     alloc: Global,
-    before: u32,
     clause: CarriedClause,
     from: u8,
     to: u8,
     place: Place,
-    evidence: Evidence,
 ) -> Result<String, AllocError>
-    ensures { IfOk result (λ text.
-        string_bytes text ≡ carried_text_lem before clause from to place evidence) }
+    ensures { IfOk result (λ text. string_bytes text ≡ spec.carried_text clause from to place) }
 {
-    let words = carried_words(clause);
     let ranks = pair_words(alloc, from, to)?;
-    match place {
-        Place::Event { command, .. } => {
-            let at = event_words(alloc, command, evidence.incident)?;
-            let against = other_words(alloc, before, evidence.other)?;
-            format!(in alloc;
-                "{} is the first at which the messages from {} break a rule: {}{}\n",
-                at, ranks, words, against
-            )
-        }
-        _ => format!(in alloc; "from {} a rule breaks: {}\n", ranks, words),
-    }
+    format!(in alloc;
+        "{}{} break a rule: {}\n",
+        from_where(place),
+        ranks,
+        carried_words(clause)
+    )
 }
 
 /// What a rank is said to do in the end.
 fn standing_words(alloc: Global, waits: Option<u32>) -> Result<String, AllocError>
-    ensures { IfOk result (λ text. string_bytes text ≡ standing_words_lem waits) }
+    ensures { IfOk result (λ text. string_bytes text ≡ spec.standing_words waits) }
 {
     match waits {
         Some(line) => format!(in alloc; "said to wait at the command in line {}", line),
@@ -190,90 +192,93 @@ fn standing_words(alloc: Global, waits: Option<u32>) -> Result<String, AllocErro
     }
 }
 
-/// A rule of all ranks at rest.
-fn rule_words(alloc: Global, clause: RestClause) -> Result<String, AllocError>
-    ensures { IfOk result (λ text. string_bytes text ≡ rule_words_lem clause) }
-{
-    format!(in alloc; "a rule of all ranks in the end: {}", rest_words(clause))
-}
-
-/// The event at which the ranks at rest break a rule first.
-fn left_text(
+/// What stands against the event at which the ranks at rest break a rule first.
+fn left_against(
     alloc: Global,
     clause: RestClause,
     command: Option<u32>,
     incident: Option<Incident>,
 ) -> Result<String, AllocError>
-    ensures { IfOk result (λ text.
-        string_bytes text ≡ left_text_lem clause command incident) }
+    ensures { IfOk result (λ text. string_bytes text ≡ spec.event_words command incident
+        ++ (codes ": " ++ left_words_lem clause)) }
 {
     let event = event_words(alloc, command, incident)?;
-    let rule = rule_words(alloc, clause)?;
-    format!(in alloc; "{} is the first that breaks {}\n", event, rule)
+    format!(in alloc; "{}: {}", event, left_words(clause))
 }
 
-/// The count of packets at which they do.
-fn count_text(
-    alloc: Global,
-    clause: RestClause,
-    counts: Option<Miscount>,
-) -> Result<String, AllocError>
-    ensures { IfOk result (λ text. string_bytes text ≡ count_text_lem clause counts) }
-{
-    let rule = rule_words(alloc, clause)?;
-    let told = miscount_words(alloc, counts)?;
-    format!(in alloc; ", breaks {}{}\n", rule, told)
-}
-
-/// Where the ranks at rest break a rule first.
-fn rest_text(
+/// What stands against the place at which they do.
+fn rest_against(
     alloc: Global,
     clause: RestClause,
     place: Place,
-    evidence: Evidence,
+    why: Evidence,
 ) -> Result<String, AllocError>
-    ensures { IfOk result (λ text. string_bytes text ≡ rest_text_lem clause place evidence) }
+    ensures { IfOk result (λ text. string_bytes text ≡ spec.rest_against clause place why) }
 {
-    let words = rest_words(clause);
     match place {
-        Place::Event { command, .. } => left_text(alloc, clause, command, evidence.incident),
-        Place::Count { .. } => count_text(alloc, clause, evidence.counts),
+        Place::Event { command, .. } => left_against(alloc, clause, command, why.incident),
+        Place::Count { .. } => {
+            let counts = miscount_words(alloc, why.counts)?;
+            format!(in alloc; ": {}", counts)
+        }
         Place::Standing { rank, waits } => {
             let says = standing_words(alloc, waits)?;
-            format!(in alloc;
-                "rank {}, {}, is the first that breaks a rule of all ranks in the end: {}\n",
-                rank, says, words
-            )
+            format!(in alloc; "rank {} is {}", rank, says)
         }
-        _ => format!(in alloc; "the ranks in the end break a rule: {}\n", words),
+        _ => format!(in alloc; ""),
     }
+}
+
+/// What breaks a rule of all ranks at a place.
+fn thing_words(place: Place) -> &'static str
+    ensures { result.now ≡ spec.thing_words place }
+{
+    match place {
+        Place::Event { .. } => "\nIt is the first event that",
+        Place::Count { .. } => "\nIt is the first count that",
+        Place::Standing { .. } => "\nIt is the first rank that",
+        Place::Nowhere => "the end",
+        Place::Behind { .. } => "the end",
+        Place::LastLine { .. } => "the end",
+    }
+}
+
+/// The rule that the ranks at rest break.
+fn rest_text(alloc: Global, clause: RestClause, place: Place) -> Result<String, AllocError>
+    ensures { IfOk result (λ text. string_bytes text ≡ spec.rest_text clause place) }
+{
+    format!(in alloc;
+        "{} breaks a rule of all ranks in the end: {}\n",
+        thing_words(place),
+        rest_words(clause)
+    )
 }
 
 /// The rule of the cells.
 const HOME: &str = "as many cells as all ranks have by --cells are there, and all of them are home";
 
 /// The rule of the end.
-const DONE: &str = "it is `done` exactly where every rank is at its end";
+const DONE: &str = "it is `done` exactly where every rank is at its end, and else `stuck`";
 
-/// One of the last two lines breaks its rule, with what is told of it besides.
-fn last_text(alloc: Global, rule: &str, place: Place, more: &str) -> Result<String, AllocError>
-    ensures { IfOk result (λ text. string_bytes text ≡ last_text_lem rule.now place more.now) }
+/// One of the last two lines breaks its rule.
+fn last_text(alloc: Global, rule: &str, place: Place) -> Result<String, AllocError>
+    ensures { IfOk result (λ text. string_bytes text ≡ spec.last_text rule.now place) }
 {
     match place {
-        Place::LastLine { .. } => format!(in alloc; ", breaks a rule: {}{}\n", rule, more),
-        _ => format!(in alloc; "the end breaks a rule: {}{}\n", rule, more),
+        Place::LastLine { .. } => format!(in alloc; "\nIt breaks a rule: {}\n", rule),
+        _ => format!(in alloc; "the end breaks a rule: {}\n", rule),
     }
 }
 
 /// How many cells there are to be, and are; or how many of them are home.
 fn count_words(alloc: Global, cells: CellCount) -> Result<String, AllocError>
-    ensures { IfOk result (λ text. string_bytes text ≡ count_words_lem cells) }
+    ensures { IfOk result (λ text. string_bytes text ≡ spec.count_words cells) }
 {
     if cells.total == cells.called {
-        format!(in alloc; "; {} of {} are home", cells.home, cells.total)
+        format!(in alloc; ": {} of {} are home", cells.home, cells.total)
     } else {
         format!(in alloc;
-            "; --cells does not fit: it calls for {} cells, and there are {}",
+            ": --cells does not fit: it calls for {} cells, and there are {}",
             cells.called, cells.total
         )
     }
@@ -281,7 +286,7 @@ fn count_words(alloc: Global, cells: CellCount) -> Result<String, AllocError>
 
 /// .. if it is told.
 fn cells_words(alloc: Global, cells: Option<CellCount>) -> Result<String, AllocError>
-    ensures { IfOk result (λ text. string_bytes text ≡ cells_words_lem cells) }
+    ensures { IfOk result (λ text. string_bytes text ≡ spec.cells_words cells) }
 {
     match cells {
         Some(cells) => count_words(alloc, cells),
@@ -289,76 +294,95 @@ fn cells_words(alloc: Global, cells: Option<CellCount>) -> Result<String, AllocE
     }
 }
 
-/// The cells break their rule.
-fn home_text(alloc: Global, place: Place, cells: Option<CellCount>) -> Result<String, AllocError>
-    ensures { IfOk result (λ text.
-        string_bytes text ≡ last_text_lem home_rule place (cells_words_lem cells)) }
+/// What stands against the place of a verdict.
+fn against_text(alloc: Global, before: u32, judgement: Judgement) -> Result<String, AllocError>
+    ensures { IfOk result (λ text. string_bytes text ≡ spec.against_text before judgement.verdict
+        judgement.place judgement.why) }
 {
-    let more = cells_words(alloc, cells)?;
-    last_text(alloc, HOME, place, &more)
+    let Judgement {
+        verdict,
+        place,
+        why,
+    } = judgement;
+    match verdict {
+        Verdict::Holds => format!(in alloc; ""),
+        Verdict::Own { .. } => own_against(alloc, place, why),
+        Verdict::Carried { .. } => carried_against(alloc, before, place, why),
+        Verdict::Rest { clause } => rest_against(alloc, clause, place, why),
+        Verdict::Home => cells_words(alloc, why.cells),
+        Verdict::Done => format!(in alloc; ": it is to be the other word"),
+    }
 }
 
-/// What is said of a verdict and its place behind the line that the place tells.
-fn verdict_text(
-    alloc: Global,
-    before: u32,
-    verdict: Verdict,
-    place: Place,
-    evidence: Evidence,
-) -> Result<String, AllocError>
-    ensures { IfOk result (λ text.
-        string_bytes text ≡ verdict_text_lem before verdict place evidence) }
+/// The rule of a verdict.
+fn rule_text(alloc: Global, judgement: Judgement) -> Result<String, AllocError>
+    ensures { IfOk result (λ text. string_bytes text ≡ spec.rule_text judgement.verdict
+        judgement.place judgement.why) }
 {
+    let Judgement {
+        verdict,
+        place,
+        why,
+    } = judgement;
     match verdict {
         Verdict::Holds => format!(in alloc; "holds\n"),
-        Verdict::Own { clause, rank } => own_text(alloc, clause, rank, place, evidence),
-        Verdict::Carried { clause, from, to } => {
-            carried_text(alloc, before, clause, from, to, place, evidence)
-        }
-        Verdict::Rest { clause } => rest_text(alloc, clause, place, evidence),
-        Verdict::Home => home_text(alloc, place, evidence.cells),
-        Verdict::Done => last_text(alloc, DONE, place, ""),
+        Verdict::Own { clause, rank } => own_text(alloc, rule_of(clause, why.first), rank, place),
+        Verdict::Carried { clause, from, to } => carried_text(alloc, clause, from, to, place),
+        Verdict::Rest { clause } => rest_text(alloc, clause, place),
+        Verdict::Home => last_text(alloc, HOME, place),
+        Verdict::Done => last_text(alloc, DONE, place),
     }
 }
 
 /// The sentence of a trace that is none, behind so many lines.
 fn bad_text(alloc: Global, before: u32, line: u32, stop: Stop) -> Result<String, AllocError>
-    ensures { IfOk result (λ text. string_bytes text ≡ bad_text_lem before line stop) }
+    ensures { IfOk result (λ text. string_bytes text ≡ spec.bad_text before line stop) }
 {
     let at = line_words(alloc, before, line)?;
     format!(in alloc; "{}: {}\n", at, stop_words(stop))
 }
 
 /// The line of a trace that is told, if one is.
-fn head_words(alloc: Global, found: Found) -> Result<String, AllocError>
-    ensures { IfOk result (λ text. string_bytes text ≡ head_words_lem found) }
+fn head_words(alloc: Global, found: &Found) -> Result<String, AllocError>
+    ensures { IfOk result (λ text. string_bytes text ≡ spec.head_words found.now) }
 {
     match found {
-        Found::Judged { before, place, .. } => place_words(alloc, before, place_line(place)),
+        Found::Judged {
+            before, judgement, ..
+        } => place_words(alloc, *before, place_line(judgement.place)),
         Found::NoTrace => format!(in alloc; ""),
         Found::NoScript { .. } => format!(in alloc; ""),
         Found::BadTrace { .. } => format!(in alloc; ""),
     }
 }
 
-/// .. and what is said behind it.
-fn tail_text(alloc: Global, found: Found) -> Result<String, AllocError>
-    ensures { IfOk result (λ text. string_bytes text ≡ tail_text_lem found) }
+/// .. what is said behind its bytes.
+fn found_against(alloc: Global, found: &Found) -> Result<String, AllocError>
+    ensures { IfOk result (λ text. string_bytes text ≡ spec.found_against found.now) }
+{
+    match found {
+        Found::Judged {
+            before, judgement, ..
+        } => against_text(alloc, *before, *judgement),
+        Found::NoTrace => format!(in alloc; ""),
+        Found::NoScript { .. } => format!(in alloc; ""),
+        Found::BadTrace { .. } => format!(in alloc; ""),
+    }
+}
+
+/// .. and at the end.
+fn tail_text(alloc: Global, found: &Found) -> Result<String, AllocError>
+    ensures { IfOk result (λ text. string_bytes text ≡ spec.tail_text found.now) }
 {
     match found {
         Found::NoTrace => format!(in alloc;
             "there is no trace: the input has no line ---, or more than 67,108,864 bytes\n"
         ),
         Found::NoScript { line, kind } => {
-            format!(in alloc; "line {} is no script: {}\n", line, kind_words(kind))
+            format!(in alloc; "line {} is no script: {}\n", *line, kind_words(*kind))
         }
-        Found::BadTrace { before, line, stop } => bad_text(alloc, before, line, stop),
-        Found::Judged {
-            before,
-            verdict,
-            place,
-            evidence,
-        } => verdict_text(alloc, before, verdict, place, evidence),
+        Found::BadTrace { before, line, stop } => bad_text(alloc, *before, *line, *stop),
+        Found::Judged { judgement, .. } => rule_text(alloc, *judgement),
     }
 }
 
@@ -377,14 +401,18 @@ fn push_quote(text: &mut Vec<u8>, quote: &Option<Bytes>) -> Result<(), AllocErro
     }
 }
 
-/// What is said of what was found, with the bytes of the line that is told.
-pub fn found_text(alloc: Global, found: Found, quote: &Option<Bytes>) -> Result<Vec<u8>, AllocError>
-    ensures { IfOk result (λ bytes. bytes.items ≡ found_text_lem found quote.now) }
+/// What is said of what was found, with the bytes of the line that is told and of the one that it is
+/// held against.
+pub fn found_text(alloc: Global, found: &Found, quotes: &Quotes) -> Result<Vec<u8>, AllocError>
+    ensures { IfOk result (λ bytes. bytes.items ≡ spec.found_text found.now quotes.now) }
 {
     let head = head_words(alloc, found)?;
+    let against = found_against(alloc, found)?;
     let tail = tail_text(alloc, found)?;
     let mut text = head.into_bytes();
-    push_quote(&mut text, quote)?;
+    push_quote(&mut text, &quotes.line)?;
+    text.extend_from_slice(against.as_bytes())?;
+    push_quote(&mut text, &quotes.other)?;
     text.extend_from_slice(tail.as_bytes())?;
     Ok(text)
 }

@@ -63,8 +63,8 @@ fn find_answer<S: Source>(
     match read_up_to(alloc, source, MAX_READ) {
         Ok(bytes) => {
             let found = find(alloc, &bytes, line.cells, line.eager)?;
-            let quote = quoted(alloc, &bytes, found)?;
-            Ok(Response::Told { found, quote })
+            let quotes = quoted(alloc, &bytes, &found)?;
+            Ok(Response::Told { found, quotes })
         }
         Err(Unread::Failed) => Ok(Response::Unread),
         Err(Unread::Memory) => Err(Memory),
@@ -85,7 +85,7 @@ fn deliver<K: Sink>(sink: &mut K, due: &[u8], answer: &Response) -> u8
 }
 
 /// Does all that the program does: reads a script and a trace of the source, with a line `---`
-/// between, and writes one line to the sink: that the trace holds, or where and how it does not.
+/// between, and writes to the sink that the trace holds, or where and how it does not.
 ///
 /// The words are those of `nemesis check`, with that first word. The status is 0 where the trace
 /// holds, 2 where the words are not taken, 3 where there is no script, 4 where a read failed, 5

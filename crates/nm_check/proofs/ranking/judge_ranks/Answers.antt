@@ -6,6 +6,7 @@ use Rattle.nm_report.specs.Ends.{end_of_account, ends_of}
 use Rattle.nm_check_rank.specs.Tabled.{AreRankTables}
 use Rattle.nm_check_rank.specs.declared.paired.tables.Tables.{Tables}
 use Rattle.nm_check_rank.specs.FirstBroken.{IsFirstBroken}
+use Rattle.nm_check_rank.specs.OwnBreaks.{IsBreach}
 use Rattle.nm_check_rank.specs.OwnClauses.{KeepsOwn, own_order}
 use Rattle.nm_check.specs.Verdicts.{RunsItsOwn}
 use Rattle.nm_check_ranks.proofs.ItemLemmas.{EachItem, no_item, one_more}
@@ -16,18 +17,25 @@ use Rattle.nm_check.proofs.ranking.judge_ranks.Goals as goal
 
 pub returns-in-Breaks : goal.returns-in-Breaks
 returns-in-Breaks c =
+    let judged = rw c.as_slice-events.ensures at (rw c.in-Breaks.is at c.in_ok-own.ensures) in
     let broken : IsFirstBroken
     (KeepsOwn c.args.shape (commands_of c.loop-i.i c.args.lines.now) c.index-ranks-i.result.at
-    c.index-ranks-i.result.history.events) own_order c.in-Breaks.clause =
-    (rw c.as_slice-events.ensures at (rw c.in-Breaks.is at c.in_ok-own.ensures)).0 in
-    record {
-      earlier = below (RunsItsOwn c.args.shape c.args.lines.now) (ends_of c.args.ranks.now) c.loop-i.i
-          c.loop-i.invariant.1;
-      first = of_end c.args.ranks.now c.loop-i.i c.index-ranks-i.result
-          (λ rank. IsFirstBroken (KeepsOwn c.args.shape (commands_of c.loop-i.i c.args.lines.now) rank.at rank.events)
-          own_order c.in-Breaks.clause)
-          c.loop-i-test.true c.index-ranks-i.is broken;
-    }
+    c.index-ranks-i.result.history.events) own_order c.in-Breaks.clause = judged.0 in
+    let first : IsBreach c.args.shape (commands_of c.loop-i.i c.args.lines.now) c.index-ranks-i.result.at
+    c.index-ranks-i.result.history.events c.in-Breaks.first = judged.1 in (
+      record {
+        earlier = below (RunsItsOwn c.args.shape c.args.lines.now) (ends_of c.args.ranks.now) c.loop-i.i
+            c.loop-i.invariant.1;
+        first = of_end c.args.ranks.now c.loop-i.i c.index-ranks-i.result
+            (λ rank. IsFirstBroken (KeepsOwn c.args.shape (commands_of c.loop-i.i c.args.lines.now) rank.at rank.events)
+            own_order c.in-Breaks.clause)
+            c.loop-i-test.true c.index-ranks-i.is broken;
+      },
+      of_end c.args.ranks.now c.loop-i.i c.index-ranks-i.result
+          (λ rank. IsBreach c.args.shape (commands_of c.loop-i.i c.args.lines.now) rank.at rank.events
+          c.in-Breaks.first)
+          c.loop-i-test.true c.index-ranks-i.is first,
+    )
 
 pub loop-i-init : goal.loop-i-init
 loop-i-init c = (

@@ -1,16 +1,12 @@
--- What was judged has a trace.
-use Rattle.std.proofs.Common.{subst, sym}
-use Rattle.std.specs.Prelude.{IfOk}
-use Rattle.nm_chart.specs.Findings.{IsFindingOf, IsFoundIn}
-use Rattle.nm_chart.proofs.FindingLemmas.{judged_trace}
+-- What was judged is drawn with the flag at its place.
+use Rattle.std.proofs.Common.{◌∙◌, Option, ap}
+use Rattle.nm_picture.specs.declared.flags.Flag.{Flag}
+use Rattle.nm_chart.specs.Findings.{flag_of}
+use Rattle.nm_chart.specs.declared.check.findings.Finding.TheVariants.{Drawn}
 use Rattle.nm_chart.proofs.check.checks.finding_of.Goals as goal
-
-pub drawn-requires : goal.drawn-requires
-drawn-requires c =
-    judged_trace c.args.bytes.now _ _ c.in-Judged.place _
-    (subst (IsFoundIn c.args.bytes.now) c.in-Judged.is c.requires)
 
 pub returns-in-Judged-clause-finding : goal.returns-in-Judged-clause-finding
 returns-in-Judged-clause-finding c =
-    subst (λ found. IfOk c.drawn.result (IsFindingOf c.args.bytes.now found)) (sym c.in-Judged.is)
-    c.drawn.ensures.finding
+    let placed = c.flag_of-flag.ensures ∙ ap (λ ranks. flag_of ranks c.in-Judged.judgement.place) c.as_slice.ensures in
+    rw c.in-Judged.is
+    (ap (λ (flag : Option Flag). Drawn c.in-Judged.run' c.in-Judged.judgement.verdict flag) placed)

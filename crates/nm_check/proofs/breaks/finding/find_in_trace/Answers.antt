@@ -2,41 +2,31 @@ use Rattle.std.proofs.Common.{◌≡◌, ◌<◌, ◌^◌, refl, subst, arith, r
 use Rattle.nm_types.specs.Sizes.{Sizes}
 use Rattle.nm_trace.specs.Traces.{IsTraceOf}
 use Rattle.nm_check.specs.Checks.{sizes}
+use Rattle.nm_check.specs.Judgements.{IsJudgement}
 use Rattle.nm_check.specs.Stops.{lines_in}
-use Rattle.nm_check.specs.Places.{IsTracePlace}
 use Rattle.nm_check.proofs.EventLemmas.{few_lines}
 use Rattle.nm_check.proofs.HeldLemmas.{all_stand}
 use Rattle.nm_check.proofs.breaks.finding.find_in_trace.Goals as goal
 
-pub trace_place-requires-clause-short : goal.trace_place-requires-clause-short
-trace_place-requires-clause-short c =
+pub judged-requires-clause-short : goal.judged-requires-clause-short
+judged-requires-clause-short c =
     let few = few_lines _ c.args.rest.now _ c.in-Ok.ensures.taken in
     let short = c.requires.short in
     omega (arith, few, short)
 
-pub evidence_of-requires-clause-short : goal.evidence_of-requires-clause-short
-evidence_of-requires-clause-short c =
-    let few = few_lines _ c.args.rest.now _ c.in-Ok.ensures.taken in
-    let short = c.requires.short in
-    omega (arith, few, short)
-
-pub returns-in_ok-evidence-in-Ok-clause-found : goal.returns-in_ok-evidence-in-Ok-clause-found
-returns-in_ok-evidence-in-Ok-clause-found c =
+pub returns-in_ok-judgement-in-Ok-clause-found : goal.returns-in_ok-judgement-in-Ok-clause-found
+returns-in_ok-judgement-in-Ok-clause-found c =
     let sized : c.unwrap-shape.result ≡ sizes c.args.cells c.args.eager c.args.script.now.ranks = search rules in
     let low : c.args.script.now.ranks < 256 = search rules in
     let few : c.args.script.now.ranks < 2 ^ 64 = omega (arith, low) in
     let trace : IsTraceOf (sizes c.args.cells c.args.eager c.args.script.now.ranks) c.args.rest.now c.in-Ok.run' =
     subst (λ (s : Sizes). IsTraceOf s c.args.rest.now c.in-Ok.run') sized c.in-Ok.ensures.taken in
-    let placed : IsTracePlace (lines_in c.args.rest.now) c.args.script.now.lines c.in-Ok.run'
-    c.in_ok-verdict-in-Ok.verdict c.in_ok-place-in-Ok.place =
-    rw c.lines_in-count.ensures at c.in_ok-place-in-Ok.ensures in (
+    let judged : IsJudgement (lines_in c.args.rest.now) c.args.script.now.lines c.in-Ok.run'
+    c.in_ok-judgement-in-Ok.judgement = rw c.lines_in.ensures at c.in_ok-judgement-in-Ok.ensures.first in (
       refl,
-      c.in-Ok.run',
       trace,
-      c.in_ok-verdict-in-Ok.ensures.first,
-      placed,
+      judged,
       all_stand (sizes c.args.cells c.args.eager c.args.script.now.ranks) c.args.rest.now c.in-Ok.run' trace few
-          c.args.script.now.lines c.in_ok-verdict-in-Ok.verdict c.in_ok-place-in-Ok.place
-          c.in_ok-evidence-in-Ok.evidence placed c.in_ok-evidence-in-Ok.ensures,
-      c.in_ok-evidence-in-Ok.ensures,
+          c.args.script.now.lines c.in_ok-judgement-in-Ok.judgement.verdict c.in_ok-judgement-in-Ok.judgement.place
+          c.in_ok-judgement-in-Ok.judgement.why judged.placed judged.rests,
     )

@@ -4,6 +4,13 @@ use Rattle.nm_history.specs.Quiescence.{history_of}
 use Rattle.nm_check.proofs.OtherLemmas.{against_mate}
 use Rattle.nm_check.proofs.breaks.others.line_against.Goals as goal
 
+pub taken_line-requires : goal.taken_line-requires
+taken_line-requires c = record {
+  known = c.requires.other;
+  short = c.requires.short;
+  tabled = (c.args.lines.now, c.requires.tabled);
+}
+
 pub returns-in-Out : goal.returns-in-Out
 returns-in-Out c = λ e here same. rw c.in-Out.is c.taken_line.ensures
 

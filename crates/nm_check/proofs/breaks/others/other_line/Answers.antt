@@ -1,11 +1,12 @@
 use Rattle.std.proofs.Common.{◌≡◌, ◌==◌, ℕ, ◌<◌, ◌≤◌, Some, None, Option, List, cond, get_or, length, refl, sym, ◌∙◌, ap}
 use Rattle.std.proofs.Common.{subst, arith, take}
-use Rattle.std.specs.Prelude.{IfOk, MatchOption, slice_get}
+use Rattle.std.specs.Prelude.{MatchOption, slice_get}
 use Rattle.std.proofs.lemmas.Option.{slice_get-get_or, slice_get_past}
 use Rattle.nm_history.specs.declared.events.Event.{Event}
 use Rattle.nm_history.specs.Quiescence.{history_of}
 use Rattle.nm_report.specs.Ends.{ends_of}
 use Rattle.nm_check.specs.Others.{IsAgainst}
+use Rattle.nm_check.proofs.OtherLemmas.{known_in, one_of}
 use Rattle.nm_check.proofs.breaks.others.other_line.Goals as goal
 
 abbrev nothing : Option ℕ
@@ -23,6 +24,19 @@ returns-then-at-events c =
     (λ e. IsAgainst c.args.lines.now ends c.args.x (take c.args.at h) e.what
     (cond (c.args.x == c.args.i) c.args.j c.args.i) nothing)) (sym none) refl
 
+pub line_against-requires : goal.line_against-requires
+line_against-requires c =
+    let here : c.args.at < length c.events_of-events.result.now = omega (arith, c.if-at-events.false) in
+    let inside : c.args.at < length (history_of (ends_of c.args.ranks.now) c.args.x) =
+    rw c.events_of-events.ensures at here in
+    record {
+      known = known_in c.args.ranks.now c.args.x c.args.at inside;
+      other = subst (λ (y : ℕ). y < length c.args.ranks.now) (sym c.other_rank-y.ensures)
+          (one_of (c.args.x == c.args.i) c.args.j c.args.i (length c.args.ranks.now) c.requires.receiver c.requires.sender);
+      short = c.requires.short;
+      tabled = c.requires.tabled;
+    }
+
 pub returns : goal.returns
 returns c =
     let ends = ends_of c.args.ranks.now in
@@ -33,9 +47,8 @@ returns c =
     let there : slice_get h c.args.at ≡ Some e =
     ap (λ (g : List Event). slice_get g c.args.at) (sym c.events_of-events.ensures)
     ∙ slice_get-get_or es c.args.at c.index-events-at.result inside in
-    subst (λ (o : Option Event). IfOk c.line_against.result (λ other. MatchOption o (other ≡ None)
+    subst (λ (o : Option Event). MatchOption o (c.line_against.result ≡ None)
     (λ e. IsAgainst c.args.lines.now ends c.args.x (take c.args.at h) e.what
-    (cond (c.args.x == c.args.i) c.args.j c.args.i) other))) (sym there)
-    (subst (λ (y : ℕ). IfOk c.line_against.result
-    (IsAgainst c.args.lines.now ends c.args.x (take c.args.at h) e.what y))
+    (cond (c.args.x == c.args.i) c.args.j c.args.i) c.line_against.result)) (sym there)
+    (subst (λ (y : ℕ). IsAgainst c.args.lines.now ends c.args.x (take c.args.at h) e.what y c.line_against.result)
     c.other_rank-y.ensures (c.line_against.ensures e there refl))

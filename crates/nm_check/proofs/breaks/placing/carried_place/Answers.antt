@@ -4,15 +4,6 @@ use Rattle.nm_check.specs.Verdicts.{BreaksCarried}
 use Rattle.nm_check.proofs.SpotLemmas.{are_local, carried_ranks, many_ends, not_carried, spot_inside, spot_known}
 use Rattle.nm_check.proofs.breaks.placing.carried_place.Goals as goal
 
-pub tables_of-requires : goal.tables_of-requires
-tables_of-requires c =
-    let judged : BreaksCarried c.args.run.now.shape c.args.script.now.lines (ends_of c.args.run.now.ranks)
-    c.args.clause c.args.from c.args.to = c.requires.judged in
-    rw c.as_slice-ranks.ensures (record {
-      few = c.requires.few;
-      lawful = are_local c.args.run.now.shape c.args.script.now.lines (ends_of c.args.run.now.ranks) judged.runs;
-    })
-
 pub first_between_at-requires : goal.first_between_at-requires
 first_between_at-requires c =
     let judged : BreaksCarried c.args.run.now.shape c.args.script.now.lines (ends_of c.args.run.now.ranks)
@@ -22,11 +13,11 @@ first_between_at-requires c =
     let many = many_ends c.args.run.now.ranks in
     let from : c.args.from < length c.args.run.now.ranks = let low = known.0 in omega (arith, many, low) in
     let to : c.args.to < length c.args.run.now.ranks = let low = known.1 in omega (arith, many, low) in
-    rw (c.as_slice-own.ensures.value, c.as_slice-ranks.ensures, c.as_slice-lines.ensures) (record {
+    rw (c.as_slice-ranks.ensures, c.as_slice-lines.ensures) (record {
       sender = from;
       receiver = to;
       lawful = are_local c.args.run.now.shape c.args.script.now.lines (ends_of c.args.run.now.ranks) judged.runs;
-      tabled = rw (c.as_slice-ranks.ensures, c.as_slice-lines.ensures) at c.in_ok-tables.ensures;
+      tabled = c.requires.tabled;
     })
 
 pub place_of_spot-requires : goal.place_of_spot-requires
@@ -54,8 +45,8 @@ returns-in-Some c = (
   rw c.as_slice-ranks.ensures at c.place_of_spot.ensures,
 )
 
-pub returns : goal.returns
-returns c =
+pub returns-in-None : goal.returns-in-None
+returns-in-None c =
     absurd (not_carried c.args.run.now.shape c.args.script.now.lines (ends_of c.args.run.now.ranks) c.args.clause
     c.args.from c.args.to c.requires.judged
     (rw (c.as_slice-ranks.ensures, c.as_slice-lines.ensures) at c.in-None.ensures))

@@ -1,6 +1,4 @@
-use Rattle.std.proofs.Common.{Option, refl, subst}
-use Rattle.nm_check_rank.specs.declared.paired.breaches.Breach.{Breach}
-use Rattle.nm_check.specs.OwnFirsts.{IsOwnFirst}
+use Rattle.std.proofs.Common.{refl}
 use Rattle.nm_check.specs.declared.verdicts.Verdict.TheVariants.{Own}
 use Rattle.nm_check.proofs.RankLemmas.{account_here, breach_here, early_here, events_here, placed_here}
 use Rattle.nm_check.proofs.breaks.placing.own_place.Goals as goal
@@ -16,10 +14,10 @@ place_in-requires-clause-early c =
     c.index-ranks-i.is in
     let events = events_here ranks i a c.as_slice-events.result.now c.as_slice-events.ensures c.index-ranks-i.is in
     let breach = breach_here lines lines run c.args.clause i (Own c.args.clause i) a c.as_slice-events.result.now refl
-    there refl events c.in-Some.first
-    (subst (λ (f : Option Breach). IsOwnFirst lines run (Own c.args.clause i) f) c.in-Some.is c.requires.first) in
+    there refl events c.args.first
+    c.requires.first in
     early_here lines lines run c.args.clause i (Own c.args.clause i) a c.as_slice-events.result.now refl there refl events
-    c.requires.short c.in-Some.first breach
+    c.requires.short c.args.first breach
 
 pub returns : goal.returns
 returns c =
@@ -32,7 +30,7 @@ returns c =
     c.index-ranks-i.is in
     let events = events_here ranks i a c.as_slice-events.result.now c.as_slice-events.ensures c.index-ranks-i.is in
     let breach = breach_here lines lines run c.args.clause i (Own c.args.clause i) a c.as_slice-events.result.now refl
-    there refl events c.in-Some.first
-    (subst (λ (f : Option Breach). IsOwnFirst lines run (Own c.args.clause i) f) c.in-Some.is c.requires.first) in
+    there refl events c.args.first
+    c.requires.first in
     placed_here lines lines run c.args.clause i (Own c.args.clause i) a c.as_slice-events.result.now refl there refl
-    events c.in-Some.first c.place_in.result ranks c.as_slice-ranks.ensures breach c.place_in.ensures
+    events c.args.first c.place_in.result ranks c.as_slice-ranks.ensures breach c.place_in.ensures

@@ -1,18 +1,13 @@
-use Rattle.std.proofs.Common.{◌≡◌, ℕ, List, sym, subst}
-use Rattle.nm_script.specs.Spelled.{IsTextOf}
-use Rattle.nm_trace.specs.Traces.{IsTraceOf}
-use Rattle.nm_check.specs.Checks.{sizes}
-use Rattle.nm_check.specs.Inputs.{HasNoCut}
+use Rattle.std.proofs.Common.{◌∙◌, sym, subst}
+use Rattle.nm_check.specs.Checks.{IsChecked}
+use Rattle.nm_check.specs.declared.checked.checks.Checked.{Checked}
 use Rattle.nm_check.proofs.checked.checks.check.Goals as goal
 
-pub returns-in_default-clause-holds : goal.returns-in_default-clause-holds
-returns-in_default-clause-holds c = λ front rest ranks lines run input text trace lawful.
-    let none : HasNoCut c.args.bytes.now = rw c.in_default.is at c.cut.ensures in
-    absurd (none front rest input.cut.cut)
+pub returns-clause-checked : goal.returns-clause-checked
+returns-clause-checked c =
+    subst (λ (what : Checked). IsChecked c.args.cells c.args.eager c.args.bytes.now what) (sym c.checked_of.ensures)
+    c.in_ok-found.ensures.checked
 
 pub returns-clause-holds : goal.returns-clause-holds
 returns-clause-holds c = λ front rest ranks lines run input text trace lawful.
-    let same : (c.in-Some.front.now ≡ front) × (c.in-Some.rest.now ≡ rest) = input.cut.only c.in-Some.front.now
-    c.in-Some.rest.now c.in-Some.ensures.cut in
-    c.check_script.ensures.holds ranks lines run (subst (λ (x : List ℕ). IsTextOf x ranks lines) (sym same.0) text)
-    (subst (λ (x : List ℕ). IsTraceOf (sizes c.args.cells c.args.eager ranks) x run) (sym same.1) trace) lawful
+    c.checked_of.ensures ∙ c.in_ok-found.ensures.holds front rest ranks lines run input text trace lawful

@@ -3,8 +3,8 @@ use Rattle.std.proofs.Common.{◌≡◌, ℕ, List, Some, refl, sym, ◌∙◌, 
 use Rattle.nm_script.specs.declared.command_line.CommandLine.{CommandLine}
 use Rattle.nm_check.specs.Checks.{IsChecked, IsInput}
 use Rattle.nm_check.specs.Found.{IsFound, checked_of}
-use Rattle.nm_check.specs.Quotes.{quote_of}
-use Rattle.nm_check.proofs.EndLemmas.{found_of, quote_read}
+use Rattle.nm_check.specs.Quotes.{quotes_of}
+use Rattle.nm_check.proofs.EndLemmas.{found_of, quotes_read}
 use Rattle.nm_outside.proofs.ReadingLemmas.{left_at}
 use Rattle.nm_check.proofs.verdict.verdicts.find_answer.Goals as goal
 
@@ -13,8 +13,8 @@ one_line a b same =
     let is : a ≡ b = cc in
     sym is
 
-pub returns-in_ok-quote-in-Ok-clause-answer : goal.returns-in_ok-quote-in-Ok-clause-answer
-returns-in_ok-quote-in-Ok-clause-answer g c =
+pub returns-in_ok-quotes-in-Ok-clause-answer : goal.returns-in_ok-quotes-in-Ok-clause-answer
+returns-in_ok-quotes-in-Ok-clause-answer g c =
     let line = c.in-Some.line in
     let found = c.in_ok-found-in-Ok.found in
     let is = c.deref.ensures.value in (
@@ -29,13 +29,13 @@ returns-in_ok-quote-in-Ok-clause-answer g c =
           (λ traced. c.in_ok-found-in-Ok.ensures.holds traced.front traced.rest traced.ranks traced.lines traced.run
           (subst (λ bytes. IsInput bytes traced.front traced.rest) (sym is) traced.input) traced.script traced.trace
           traced.lawful),
-      quote_read (g.S.Source.left c.args.source.now) c.in-Ok.bytes.items found c.in_ok-quote-in-Ok.quote
+      quotes_read (g.S.Source.left c.args.source.now) c.in-Ok.bytes.items found c.in_ok-quotes-in-Ok.quotes
           c.in-Ok.ensures.bytes
-          (c.in_ok-quote-in-Ok.ensures ∙ ap (λ (b : List ℕ). quote_of b found) c.deref-in-Ok.ensures.value),
+          (c.in_ok-quotes-in-Ok.ensures ∙ ap (λ (b : List ℕ). quotes_of b found) c.deref-in-Ok.ensures.value),
     )
 
-pub returns-in_ok-quote-in-Ok-clause-read : goal.returns-in_ok-quote-in-Ok-clause-read
-returns-in_ok-quote-in-Ok-clause-read g c = record {
+pub returns-in_ok-quotes-in-Ok-clause-read : goal.returns-in_ok-quotes-in-Ok-clause-read
+returns-in_ok-quotes-in-Ok-clause-read g c = record {
   quiet = λ was. c.in-Ok.ensures.quiet (λ failed. cc);
   whole = λ was asked. left_at 67108865 (g.S.Source.left c.args.source.now) _ c.in-Ok.bytes.items
       c.in-Ok.ensures.bytes c.in-Ok.ensures.rest;

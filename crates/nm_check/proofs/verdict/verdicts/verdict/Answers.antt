@@ -5,11 +5,11 @@ use Rattle.nm_check.specs.Answers.{SaysVerdict}
 use Rattle.nm_check.specs.Done.{Ending}
 use Rattle.nm_check.proofs.EndLemmas.{not_six, told_is, unread_is, unwritten_is}
 use Rattle.nm_check.proofs.verdict.verdicts.verdict.Goals as goal
-use Rattle.nm_check.proofs.verdict.verdicts.verdict.Goals.{Joined-answer-3}
+use Rattle.nm_check.proofs.verdict.verdicts.verdict.Goals.{Joined-answer-5}
 use Rattle.nm_check.proofs.verdict.verdicts.verdict.Given.{Over}
 
 -- what is seen where all was written, or the sink failed
-abbrev seen : (g : Over) → Joined-answer-3 g → Ending
+abbrev seen : (g : Over) → Joined-answer-5 g → Ending
 seen g c =
     record {
       words = map string_bytes c.args.words.now;
@@ -25,7 +25,7 @@ seen g c =
     }
 
 -- and what is known of it
-known : (g : Over) (c : Joined-answer-3 g) → SaysVerdict (seen g c) c.in-Ok.answer
+known : (g : Over) (c : Joined-answer-5 g) → SaysVerdict (seen g c) c.in-Ok.answer
 known g c =
     record { right = c.in-Ok.ensures.answer; read = c.in-Ok.ensures.read; said = c.deliver.ensures.said }
 

@@ -1,0 +1,44 @@
+use Rattle.std.proofs.Common.{arith}
+use Rattle.std.proofs.lemmas.Result.{IfOk-weaker}
+use Rattle.nm_check.proofs.JudgementLemmas.{done_judged, holds_judged, home_judged}
+use Rattle.nm_check.proofs.breaks.judgements.tabled_judgement.Goals as goal
+
+pub carried_judgement-requires : goal.carried_judgement-requires
+carried_judgement-requires c = record {
+  judged = rw c.in-Carried.is at c.requires.judged;
+  short = omega (arith, c.requires.short);
+  tabled = c.requires.tabled;
+}
+
+pub rest_judgement-requires : goal.rest_judgement-requires
+rest_judgement-requires c = record {
+  judged = rw c.in-Rest.is at c.requires.judged;
+  few = c.requires.few;
+  short = c.requires.short;
+  tabled = c.requires.tabled;
+}
+
+pub returns-in-Carried : goal.returns-in-Carried
+returns-in-Carried c = c.carried_judgement.ensures c.args.count
+
+pub returns-in-Rest : goal.returns-in-Rest
+returns-in-Rest c =
+    IfOk-weaker c.rest_judgement.result _ _ (λ judgement each. each c.args.count) c.rest_judgement.ensures
+
+pub returns-in-Home : goal.returns-in-Home
+returns-in-Home c =
+    home_judged c.args.count c.args.script.now.lines c.args.run.now c.home_judgement.result c.home_judgement.ensures
+    (rw c.in-Home.is at c.requires.judged)
+
+pub returns-in-Done : goal.returns-in-Done
+returns-in-Done c =
+    done_judged c.args.count c.args.script.now.lines c.args.run.now c.plain.result (rw c.in-Done.is at c.plain.ensures)
+    (rw c.in-Done.is at c.requires.judged)
+
+pub returns-in-Holds : goal.returns-in-Holds
+returns-in-Holds c =
+    holds_judged c.args.count c.args.script.now.lines c.args.run.now c.plain-in-Holds.result
+    (rw c.in-Holds.is at c.plain-in-Holds.ensures) (rw c.in-Holds.is at c.requires.judged)
+
+pub returns-in-Own : goal.returns-in-Own
+returns-in-Own c = absurd (rw c.in-Own.is at c.requires.between)
