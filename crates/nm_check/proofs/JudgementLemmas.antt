@@ -65,6 +65,9 @@ module _ (count : ℕ) (lines : List Line) (run : RunRecord) where
   pub count_placed : (told : Miscount) (line : ℕ) → line ≡ events_in (ends_of run.ranks) + told.at + 1 →
       IsFirstCounted lines (ends_of run.ranks) run.pairs told →
       IsCountPlace lines (ends_of run.ranks) (packets_of run.pairs) (Count told.at line)
-  count_placed told line is first =
-      (told.at, first.differ, subst (λ (n : ℕ). Count told.at n ≡ Count told.at (events_in (ends_of run.ranks)
-      + told.at + 1)) (sym is) refl)
+  count_placed told line is first = (
+    told.at,
+    first.differ,
+    subst (λ (n : ℕ). Count told.at n ≡ Count told.at (events_in (ends_of run.ranks)
+        + told.at + 1)) (sym is) refl,
+  )

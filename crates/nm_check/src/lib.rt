@@ -1,20 +1,18 @@
-//! Whether a given record is of a run of a script, and if not, the first rule that is broken.
+//! Whether a given record is of a run of a script, and if not, the first rule that it breaks.
 //!
-//! `checked` judges a script and a trace in one text. `breaks` says where a trace breaks a rule first, and
-//! `verdict` is the sentence that says so. `written` has laws: the trace of a run is read back.
+//! `checked` judges a script and a trace in one text. `breaks` finds where a trace first breaks a rule, and
+//! `verdict` puts it in a sentence. `written` has laws: the trace of a run is read back.
 //!
 //! # What a contract sees
-//! `specs/Verdicts.antt` says what each verdict means, by the definitions of a run in `nm_history`
-//! and `nm_report`: `Judges` of the script's lines, the record and the verdict. The rules of one
-//! rank, of two ranks and of rest stand with their order in the crates below (`KeepsOwn`,
-//! `KeepsCarried`, `KeepsRest`).
+//! `specs/Verdicts.antt` says what each verdict means, by the definitions of a run in `nm_history` and
+//! `nm_report`: `Judges` of the script's lines, the record and the verdict. The rules of one rank, of two
+//! ranks and of rest are with their order in the crates below (`KeepsOwn`, `KeepsCarried`, `KeepsRest`).
 //! # What is proved
-//! - `judge` holds exactly where the record is of a run of the script (`IsRunIn`); else it names
-//!   the first rule that is broken: rank by rank, then pair by pair of ranks, then of all ranks at
-//!   rest, then of the cells and of the end.
+//! - `judge` answers `Holds` exactly if the record is of a run of the script (`IsRunIn`), else the first rule
+//!   that is broken: rank by rank, then pair by pair of ranks, then of all ranks at rest, then of the cells
+//!   and of the end.
 //!
-//! Each history is walked a fixed number of times, with look-ups for each event; that is not
-//! proved.
+//! Each history is walked a fixed number of times, with look-ups for each event; that is not proved.
 //! # What is only tested
 //! That `judge` succeeds with ample memory.
 #![tactic(auto)]

@@ -17,7 +17,11 @@ use std::alloc::Global;
 #[derive(Drop)]
 pub(crate) enum Ranked {
     Run(Vec<Tables>),
-    Breaks { clause: OwnClause, rank: u8, first: Breach },
+    Breaks {
+        clause: OwnClause,
+        rank: u8,
+        first: Breach,
+    },
 }
 
 /// Whether each rank runs its own commands.
@@ -37,7 +41,11 @@ pub(crate) fn judge_ranks(
             Judged::Runs(own) => tables.push(own)?,
             Judged::Breaks { clause, first } => {
                 let rank = i as u8;
-                return Ok(Ranked::Breaks { clause, rank, first });
+                return Ok(Ranked::Breaks {
+                    clause,
+                    rank,
+                    first,
+                });
             }
         }
     }

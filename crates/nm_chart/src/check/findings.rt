@@ -21,10 +21,14 @@ pub enum Finding {
     /// The source failed.
     Unread,
     /// There is no script: this line is its first that is none.
-    NoScript { line: u32 },
+    NoScript {
+        line: u32,
+    },
     /// There is no trace: this line behind `---` is its first that is none, or line 0 where there is
     /// no line `---`, or the input is too long.
-    NoTrace { line: u32 },
+    NoTrace {
+        line: u32,
+    },
     /// There is the trace of a record, with the verdict on it and a flag where it breaks a rule first.
     Drawn {
         run: RunRecord,

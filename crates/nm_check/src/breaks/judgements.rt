@@ -140,7 +140,11 @@ fn counts_judgement(
                 counts: Some(told),
                 ..happened_at(run, place)
             };
-            Ok(Judgement { verdict, place, why })
+            Ok(Judgement {
+                verdict,
+                place,
+                why,
+            })
         }
         None => Ok(plain(run, verdict, Place::Nowhere)),
     }
@@ -238,8 +242,10 @@ pub fn judged(
             let verdict = judge_tabled(alloc, script, run, &tables)?;
             tabled_judgement(alloc, script, run, verdict, &tables, count)
         }
-        Ranked::Breaks { clause, rank, first } => {
-            Ok(own_judgement(script, run, clause, rank, first))
-        }
+        Ranked::Breaks {
+            clause,
+            rank,
+            first,
+        } => { Ok(own_judgement(script, run, clause, rank, first)) }
     }
 }

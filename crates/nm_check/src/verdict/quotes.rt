@@ -79,7 +79,9 @@ fn told_line(found: &Found) -> Option<u64>
 {
     match found {
         Found::Judged {
-            before, judgement, ..
+            before,
+            judgement,
+            ..
         } => whole_line(*before, quoted_line(judgement.place, judgement.why)),
         Found::NoTrace => None,
         Found::NoScript { .. } => None,
@@ -93,7 +95,9 @@ fn other_line(found: &Found) -> Option<u64>
 {
     match found {
         Found::Judged {
-            before, judgement, ..
+            before,
+            judgement,
+            ..
         } => whole_line(*before, judgement.why.other),
         Found::NoTrace => None,
         Found::NoScript { .. } => None,

@@ -51,7 +51,9 @@ pub fn carried_words(clause: CarriedClause) -> &'static str
         CarriedClause::Messages => {
             "the messages that came are the first that were sent, in order, each with its envelope and a greater stamp (MPI 3.1, 3.5)"
         }
-        CarriedClause::Bodies => { "a receive shows the body of the send that it is paired with (MPI 3.1, 3.2.4)" }
+        CarriedClause::Bodies => {
+            "a receive shows the body of the send that it is paired with (MPI 3.1, 3.2.4)"
+        }
         CarriedClause::Outs => {
             "a message that was sent by rendezvous leaves only after a receive took it, by stamps (MPI 3.1, 3.4)"
         }
@@ -67,7 +69,9 @@ pub fn rest_words(clause: RestClause) -> &'static str
 {
     match clause {
         RestClause::Arrived => { "all that was sent has come (MPI 3.1, 3.5)" }
-        RestClause::Eager => { "each message that was sent eagerly has left and is whole (MPI 3.1, 3.4)" }
+        RestClause::Eager => {
+            "each message that was sent eagerly has left and is whole (MPI 3.1, 3.4)"
+        }
         RestClause::Asked => {
             "each message that was sent by rendezvous and that a receive took has left and is whole, and one that is claimed alone has done neither (MPI 3.1, 3.4 and 3.8.2)"
         }

@@ -13,8 +13,9 @@ use crate::verdict::counts::miscount_words;
 use crate::verdict::dues::due_words;
 use crate::verdict::incidents::where_words;
 use crate::verdict::quotes::{Quotes, place_line};
-use crate::verdict::sentences::{carried_words, kind_words, left_words};
-use crate::verdict::sentences::{own_words, rest_words, stop_words};
+use crate::verdict::sentences::{
+    carried_words, kind_words, left_words, own_words, rest_words, stop_words,
+};
 use crate::{CarriedClause, OwnClause, RestClause, Verdict};
 use nm_check_rank::paired::breaches::Breach;
 use nm_check_rank::paired::dues::Due;
@@ -348,7 +349,9 @@ fn head_words(alloc: Global, found: &Found) -> Result<String, AllocError>
 {
     match found {
         Found::Judged {
-            before, judgement, ..
+            before,
+            judgement,
+            ..
         } => place_words(alloc, *before, place_line(judgement.place)),
         Found::NoTrace => format!(in alloc; ""),
         Found::NoScript { .. } => format!(in alloc; ""),
@@ -362,7 +365,9 @@ fn found_against(alloc: Global, found: &Found) -> Result<String, AllocError>
 {
     match found {
         Found::Judged {
-            before, judgement, ..
+            before,
+            judgement,
+            ..
         } => against_text(alloc, *before, *judgement),
         Found::NoTrace => format!(in alloc; ""),
         Found::NoScript { .. } => format!(in alloc; ""),
