@@ -1,0 +1,32 @@
+//! Why a run of programs has no outcome.
+
+use nm_types::{Command, Memory};
+use std::fmt;
+
+/// Why a run has no outcome.
+#[derive(Drop)]
+pub enum Stop {
+    /// Memory was refused, to the run or to a program.
+    Memory,
+    /// The program of this rank gave this command, whose arguments are out of range, or which came after
+    /// 4,294,967,290 others. It did not run.
+    Range { rank: u8, command: Command },
+}
+
+impl From<Memory> for Stop {
+    fn from(_memory: Memory) -> Stop {
+        Stop::Memory
+    }
+}
+
+impl fmt::Debug for Stop {
+    fn fmt<W: fmt::Write>(&self, f: &mut fmt::Formatter<W>) -> fmt::Result {
+        match self {
+            Stop::Memory => write!(f, "memory was refused"),
+            Stop::Range { rank, .. } => write!(
+                f,
+                "rank {rank} gave a command that is out of range"
+            ),
+        }
+    }
+}
