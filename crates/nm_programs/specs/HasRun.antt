@@ -1,7 +1,7 @@
 -- A run of programs, one for each rank: each process executes its own code, and they communicate by calls of MPI
 -- (MPI 3.1, 2.7).
 use Rattle.std.specs.Prelude.{◌≡◌, ℕ, ◌+◌, Option, Some, List, [], ◌∷◌, ◌++◌, map, option_map, unwrap_or}
-use Rattle.std.specs.List.{All, slice_get}
+use Rattle.std.specs.List.{AllByRecursion, slice_get}
 use Rattle.nm_types.specs.declared.answers.Answer.{Answer}
 use Rattle.nm_types.specs.declared.packets.Packet.{Packet}
 use Rattle.nm_types.specs.declared.scripts.Command.{Command}
@@ -21,7 +21,7 @@ use Rattle.nm_programs.specs.declared.stops.Stop.TheVariants.{Memory, Range}
 
 -- The program of a rank began in this state, was told exactly the answers of the rank's history, one after
 -- another, gave exactly these commands, and is left so. As many of them ran as the rank ran; one more is that in
--- which it waits (MPI 3.1, 3.5: a call that blocks).
+-- which it waits (MPI 3.1, 2.4: a blocking call).
 pub record IsProgramOf {P : Type 0} (says : P → Option Answer → Option Command → P → Type 0) (start : P)
     (given : List Command) (rank : Ended) (left : Finished P) : Type 0 where
   pub played : HasPlayed says start (answers_given rank.events) left.program left.waits given
@@ -48,7 +48,7 @@ pub record HasRun {P : Type 0} (says : P → Option Answer → Option Command �
     : Type 0 where
   pub given : List (List Command)
   pub programs : AreProgramsOf says programs given (ends_of run.ranks) left
-  pub in_range : All (AllInRange shape.ranks) given
+  pub in_range : AllByRecursion (AllInRange shape.ranks) given
   pub whole : IsWholeBy shape (commands_in given) run cells rings
 
 -- The program of this rank was told some answers and gave this command, which never runs.

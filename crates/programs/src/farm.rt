@@ -11,152 +11,110 @@ use std::collections::VecDeque;
 
 const MASTER: u8 = 0;
 
-const WORKERS: u8 = 3;
+const WORKERS: u64 = 3;
 
 const TASKS: u64 = 20;
 
-// The tags: a worker asks for its first task, a result, a task, and that there is none left.
-const ASKS: u16 = 1;
+// The tags: of tasks and results, and that there is none left.
+const WORK: u16 = 1;
 
-const RESULT: u16 = 2;
+const STOP: u16 = 2;
 
-const TASK: u16 = 3;
-
-const STOP: u16 = 4;
-
-// What a rank is to call.
-#[derive(Drop)]
-struct Calls {
-    alloc: Global,
-    queue: VecDeque<Command>,
+/// What a rank of the farm is.
+#[derive(Clone, Copy)]
+pub enum Role {
+    /// So many workers came to it.
+    Master(u64),
+    Worker,
 }
 
-impl Calls {
-    fn new(alloc: Global) -> Calls {
-        let queue = VecDeque::new(alloc);
-        Calls { alloc, queue }
+/// A rank of the farm, with the calls that it makes next.
+#[derive(Drop)]
+pub struct Hand {
+    alloc: Global,
+    calls: VecDeque<Command>,
+    pub role: Role,
+    /// The sum of the results that came to a master; how many tasks a worker did.
+    pub total: u64,
+}
+
+impl Hand {
+    // A worker asks for its first task, as if with a result; a master waits for one that asks.
+    fn new(alloc: Global, role: Role) -> Result<Hand, Memory> {
+        let mut hand = Hand {
+            alloc,
+            calls: VecDeque::new(alloc),
+            role,
+            total: 0,
+        };
+        if let Role::Worker = role {
+            hand.say(MASTER, WORK, 0)?;
+        }
+        hand.listen()?;
+        Ok(hand)
     }
 
     // Sends a number.
     fn say(&mut self, to: u8, tag: u16, x: u64) -> Result<(), Memory> {
-        let call = send(1, to, tag, number(self.alloc, x)?);
-        self.queue.push_back(call)?;
-        self.queue.push_back(wait(1))?;
+        let x = number(self.alloc, x)?;
+        self.calls.push_back(send(1, to, tag, x))?;
+        self.calls.push_back(wait(1))?;
         Ok(())
     }
 
     // Waits for a message of any rank.
     fn listen(&mut self) -> Result<(), Memory> {
-        self.queue.push_back(receive_any(0, 8))?;
-        self.queue.push_back(wait(0))?;
+        self.calls.push_back(receive_any(0, 8))?;
+        self.calls.push_back(wait(0))?;
         Ok(())
     }
-}
 
-/// The rank that has the tasks.
-#[derive(Drop)]
-pub struct Master {
-    calls: Calls,
-    // how many tasks it handed out, and how many workers it has not told to stop
-    out: u64,
-    working: u8,
-    /// What the results add up to.
-    pub sum: u64,
-}
-
-/// A rank that does tasks.
-#[derive(Drop)]
-pub struct Worker {
-    calls: Calls,
-    /// How many it did.
-    pub did: u64,
-}
-
-/// A rank of the farm.
-#[derive(Drop)]
-pub enum Role {
-    Master(Master),
-    Worker(Worker),
-}
-
-impl Master {
-    // Hands out the next task, or tells that there is none.
-    fn take(&mut self, from: u8, tag: u16, x: u64) -> Result<(), Memory> {
-        if tag == RESULT {
-            self.sum = self.sum.wrapping_add(x);
+    // A worker came, after so many others: it gets the next task, or hears that there is none left.
+    fn answer(&mut self, to: u8, x: u64, before: u64) -> Result<(), Memory> {
+        let count = before.saturating_add(1);
+        self.role = Role::Master(count);
+        self.total = self.total.wrapping_add(x);
+        let tag = if count <= TASKS { WORK } else { STOP };
+        self.say(to, tag, count)?;
+        if count < TASKS + WORKERS {
+            self.listen()?;
         }
-        if self.out < TASKS {
-            self.out += 1;
-            self.calls.say(from, TASK, self.out)?;
-        } else {
-            self.working = self.working.saturating_sub(1);
-            self.calls.say(from, STOP, 0)?;
-        }
-        if self.working > 0 {
-            self.calls.listen()?;
+        Ok(())
+    }
+
+    fn work(&mut self, tag: u16, x: u64) -> Result<(), Memory> {
+        if tag == WORK {
+            self.total = self.total.saturating_add(1);
+            self.say(MASTER, WORK, x.wrapping_mul(x))?;
+            self.listen()?;
         }
         Ok(())
     }
 }
 
-impl Worker {
-    // Does a task.
-    fn take(&mut self, tag: u16, x: u64) -> Result<(), Memory> {
-        if tag == TASK {
-            self.did = self.did.saturating_add(1);
-            self.calls.say(MASTER, RESULT, x.wrapping_mul(x))?;
-            self.calls.listen()?;
-        }
-        Ok(())
-    }
-}
-
-impl Program for Role {
+impl Program for Hand {
     ghost says = { λ p answer command q. Unit {0} };
 
     fn next(&mut self, answer: Option<&Answer>) -> Result<Option<Command>, Memory> {
         if let Some(Answer::Got { from, tag, .. }) = answer {
             let x = number_in(answer).unwrap_or(0);
-            match self {
-                Role::Master(master) => master.take(*from, *tag, x)?,
-                Role::Worker(worker) => worker.take(*tag, x)?,
+            match self.role {
+                Role::Master(before) => self.answer(*from, x, before)?,
+                Role::Worker => self.work(*tag, x)?,
             }
         }
-        Ok(match self {
-            Role::Master(master) => master.calls.queue.pop_front(),
-            Role::Worker(worker) => worker.calls.queue.pop_front(),
-        })
+        Ok(self.calls.pop_front())
     }
-}
-
-// A worker that asks for its first task.
-fn first_worker(alloc: Global) -> Result<Role, Memory> {
-    let mut calls = Calls::new(alloc);
-    calls.say(MASTER, ASKS, 0)?;
-    calls.listen()?;
-    Ok(Role::Worker(Worker { calls, did: 0 }))
-}
-
-// A master that waits for the first one that asks.
-fn first_master(alloc: Global) -> Result<Role, Memory> {
-    let mut calls = Calls::new(alloc);
-    calls.listen()?;
-    Ok(Role::Master(Master {
-        calls,
-        out: 0,
-        working: WORKERS,
-        sum: 0,
-    }))
 }
 
 /// The master and its workers.
-pub fn roles(alloc: Global) -> Result<Vec<Role>, Memory>
+pub fn hands(alloc: Global) -> Result<Vec<Hand>, Memory>
     ensures { IfOk result (λ v. length v.items ≡ 4) }
 {
-    let mut roles = Vec::new(alloc);
-    roles.push(first_master(alloc)?)?;
+    let mut hands = Vec::new(alloc);
+    hands.push(Hand::new(alloc, Role::Master(0))?)?;
     for _ in 0..WORKERS {
-        roles.push(first_worker(alloc)?)?;
+        hands.push(Hand::new(alloc, Role::Worker)?)?;
     }
-    Ok(roles)
+    Ok(hands)
 }

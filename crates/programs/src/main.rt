@@ -10,7 +10,7 @@ mod ping_pong;
 mod ring;
 mod rod;
 
-use farm::Role;
+use farm::{Hand, Role};
 use nm_outside::OpenGate;
 use nm_programs::{Finished, Program, run_programs};
 use nm_types::Shape;
@@ -62,12 +62,13 @@ fn show_ring(rt: &HostRuntime, ranks: Vec<Finished<Link>>) -> Result<(), Fail> {
     Ok(())
 }
 
-fn show_farm(rt: &HostRuntime, ranks: Vec<Finished<Role>>) -> Result<(), Fail> {
+fn show_farm(rt: &HostRuntime, ranks: Vec<Finished<Hand>>) -> Result<(), Fail> {
     let mut all: u64 = 0;
     for finished in ranks.iter() {
-        match &finished.program {
-            Role::Master(master) => println!(rt; "farm: the results add up to {}", master.sum)?,
-            Role::Worker(worker) => all = all.saturating_add(worker.did),
+        let total = finished.program.total;
+        match finished.program.role {
+            Role::Master(_) => println!(rt; "farm: the results add up to {total}")?,
+            Role::Worker => all = all.saturating_add(total),
         }
     }
     println!(rt; "farm: the workers did {all} tasks")?;
@@ -96,7 +97,7 @@ fn main(rt: HostRuntime) -> Result<(), Fail> {
     let alloc = rt.alloc();
     show_ping_pong(&rt, run(&rt, alloc, 2, ping_pong::players(alloc)?)?)?;
     show_ring(&rt, run(&rt, alloc, 5, ring::links(alloc)?)?)?;
-    show_farm(&rt, run(&rt, alloc, 4, farm::roles(alloc)?)?)?;
+    show_farm(&rt, run(&rt, alloc, 4, farm::hands(alloc)?)?)?;
     let one = values(alloc, run(&rt, alloc, 1, rod::parts(alloc, 1)?)?)?;
     let four = values(alloc, run(&rt, alloc, 4, rod::parts(alloc, 4)?)?)?;
     show_rod(&rt, one, four)

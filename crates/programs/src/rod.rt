@@ -1,5 +1,4 @@
-//! Jacobi's iteration on a rod that is cut into parts, one for each rank: before each step the ranks exchange the
-//! values at the ends of their parts (a halo swap).
+//! Jacobi's iteration on a rod, of which each rank has a part: before each step they swap the values at their ends.
 
 ghost use Rattle.std.specs.Prelude.{◌≡◌, ◌<◌, ◌≤◌, IfOk, length};
 
@@ -15,19 +14,16 @@ const TAG: u16 = 1;
 const STEPS: u32 = 50;
 
 const CELLS: usize = 12;
-// what is beside the last cell of the rod; beside the first one is 0
+
 const HEAT: u64 = 1000000;
 
 /// A rank's part of the rod.
 #[derive(Drop)]
 pub struct Part {
     alloc: Global,
-    // the ranks beside it, where there are some
     below: Option<u8>,
     above: Option<u8>,
-    /// The values of its cells.
     pub cells: Vec<u64>,
-    // the values beside its own
     low: u64,
     high: u64,
     steps: u32,
@@ -64,14 +60,12 @@ impl Part {
         })
     }
 
-    // Starts a receive from a neighbour and a send of this value to it, if there is one.
-    fn start(&mut self, name: u16, to: Option<u8>, value: u64) -> Result<(), Memory>
-        requires { name < 100 }
-    {
+    // Receives a neighbour's value and sends it this one, if there is a neighbour.
+    fn swap(&mut self, to: Option<u8>, names: (u16, u16), value: u64) -> Result<(), Memory> {
         if let Some(to) = to {
-            self.calls.push_back(receive(name, to, TAG, 8))?;
             let value = number(self.alloc, value)?;
-            self.calls.push_back(send(name + 1, to, TAG, value))?;
+            self.calls.push_back(receive(names.0, to, TAG, 8))?;
+            self.calls.push_back(send(names.1, to, TAG, value))?;
         }
         Ok(())
     }
@@ -80,8 +74,8 @@ impl Part {
     fn plan(&mut self) -> Result<(), Memory> {
         let first = self.cells.first().copied().unwrap_or(0);
         let last = self.cells.last().copied().unwrap_or(0);
-        self.start(0, self.below, first)?;
-        self.start(2, self.above, last)?;
+        self.swap(self.below, (0, 1), first)?;
+        self.swap(self.above, (2, 3), last)?;
         for name in 0..4 {
             self.calls.push_back(wait(name))?;
         }
@@ -95,23 +89,20 @@ impl Program for Part {
     fn next(&mut self, answer: Option<&Answer>) -> Result<Option<Command>, Memory> {
         if let Some(Answer::Got { from, .. }) = answer {
             let x = number_in(answer).unwrap_or(0);
-            if self.below == Some(*from) {
-                self.low = x;
-            } else {
-                self.high = x;
+            match self.below == Some(*from) {
+                true => self.low = x,
+                false => self.high = x,
             }
         }
-        if let Some(call) = self.calls.pop_front() {
-            return Ok(Some(call));
+        if self.calls.is_empty() {
+            if answer.is_some() {
+                relax(self.cells.as_mut_slice(), self.low, self.high);
+            }
+            if self.steps > 0 {
+                self.steps -= 1;
+                self.plan()?;
+            }
         }
-        if answer.is_some() {
-            relax(self.cells.as_mut_slice(), self.low, self.high);
-        }
-        if self.steps == 0 {
-            return Ok(None);
-        }
-        self.steps -= 1;
-        self.plan()?;
         Ok(self.calls.pop_front())
     }
 }
