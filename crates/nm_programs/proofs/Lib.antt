@@ -1,2 +1,6 @@
+-- what a program counts
 pub mod CountLemmas
-pub mod TurnLemmas
+-- lists that are gone through
+mod SoFar
+-- sources as programs
+mod TurnLemmas
