@@ -1,7 +1,7 @@
 -- What the sources of a run were told and gave, as a run of programs.
 use Rattle.std.proofs.Common.{◌≡◌, ℕ, zero, suc, ◌+◌, ◌<◌, Bool, true, false, cond, Option, Some, None, List, [], ◌∷◌, ◌++◌}
-use Rattle.std.proofs.Common.{length, map, refl, sym, ◌∙◌, ap, subst, arith}
-use Rattle.std.specs.Prelude.{IfSome, is_some, option_map, unwrap_or}
+use Rattle.std.proofs.Common.{length, map, refl, sym, ◌∙◌, ap, subst, arith, append-nil}
+use Rattle.std.specs.Prelude.{IfSome, MatchOption, is_some, option_map, unwrap_or}
 use Rattle.std.specs.List.{All, AllByRecursion, AllZip, slice_get}
 use Rattle.std.proofs.lemmas.List.Elements.{All-cons}
 use Rattle.std.proofs.lemmas.Slice.Zip.{AllZip-long}
@@ -12,8 +12,8 @@ use Rattle.nm_types.proofs.ListLemmas.{get_map}
 use Rattle.nm_channels.specs.Finished.{AreInRange}
 use Rattle.nm_history.specs.Quiescence.{Ended}
 use Rattle.nm_history.specs.Totals.{answers_given}
-use Rattle.nm_process.specs.Playing.{AllInRange, GivenView, HasPlayed, IsCounted, NeverRuns, all_numbered, gives_on}
-use Rattle.nm_process.specs.Playing.{shown_by}
+use Rattle.nm_process.specs.Playing.{AllInRange, GivenView, HasPlayed, IsCounted, IsFront, NeverRuns, all_numbered}
+use Rattle.nm_process.specs.Playing.{gives_on, shown_by}
 use Rattle.nm_process.proofs.PlayLemmas.{numbered_in_range, some_given, waits_given}
 use Rattle.nm_world.specs.Players.{AreGiven, BeginsAt, GoesOn, WasTold}
 use Rattle.nm_world.specs.Records.{HasStopped}
@@ -36,32 +36,32 @@ pub all_in_range : (ranks : ℕ) (given : List (List Command)) → AllByRecursio
 all_in_range ranks given all i =
     numbered_in_range 2 ranks (unwrap_or (slice_get given i) []) (row_in_range ranks given all i)
 
-module _ {P : Type 0} where
-  -- one place of two lists
-  pub zip_at : {A B : Type 0} (R : A → B → Type 0) (xs : List A) (ys : List B) (k : ℕ) (y : B) → AllZip R xs ys →
-      slice_get ys k ≡ Some y → (x : A) × (slice_get xs k ≡ Some x) × R x y
-  zip_at R [] [] k y all here = cc
-  zip_at R [] (z ∷ ys) k y all here = absurd all
-  zip_at R (x ∷ xs) [] k y all here = absurd all
-  zip_at {A} {B} R (x ∷ xs) (z ∷ ys) zero y all here =
-      let same : z ≡ y = cc in
-      (x, refl, subst (λ (w : B). R x w) same all.0)
-  zip_at R (x ∷ xs) (z ∷ ys) (suc k) y all here = zip_at R xs ys k y all.1 here
+-- one place of two lists
+pub zip_at : {A B : Type 0} (R : A → B → Type 0) (xs : List A) (ys : List B) (k : ℕ) (y : B) → AllZip R xs ys →
+    slice_get ys k ≡ Some y → (x : A) × (slice_get xs k ≡ Some x) × R x y
+zip_at R [] [] k y all here = cc
+zip_at R [] (z ∷ ys) k y all here = absurd all
+zip_at R (x ∷ xs) [] k y all here = absurd all
+zip_at {A} {B} R (x ∷ xs) (z ∷ ys) zero y all here =
+    let same : z ≡ y = cc in
+    (x, refl, subst (λ (w : B). R x w) same all.0)
+zip_at R (x ∷ xs) (z ∷ ys) (suc k) y all here = zip_at R xs ys k y all.1 here
 
+module _ {P : Type 0} where
   -- a source that was refused no memory shows what it was told
   shows_told : (g : GivenView P) (answers : List Answer) → g.failed ≡ false → g.told ≡ answers →
       WasTold (shown_by g) answers
   shows_told g answers works told = by g.failed works where
     by : (b : Bool) → b ≡ false → IfSome (cond b None (Some g.told)) (λ xs. xs ≡ answers)
-    by true no = cc
-    by false no = told
+    by true other = cc
+    by false other = told
 
   was_told : (g : GivenView P) (answers : List Answer) → g.failed ≡ false → WasTold (shown_by g) answers →
       g.told ≡ answers
   was_told g answers works shown = by g.failed works shown where
     by : (b : Bool) → b ≡ false → IfSome (cond b None (Some g.told)) (λ xs. xs ≡ answers) → g.told ≡ answers
-    by true no shown = cc
-    by false no shown = shown
+    by true other has = cc
+    by false other has = has
 
   -- one that went on was refused none
   works_on : (s t : GivenView P) → s.failed ≡ false → is_some (shown_by t).told ≡ is_some (shown_by s).told →
@@ -69,9 +69,17 @@ module _ {P : Type 0} where
   works_on s t works hears = by s.failed t.failed works hears where
     by : (b d : Bool) → b ≡ false →
         is_some (cond d None (Some t.told)) ≡ is_some (cond b None (Some s.told)) → d ≡ false
-    by true d no hears = cc
-    by false true no hears = cc
-    by false false no hears = refl
+    by true d other same = cc
+    by false true other same = cc
+    by false false other same = refl
+
+  -- a source gives what its program gave so far
+  gives_given : (g : GivenView P) → gives_on g (all_numbered 2 g.given) (g.at + 1)
+  gives_given g = (by g.next, refl) where
+    by : (o : Option Command) → MatchOption o (all_numbered 2 g.given ≡ all_numbered 2 g.given)
+        (λ x. IsFront (all_numbered 2 g.given) (all_numbered 2 g.given))
+    by None = refl
+    by (Some x) = record { more = []; is = sym (append-nil (all_numbered 2 g.given)) }
 
   -- the sources at the start
   pub all_begin : (n : ℕ) (programs : List P) (sources : List (GivenView P)) →
@@ -97,7 +105,7 @@ module _ {P : Type 0} where
       ap (λ (n : ℕ). commands n) (omega arith) ∙ each 0 g refl in (
         record {
           before = g.at + 1;
-          gives = subst (λ (cs : List Numbered). gives_on g cs (g.at + 1)) (sym own) (some_given g).some;
+          gives = subst (λ (cs : List Numbered). gives_on g cs (g.at + 1)) (sym own) (gives_given g);
         },
         all_given commands (k + 1) sources
             (λ i h at. ap (λ (n : ℕ). commands n) (omega arith) ∙ each (suc i) h at),
@@ -141,7 +149,7 @@ module _ {P : Type 0} where
         played = subst (λ (xs : List Answer). HasPlayed says p xs f.program f.waits t.given) told
             (left.played works p (on.begun ∙ begins.start));
         counted = subst (λ (k : ℕ). IsCounted t.given f.waits k) stopped.at left.counted;
-        waits = stopped.waits (all_numbered 2 t.given) (t.at + 1) (some_given t).some ∙ waits_given t counted
+        waits = stopped.waits (all_numbered 2 t.given) (t.at + 1) (gives_given t) ∙ waits_given t counted
             ∙ ap (λ (k : ℕ). option_map (λ (x : Command). k + 2) t.next) stopped.at
             ∙ ap (λ (o : Option Command). option_map (λ (x : Command). e.at + 2) o) (sym left.waits);
       }

@@ -47,7 +47,7 @@ pub record HasRun {P : Type 0} (says : P → Option Answer → Option Command �
     (programs : List P) (left : List (Finished P)) (run : RunRecord) (cells : Closed Packet) (rings : RingAccount)
     : Type 0 where
   pub given : List (List Command)
-  pub programs : AreProgramsOf says programs given (ends_of run.ranks) left
+  pub each : AreProgramsOf says programs given (ends_of run.ranks) left
   pub in_range : AllByRecursion (AllInRange shape.ranks) given
   pub whole : IsWholeBy shape (commands_in given) run cells rings
 

@@ -109,15 +109,16 @@ pub fn run_programs<R: Threads + Wait + Sync, P: Program + Send, G: Gate + Sync>
     ensures done { IfOk result (λ x. x.record.done ≡ are_done (ends_of x.record.ranks)) }
     ensures stopped { IfErr result (IsStopped P.says shape.ranks programs.items) }
 {
-    let sources = begin(alloc, shape.ranks(), programs)?;
+    let begun = begin(alloc, shape.ranks(), programs)?;
+    let left = run_sources(rt, alloc, shape, begun, gate)?;
     let Left {
         sources,
         record,
         ways,
-    } = run_sources(rt, alloc, shape, sources, gate)?;
-    let ranks = finish(alloc, sources)?;
+    } = left;
+    let finished = finish(alloc, sources)?;
     Ok(Outcome {
-        ranks,
+        ranks: finished,
         record,
         ways,
     })

@@ -1,5 +1,8 @@
 //! Why a run of programs has no outcome.
 
+ghost use Rattle.std.specs.Prelude.{◌≡◌};
+ghost use Rattle.nm_programs.specs.declared.stops.Stop.TheVariants as stop;
+
 use nm_types::{Command, Memory};
 use std::fmt;
 
@@ -14,6 +17,8 @@ pub enum Stop {
 }
 
 impl From<Memory> for Stop {
+    ghost from_gives = { λ _ e. e ≡ stop.Memory };
+
     fn from(_memory: Memory) -> Stop {
         Stop::Memory
     }
