@@ -21,7 +21,8 @@ overflow_cast-rank g c =
     c.loop-source.invariant in
     let few = c.requires.few in
     let len = c.len-rank.ensures in
-    omega (arith, split, many, few, len)
+    let ok = c.loop-source.ranks.ok.0 in
+    omega (arith, split, many, few, len, ok)
 
 -- what a source with a command that never runs was told and gave
 strayed : {P : Type 0} (says : P → Option Answer → Option Command → P → Type 0) (sources : List (GivenView P))
@@ -63,9 +64,12 @@ pub returns-in-Some-stray-clause-stray : goal.returns-in-Some-stray-clause-stray
 returns-in-Some-stray-clause-stray g c =
     let rest = into_iter_items c.loop-source.source-iterator in
     let parts = c.into_parts-program.ensures in
+    let len = c.len-rank.ensures in
+    let ok = c.loop-source.ranks.ok.0 in
+    let place : c.len-rank.result ≡ length c.loop-source.ranks.items = omega (arith, len, ok) in
     strayed g.P.Program.says c.args.sources.items c.in-Some.source c.len-rank.result c.in-Some-stray.command
     (next_is (IsLeft g.P.Program.says) c.args.sources.items rest (into_iter_items c.next.new.self)
-    c.loop-source.ranks.items c.in-Some.source c.len-rank.result c.len-rank.ensures c.in-Some.ensures.steps.0
+    c.loop-source.ranks.items c.in-Some.source c.len-rank.result place c.in-Some.ensures.steps.0
     c.loop-source.invariant) (sym parts.left.2 ∙ c.in-Some-stray.is) parts.stray parts.played
 
 pub loop-source-preserved : goal.loop-source-preserved

@@ -1,12 +1,14 @@
 -- From the sources at rest to a run of programs.
 use Rattle.std.proofs.Common.{◌≡◌, ℕ, List, length, map, sym, subst, ◌∙◌, arith}
+use Rattle.std.specs.Prelude.{IfErr, IsErrAnd, Ok, Err, Result}
 use Rattle.std.specs.List.{All, AllZip}
 use Rattle.std.proofs.lemmas.Slice.Zip.{AllZip-long}
 use Rattle.nm_types.specs.declared.scripts.Command.{Command}
 use Rattle.nm_process.specs.Playing.{GivenView, gives_on, shown_by}
 use Rattle.nm_report.specs.Ends.{ends_of}
 use Rattle.nm_world.specs.Players.{BeginsAt, GoesOn}
-use Rattle.nm_programs.specs.HasRun.{commands_in}
+use Rattle.nm_programs.specs.declared.stops.Stop.{Stop}
+use Rattle.nm_programs.specs.HasRun.{IsStopped, commands_in}
 use Rattle.nm_programs.specs.Turns.{BeginsWith}
 use Rattle.nm_programs.proofs.TurnLemmas.{all_begin, all_given, all_in_range, given_at, given_in_range, programs_of, stopped_by}
 use Rattle.nm_programs.proofs.running.run_programs.Goals as goal
@@ -52,3 +54,23 @@ returns-clause-run g c =
       whole = c.in_ok-left.ensures.run (commands_in given) (all_in_range c.args.shape.ranks given in_range)
           (all_given (commands_in given) 0 left.sources.items (given_at left.sources.items));
     }
+
+-- what holds of an error holds where it is passed on
+passed_on : {A : Type 0} (r : Result A Stop) (why : Stop) (Q : Stop → Type 0) → IsErrAnd r (λ w. w ≡ why) → Q why →
+    IfErr r Q
+passed_on (Ok a) why Q is holds = tt
+passed_on (Err w) why Q is holds = subst (λ (v : Stop). Q v) (sym is) holds
+
+pub returns-in_err-finished-clause-stopped : goal.returns-in_err-finished-clause-stopped
+returns-in_err-finished-clause-stopped g c =
+    let says = g.P.Program.says in
+    let ranks = c.args.shape.ranks in
+    let programs = c.args.programs.items in
+    let begun = c.in_ok-begun.begun.items in
+    let why = (c.in_err-finished.field-0).0 in
+    let begins = subst (λ (n : ℕ). AllZip (BeginsWith n) programs begun) c.ranks.ensures.value
+    c.in_ok-begun.ensures.begins in
+    passed_on c.from_residual-in_err-finished.result why (IsStopped says ranks programs)
+    c.from_residual-in_err-finished.ensures.1
+    (stopped_by says ranks programs begun c.in_ok-left.left.sources.items why begins c.in_ok-left.ensures.goes_on
+    c.in_err-finished.ensures.stray)
