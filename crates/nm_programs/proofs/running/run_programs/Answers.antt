@@ -1,6 +1,7 @@
 -- From the sources at rest to a run of programs.
 use Rattle.std.proofs.Common.{◌≡◌, ℕ, List, length, map, sym, subst, ◌∙◌, arith}
-use Rattle.std.specs.Prelude.{IfErr, IsErrAnd, Ok, Err, Result}
+use Rattle.std.specs.Prelude.{Ok, Err, Result}
+use Rattle.std.specs.Result.{IfErr, IsErrAnd}
 use Rattle.std.specs.List.{All, AllZip}
 use Rattle.std.proofs.lemmas.Slice.Zip.{AllZip-long}
 use Rattle.nm_types.specs.declared.scripts.Command.{Command}
