@@ -1,10 +1,9 @@
 -- What the sources of a run were told and gave, as a run of programs.
-use Rattle.std.proofs.Common.{◌≡◌, ℕ, zero, suc, ◌+◌, ◌<◌, Bool, true, false, cond, Option, Some, None, List, [], ◌∷◌, ◌++◌}
-use Rattle.std.proofs.Common.{length, map, refl, sym, ◌∙◌, ap, subst, arith, append-nil}
+use Rattle.std.proofs.Common.{◌≡◌, ℕ, zero, suc, ◌+◌, Bool, true, false, cond, Option, Some, None, List, [], ◌∷◌}
+use Rattle.std.proofs.Common.{map, refl, sym, ◌∙◌, ap, subst, arith, append-nil}
 use Rattle.std.specs.Prelude.{IfSome, MatchOption, is_some, option_map, unwrap_or}
 use Rattle.std.specs.List.{All, AllByRecursion, AllZip, slice_get}
 use Rattle.std.proofs.lemmas.List.Elements.{All-cons}
-use Rattle.std.proofs.lemmas.Slice.Zip.{AllZip-long}
 use Rattle.nm_types.specs.declared.answers.Answer.{Answer}
 use Rattle.nm_types.specs.declared.scripts.Command.{Command}
 use Rattle.nm_types.specs.Commands.{Numbered}
@@ -20,8 +19,8 @@ use Rattle.nm_world.specs.Records.{HasStopped}
 use Rattle.nm_programs.specs.declared.running.Finished.{Finished}
 use Rattle.nm_programs.specs.declared.stops.Stop.{Stop}
 use Rattle.nm_programs.specs.declared.stops.Stop.TheVariants.{Memory, Range}
-use Rattle.nm_programs.specs.HasRun.{AreProgramsOf, GaveStray, IsProgramOf, IsStopped, commands_in}
-use Rattle.nm_programs.specs.Turns.{BeginsWith, HasStray, IsLeft, IsStray}
+use Rattle.nm_programs.specs.HasRun.{AreProgramsOf, IsProgramOf, IsStopped, commands_in}
+use Rattle.nm_programs.specs.Turns.{BeginsWith, IsLeft, IsStray}
 
 -- the commands of one rank are in range
 row_in_range : (ranks : ℕ) (given : List (List Command)) → AllByRecursion (AllInRange ranks) given → (i : ℕ) →

@@ -1,10 +1,9 @@
 -- From the sources at rest to a run of programs.
-use Rattle.std.proofs.Common.{◌≡◌, ℕ, List, length, map, sym, subst, ◌∙◌, arith}
+use Rattle.std.proofs.Common.{◌≡◌, ℕ, map, sym, subst, ◌∙◌, arith}
 use Rattle.std.specs.Prelude.{Ok, Err, Result}
 use Rattle.std.specs.Result.{IfErr, IsErrAnd}
 use Rattle.std.specs.List.{All, AllZip}
 use Rattle.std.proofs.lemmas.Slice.Zip.{AllZip-long}
-use Rattle.nm_types.specs.declared.scripts.Command.{Command}
 use Rattle.nm_process.specs.Playing.{GivenView, gives_on, shown_by}
 use Rattle.nm_report.specs.Ends.{ends_of}
 use Rattle.nm_world.specs.Players.{BeginsAt, GoesOn}

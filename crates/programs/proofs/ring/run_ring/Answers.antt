@@ -1,6 +1,5 @@
 -- The sums of all ranks.
-use Rattle.std.proofs.Common.{Option, List, [], ◌∷◌}
-use Rattle.nm_types.specs.declared.answers.Answer.{Answer}
+use Rattle.std.proofs.Common.{List, [], ◌∷◌}
 use Rattle.nm_types.specs.declared.scripts.Command.{Command}
 use Rattle.nm_history.specs.Quiescence.{Ended}
 use Rattle.nm_history.specs.Totals.{answers_given}
