@@ -99,7 +99,7 @@ pub fn run_ring<R: Threads + Wait + Sync>(
     links: Vec<Link>,
 ) -> Result<Outcome<Link>, Stop>
     requires many { length links.items ≡ shape.ranks }
-    ensures sums { IfOk result (λ x. AreSums links.items (ends_of x.record.ranks) x.ranks.items) }
+    ensures { IfOk result (λ x. AreSums links.items (ends_of x.record.ranks) x.ranks.items) }
 {
     run_programs(rt, alloc, shape, links, &OpenGate)
 }
