@@ -24,11 +24,12 @@ use Rattle.nm_check.specs.declared.verdicts.Verdict.{Verdict}
 use Rattle.nm_check.specs.declared.verdicts.Verdict.TheVariants.{Holds, Own, Carried, Rest, Home, Done}
 use Rattle.nm_check.specs.Evidences.{IsEvidence}
 use Rattle.nm_check.specs.Lines.{IsEventLine, IsLineAt, LineStands, Stands}
-use Rattle.nm_check.specs.Others.{IsAgainst, IsCarriedOther, IsOther, IsOtherLine, IsTakenLine, first_line, is_mate}
-use Rattle.nm_check.specs.Others.{pair_shown, sent_line}
-use Rattle.nm_check.specs.Places.{IsCountPlace, IsRestPlace, IsTracePlace, events_in, line_of}
+use Rattle.nm_check.specs.Others.{IsAgainst, IsCarriedOther, IsOther, IsOtherEvent, IsTakenBy, first_held, is_mate}
+use Rattle.nm_check.specs.Others.{held_at, pair_shown, sent_held}
+use Rattle.nm_check.specs.Places.{IsCountPlace, IsRestPlace, IsTracePlace, events_in}
 use Rattle.nm_check.specs.Stops.{lines_in}
 use Rattle.nm_check.specs.declared.breaks.evidence.Evidence.{Evidence}
+use Rattle.nm_check.specs.declared.breaks.others.Held.{Held}
 use Rattle.nm_check.specs.declared.breaks.places.Place.{Place}
 use Rattle.nm_check.specs.declared.breaks.places.Place.TheVariants.{Nowhere, Event as EventAt, Behind, Standing}
 use Rattle.nm_check.specs.declared.breaks.places.Place.TheVariants.{Count, LastLine}
@@ -41,26 +42,26 @@ module _ (shape : Sizes) (bytes : List ℕ) (run : RunRecord) (trace : IsTraceOf
   abbrev ends : List Ended
   ends = ends_of run.ranks
 
-  abbrev Told : Option ℕ → Type 0
-  Told other = IfSome other (IsEventLine bytes run)
+  abbrev Told : Option Held → Type 0
+  Told other = IfSome other (λ held. IsEventLine bytes run held.line)
 
   -- the line of an event that was found
   found_told : (y : ℕ) (at : Option ℕ) → ((k : ℕ) → at ≡ Some k → k < length (history_of ends y)) →
-      Told (option_map (line_of ends y) at)
+      Told (option_map (held_at ends y) at)
   found_told y None inside = tt
   found_told y (Some k) inside = (y, k, spot_stands shape bytes run trace few y k None (inside k refl))
 
-  first_told : (y : ℕ) (test : Happened → Bool) → Told (first_line ends y test)
+  first_told : (y : ℕ) (test : Happened → Bool) → Told (first_held ends y test)
   first_told y test =
       let none : Event = record { stamp = 0; what = Out 0 0 } in
       found_told y (position (λ e. test e.what) (history_of ends y)) (λ k is.
       (position-Some (λ (e : Event). test e.what) (history_of ends y) k none is).0)
 
-  sent_told : (x : ℕ) (pair : Option Pair) → Told (sent_line ends x pair)
+  sent_told : (x : ℕ) (pair : Option Pair) → Told (sent_held ends x pair)
   sent_told x None = tt
   sent_told x (Some p) = first_told p.arrival.env.from (is_send x p.arrival.n)
 
-  taken_told : (x n y : ℕ) (other : Option ℕ) → IsTakenLine ends x n y other → Told other
+  taken_told : (x n y : ℕ) (other : Option Held) → IsTakenBy ends x n y other → Told other
   taken_told x n y other taken =
       subst Told (sym taken.2) (found_told y taken.0 (inside taken.0 taken.1))
     where
@@ -68,14 +69,14 @@ module _ (shape : Sizes) (bytes : List ℕ) (run : RunRecord) (trace : IsTraceOf
           k < length (history_of ends y)
       inside t at k is = (subst (IsTakenAt (history_of ends y) x n) is at).inside
 
-  against_told : (lines : List Line) (x : ℕ) (before : List Event) (w : Happened) (y : ℕ) (other : Option ℕ) →
+  against_told : (lines : List Line) (x : ℕ) (before : List Event) (w : Happened) (y : ℕ) (other : Option Held) →
       IsAgainst lines ends x before w y other → Told other
   against_told lines x before (Out to n) y other is = taken_told x n y other is
   against_told lines x before (Ran line answer) y other is =
       subst Told (sym is) (sent_told x (pair_shown (commands_of x lines) before (Ran line answer)))
   against_told lines x before w y other is = subst Told (sym is) (first_told y (is_mate x w))
 
-  other_told : (lines : List Line) (i j x at : ℕ) (other : Option ℕ) → IsOtherLine lines ends i j x at other →
+  other_told : (lines : List Line) (i j x at : ℕ) (other : Option Held) → IsOtherEvent lines ends i j x at other →
       Told other
   other_told lines i j x at other is = by_event (slice_get (history_of ends x) at) is
     where
@@ -85,7 +86,7 @@ module _ (shape : Sizes) (bytes : List ℕ) (run : RunRecord) (trace : IsTraceOf
       by_event (Some e) is =
           against_told lines x (take at (history_of ends x)) e.what (if x == i then j else i) other is
 
-  carried_told : (lines : List Line) (i j : ℕ) (place : Place) (other : Option ℕ) →
+  carried_told : (lines : List Line) (i j : ℕ) (place : Place) (other : Option Held) →
       IsCarriedOther lines ends i j place other → Told other
   carried_told lines i j (EventAt x at line command) other is = other_told lines i j x at other is
   carried_told lines i j Nowhere other is = subst Told (sym is) tt
@@ -94,7 +95,7 @@ module _ (shape : Sizes) (bytes : List ℕ) (run : RunRecord) (trace : IsTraceOf
   carried_told lines i j (Count at line) other is = subst Told (sym is) tt
   carried_told lines i j (LastLine line) other is = subst Told (sym is) tt
 
-  told : (lines : List Line) (verdict : Verdict) (place : Place) (other : Option ℕ) →
+  told : (lines : List Line) (verdict : Verdict) (place : Place) (other : Option Held) →
       IsOther lines run verdict place other → Told other
   told lines (Carried c i j) place other is = carried_told lines i j place other is
   told lines Holds place other is = subst Told (sym is) tt

@@ -32,7 +32,7 @@ module _ (count : ℕ) (lines : List Line) (run : RunRecord) where
       subst (λ (j : Judgement). IsJudgement count lines run j) (sym is) (record {
         right = judged;
         placed = placed;
-        rests = record { first = refl; other = refl; incident = refl; cells = refl; counts = no_count c place not };
+        rests = record { first = refl; other = refl; against = refl; incident = refl; cells = refl; counts = no_count c place not };
       })
 
   pub home_judged : (j : Judgement) → j ≡ home_at run count → Judges lines run Home → IsJudgement count lines run j
@@ -40,7 +40,7 @@ module _ (count : ℕ) (lines : List Line) (run : RunRecord) where
       subst (λ (j : Judgement). IsJudgement count lines run j) (sym is) (record {
         right = judged;
         placed = refl;
-        rests = record { first = refl; other = refl; incident = refl; cells = refl; counts = refl };
+        rests = record { first = refl; other = refl; against = refl; incident = refl; cells = refl; counts = refl };
       })
 
   pub done_judged : (j : Judgement) → j ≡ plain_at (ends_of run.ranks) Done (LastLine count) →
@@ -49,7 +49,7 @@ module _ (count : ℕ) (lines : List Line) (run : RunRecord) where
       subst (λ (j : Judgement). IsJudgement count lines run j) (sym is) (record {
         right = judged;
         placed = refl;
-        rests = record { first = refl; other = refl; incident = refl; cells = refl; counts = refl };
+        rests = record { first = refl; other = refl; against = refl; incident = refl; cells = refl; counts = refl };
       })
 
   pub holds_judged : (j : Judgement) → j ≡ plain_at (ends_of run.ranks) Holds Nowhere →
@@ -58,7 +58,7 @@ module _ (count : ℕ) (lines : List Line) (run : RunRecord) where
       subst (λ (j : Judgement). IsJudgement count lines run j) (sym is) (record {
         right = judged;
         placed = refl;
-        rests = record { first = refl; other = refl; incident = refl; cells = refl; counts = refl };
+        rests = record { first = refl; other = refl; against = refl; incident = refl; cells = refl; counts = refl };
       })
 
   -- the place of the first count that is not the one called for

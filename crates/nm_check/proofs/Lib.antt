@@ -1,3 +1,4 @@
+mod AgainstLemmas
 pub mod CutLemmas
 mod EndLemmas
 mod EventLemmas

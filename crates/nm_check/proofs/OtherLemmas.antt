@@ -1,4 +1,4 @@
--- The other line of a rule between two ranks.
+-- The event of the other rank that an event is held against.
 use Rattle.std.proofs.Common.{◌≡◌, ℕ, ◌<◌, ◌≤◌, Option, Some, None, Bool, List, [], refl, sym, ◌∙◌, ap, subst}
 use Rattle.std.proofs.Common.{cond, get_or, length, true, false, arith}
 use Rattle.std.specs.Prelude.{IsSomeAnd, option_map, position, slice_get}
@@ -18,14 +18,15 @@ use Rattle.nm_check_rank.specs.declared.paired.tables.Tables.{Tables}
 use Rattle.nm_check_ranks.specs.Tabled.{EachTabled}
 use Rattle.nm_check_ranks.proofs.TableLemmas.{table_inside}
 use Rattle.nm_check.specs.Incidents.{place_incident}
-use Rattle.nm_check.specs.Others.{IsAgainst, IsCarriedOther, first_line, is_mate}
-use Rattle.nm_check.specs.Places.{events_in, line_of}
+use Rattle.nm_check.specs.Others.{IsAgainst, IsCarriedOther, first_held, held_at, is_mate}
+use Rattle.nm_check.specs.Places.{events_in}
+use Rattle.nm_check.specs.declared.breaks.others.Held.{Held}
 use Rattle.nm_check.specs.declared.breaks.places.Place.{Place}
 use Rattle.nm_check.specs.declared.breaks.places.Place.TheVariants.{Nowhere, Event as EventAt, Behind, Standing}
 use Rattle.nm_check.specs.declared.breaks.places.Place.TheVariants.{Count, LastLine}
 use Rattle.nm_check.proofs.SpotLemmas.{history_le, many_ends}
 
--- no event has no other line
+-- no event is held against none
 pub none_at : (lines : List Line) (ranks : List Ended) (i j : ℕ) (place : Place) →
     ((r at line : ℕ) (command : Option ℕ) → place ≡ EventAt r at line command → ⊥) →
     IsCarriedOther lines ranks i j place None
@@ -38,9 +39,9 @@ none_at lines ranks i j (LastLine line) not = refl
 
 -- an event of another kind is held against its mate
 pub against_mate : (lines : List Line) (ranks : List Ended) (x : ℕ) (before : List Event) (what : Happened) (y : ℕ)
-    (other : Option ℕ) → ((to n : ℕ) → what ≡ Out to n → ⊥) →
+    (other : Option Held) → ((to n : ℕ) → what ≡ Out to n → ⊥) →
     ((line : ℕ) (answer : Answer) → what ≡ Ran line answer → ⊥) →
-    other ≡ first_line ranks y (is_mate x what) → IsAgainst lines ranks x before what y other
+    other ≡ first_held ranks y (is_mate x what) → IsAgainst lines ranks x before what y other
 against_mate lines ranks x before (Out to n) y other not_out not_ran is = absurd (not_out to n refl)
 against_mate lines ranks x before (Ran line answer) y other not_out not_ran is = absurd (not_ran line answer refl)
 against_mate lines ranks x before what y other not_out not_ran is = is
@@ -105,10 +106,10 @@ module _ (ranks : List RankAccount) (y : ℕ) where
       subst (λ (h : List Event). k < length h) same
       (position-Some (λ (e : Event). test e.what) es k none (sym found ∙ is)).0
 
-  -- and has this line
-  pub first_at : (test : Happened → Bool) (es : List Event) (at line : Option ℕ) → es ≡ history_of (ends_of ranks) y →
-      at ≡ position (λ (e : Event). test e.what) es → line ≡ option_map (line_of (ends_of ranks) y) at →
-      line ≡ first_line (ends_of ranks) y test
-  first_at test es at line same found is =
-      is ∙ ap (λ (o : Option ℕ). option_map (line_of (ends_of ranks) y) o) found
-      ∙ ap (λ (h : List Event). option_map (line_of (ends_of ranks) y) (position (λ e. test e.what) h)) same
+  -- and is this one
+  pub first_at : (test : Happened → Bool) (es : List Event) (at : Option ℕ) (held : Option Held) → es ≡ history_of (ends_of ranks) y →
+      at ≡ position (λ (e : Event). test e.what) es → held ≡ option_map (held_at (ends_of ranks) y) at →
+      held ≡ first_held (ends_of ranks) y test
+  first_at test es at held same found is =
+      is ∙ ap (λ (o : Option ℕ). option_map (held_at (ends_of ranks) y) o) found
+      ∙ ap (λ (h : List Event). option_map (held_at (ends_of ranks) y) (position (λ e. test e.what) h)) same

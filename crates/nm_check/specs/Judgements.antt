@@ -26,6 +26,7 @@ abbrev pub happened_at : List Ended → Place → Evidence
 happened_at ranks place = record {
   first = None;
   other = None;
+  against = None;
   incident = place_incident ranks place;
   cells = None;
   counts = None;
@@ -43,6 +44,7 @@ home_at run count = record {
   why = record {
     first = None;
     other = None;
+    against = None;
     incident = None;
     cells = Some (count_of run);
     counts = None;

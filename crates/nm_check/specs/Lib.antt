@@ -1,3 +1,4 @@
+pub mod Against
 pub mod Answers
 pub mod CellCounts
 pub mod Checks
@@ -19,6 +20,7 @@ pub mod Ranked
 pub mod Sentences
 pub mod Stops
 pub mod Texts
+pub mod VerdictBetween
 pub mod VerdictCalled
 pub mod VerdictCounts
 pub mod VerdictDues

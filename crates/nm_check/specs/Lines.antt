@@ -49,4 +49,4 @@ LineStands bytes run verdict place = Unit {0}
 pub record Stands (bytes : List ℕ) (run : RunRecord) (verdict : Verdict) (place : Place) (e : Evidence) : Type 0 where
   pub event : StandsAt bytes run place
   pub line : LineStands bytes run verdict place
-  pub other : IfSome e.other (IsEventLine bytes run)
+  pub other : IfSome e.other (λ held. IsEventLine bytes run held.line)

@@ -1,4 +1,4 @@
--- The other place of a rule between two ranks.
+-- The event of the other rank that an event is held against.
 use Rattle.std.specs.Prelude.{◌≡◌, ◌==◌, ◌||◌, ℕ, Bool, true, false, if◌then◌else◌, Option, None, List}
 use Rattle.std.specs.Prelude.{MatchOption, option_and_then, option_map, position, slice_get, take}
 use Rattle.nm_types.specs.declared.scripts.Line.{Line}
@@ -16,6 +16,7 @@ use Rattle.nm_check_rank.specs.Takes.{IsTakenAt}
 use Rattle.nm_check.specs.declared.verdicts.Verdict.{Verdict}
 use Rattle.nm_check.specs.declared.verdicts.Verdict.TheVariants.{Carried}
 use Rattle.nm_check.specs.Places.{line_of}
+use Rattle.nm_check.specs.declared.breaks.others.Held.{Held}
 use Rattle.nm_check.specs.declared.breaks.places.Place.{Place}
 use Rattle.nm_check.specs.declared.breaks.places.Place.TheVariants.{Event as EventAt}
 
@@ -31,45 +32,49 @@ is_mate x (Withdraw from n done) other = is_recall x n other
 is_mate x (Undone to n done) other = is_withdrawal x n other
 is_mate x what other = false
 
--- the line of the trace with the first event of rank y that passes a test
-abbrev pub first_line : List Ended → ℕ → (Happened → Bool) → Option ℕ
-first_line ranks y test = option_map (line_of ranks y) (position (λ e. test e.what) (history_of ranks y))
+-- the event of rank y at a place, with its line of the trace
+abbrev pub held_at : List Ended → ℕ → ℕ → Held
+held_at ranks y k = record { rank = y; at = k; line = line_of ranks y k }
 
--- .. with that by which a receive of rank y took message n of rank x, if one did
-abbrev pub IsTakenLine : List Ended → ℕ → ℕ → ℕ → Option ℕ → Type 0
-IsTakenLine ranks x n y other =
-    (t : Option ℕ) × IsTakenAt (history_of ranks y) x n t × (other ≡ option_map (line_of ranks y) t)
+-- the first event of rank y that passes a test
+abbrev pub first_held : List Ended → ℕ → (Happened → Bool) → Option Held
+first_held ranks y test = option_map (held_at ranks y) (position (λ e. test e.what) (history_of ranks y))
+
+-- it is that by which a receive of rank y took message n of rank x, if one did
+abbrev pub IsTakenBy : List Ended → ℕ → ℕ → ℕ → Option Held → Type 0
+IsTakenBy ranks x n y other =
+    (t : Option ℕ) × IsTakenAt (history_of ranks y) x n t × (other ≡ option_map (held_at ranks y) t)
 
 -- the pair whose message an answer shows
 abbrev pub pair_shown : List Numbered → List Event → Happened → Option Pair
 pair_shown commands before (Ran line answer) = option_and_then (asked_pair commands before) (command_at commands line)
 pair_shown commands before what = None
 
--- .. with the send of the message that a pair of rank x has
-abbrev pub sent_line : List Ended → ℕ → Option Pair → Option ℕ
-sent_line ranks x pair =
-    option_and_then (λ p. first_line ranks p.arrival.env.from (is_send x p.arrival.n)) pair
+-- the send of the message that a pair of rank x has
+abbrev pub sent_held : List Ended → ℕ → Option Pair → Option Held
+sent_held ranks x pair =
+    option_and_then (λ p. first_held ranks p.arrival.env.from (is_send x p.arrival.n)) pair
 
--- The event of rank x with this before it is held against this line of rank y: a message that left, against the
+-- The event of rank x with this before it is held against this one of rank y: a message that left, against the
 -- event by which a receive took it, and an answer, against the send of the message that it shows.
-abbrev pub IsAgainst : List Line → List Ended → ℕ → List Event → Happened → ℕ → Option ℕ → Type 0
-IsAgainst lines ranks x before (Out to n) y other = IsTakenLine ranks x n y other
+abbrev pub IsAgainst : List Line → List Ended → ℕ → List Event → Happened → ℕ → Option Held → Type 0
+IsAgainst lines ranks x before (Out to n) y other = IsTakenBy ranks x n y other
 IsAgainst lines ranks x before (Ran line answer) y other =
-    other ≡ sent_line ranks x (pair_shown (commands_of x lines) before (Ran line answer))
-IsAgainst lines ranks x before what y other = other ≡ first_line ranks y (is_mate x what)
+    other ≡ sent_held ranks x (pair_shown (commands_of x lines) before (Ran line answer))
+IsAgainst lines ranks x before what y other = other ≡ first_held ranks y (is_mate x what)
 
 -- .. of the event of rank x at a place, where x is rank i or rank j
-abbrev pub IsOtherLine : List Line → List Ended → ℕ → ℕ → ℕ → ℕ → Option ℕ → Type 0
-IsOtherLine lines ranks i j x at other =
+abbrev pub IsOtherEvent : List Line → List Ended → ℕ → ℕ → ℕ → ℕ → Option Held → Type 0
+IsOtherEvent lines ranks i j x at other =
     MatchOption (slice_get (history_of ranks x) at) (other ≡ None)
     (λ e. IsAgainst lines ranks x (take at (history_of ranks x)) e.what (if x == i then j else i) other)
 
--- the other line of a place at which the messages from rank i to rank j break a rule
-abbrev pub IsCarriedOther : List Line → List Ended → ℕ → ℕ → Place → Option ℕ → Type 0
-IsCarriedOther lines ranks i j (EventAt x at line command) other = IsOtherLine lines ranks i j x at other
+-- .. of a place at which the messages from rank i to rank j break a rule
+abbrev pub IsCarriedOther : List Line → List Ended → ℕ → ℕ → Place → Option Held → Type 0
+IsCarriedOther lines ranks i j (EventAt x at line command) other = IsOtherEvent lines ranks i j x at other
 IsCarriedOther lines ranks i j place other = other ≡ None
 
 -- .. of a verdict's place
-abbrev pub IsOther : List Line → RunRecord → Verdict → Place → Option ℕ → Type 0
+abbrev pub IsOther : List Line → RunRecord → Verdict → Place → Option Held → Type 0
 IsOther lines run (Carried clause i j) place other = IsCarriedOther lines (ends_of run.ranks) i j place other
 IsOther lines run verdict place other = other ≡ None

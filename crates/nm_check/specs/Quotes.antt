@@ -36,7 +36,7 @@ told_line found = None
 
 -- .. and that of the other rank's event that it is held against, if it is held against one
 abbrev pub other_line : Found → Option ℕ
-other_line (Judged before j run) = option_map (λ line. before + 1 + line) j.why.other
+other_line (Judged before j run) = option_map (λ held. before + 1 + held.line) j.why.other
 other_line found = None
 
 -- the bytes of a line of the whole input, counted from 1, if it is told

@@ -1,5 +1,6 @@
 -- What is said of what was found: the line and its bytes, what stands against it, and the rule.
 use Rattle.std.specs.Prelude.{ℕ, ◌+◌, ◌==◌, if◌then◌else◌, List, [], ◌++◌, Option, Some, None, codes, decimal}
+use Rattle.std.specs.Prelude.{option_map}
 use Rattle.nm_check.specs.declared.verdicts.Verdict.{Verdict}
 use Rattle.nm_check.specs.declared.verdicts.Verdict.TheVariants.{Holds, Own, Carried, Rest, Home, Done}
 use Rattle.nm_check_rank.specs.declared.clauses.OwnClause.{OwnClause}
@@ -15,6 +16,7 @@ use Rattle.nm_check.specs.declared.breaks.places.Place.TheVariants.{Event, Stand
 use Rattle.nm_check.specs.declared.breaks.stops.Stop.{Stop}
 use Rattle.nm_check.specs.declared.verdict.quotes.Quotes.{Quotes}
 use Rattle.nm_check.specs.OwnFirsts.{due_of, rule_of}
+use Rattle.nm_check.specs.VerdictBetween.{against_words}
 use Rattle.nm_check.specs.VerdictCounts.{miscount_words}
 use Rattle.nm_check.specs.VerdictDues.{due_words}
 use Rattle.nm_check.specs.VerdictIncidents.{where_words}
@@ -67,7 +69,8 @@ other_words before None = codes "the other rank has no event that it is held aga
 -- what stands against the event at which the messages from one rank to another break a rule first
 abbrev pub carried_against : ℕ → Place → Evidence → List ℕ
 carried_against before (Event r at line command) why =
-    event_words command why.incident ++ (codes ": " ++ other_words before why.other)
+    event_words command why.incident
+    ++ (codes ": " ++ (against_words why.against ++ other_words before (option_map (λ held. held.line) why.other)))
 carried_against before place why = codes ""
 
 -- a sender and a receiver

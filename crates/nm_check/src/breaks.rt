@@ -29,13 +29,14 @@
 //! # What is only tested
 //! That `find` succeeds with ample memory.
 
+pub mod against;
 pub mod cells;
 pub mod counts;
 pub mod evidence;
 mod finding;
 pub mod incidents;
 pub mod judgements;
-mod others;
+pub mod others;
 mod places;
 mod placing;
 pub(crate) mod stops;

@@ -22,6 +22,7 @@
 //! That it succeeds with ample memory.
 
 mod answers;
+mod between;
 mod called;
 mod counts;
 mod dues;

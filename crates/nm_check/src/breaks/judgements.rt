@@ -12,6 +12,7 @@ ghost use Rattle.nm_check.specs.Places.{events_in};
 ghost use Rattle.nm_check.specs.Verdicts.{Judges};
 ghost use Rattle.nm_check.specs.declared.verdicts.Verdict.TheVariants.{Carried, Holds, Own, Rest};
 
+use crate::breaks::against::against_of;
 use crate::breaks::cells::count_of;
 use crate::breaks::counts::first_counted;
 use crate::breaks::evidence::Evidence;
@@ -43,6 +44,7 @@ fn happened_at(run: &RunRecord, place: Place) -> Evidence
     Evidence {
         first: None,
         other: None,
+        against: None,
         incident: place_incident(run, place),
         cells: None,
         counts: None,
@@ -102,11 +104,13 @@ fn carried_judgement(
     let ranks = run.ranks.as_slice();
     let place = carried_place(script, run, tables, clause, from, to);
     let other = carried_other(lines, ranks, tables, from, to, place);
+    let against = against_of(ranks, place, other);
     Judgement {
         verdict: Verdict::Carried { clause, from, to },
         place,
         why: Evidence {
             other,
+            against,
             ..happened_at(run, place)
         },
     }

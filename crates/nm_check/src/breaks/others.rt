@@ -1,4 +1,4 @@
-//! The other place of a rule between two ranks.
+//! The event of the other rank that an event is held against.
 
 ghost use Rattle.std.specs.Prelude.{◌≡◌, ◌<◌, ◌≤◌, ◌==◌, ℕ, if◌then◌else◌, Some, length, slice_get};
 ghost use Rattle.std.specs.Prelude.{option_map, position, take};
@@ -11,10 +11,10 @@ ghost use Rattle.nm_history.specs.Happens.{is_recall as is_recall_lem, is_send a
 ghost use Rattle.nm_history.specs.Quiescence.{history_of};
 ghost use Rattle.nm_check_ranks.specs.Tabled.{AreTabled, EachTabled};
 ghost use Rattle.nm_check.specs.Others as spec;
-ghost use Rattle.nm_check.specs.Others.{IsAgainst, IsCarriedOther, IsOtherLine, IsTakenLine};
+ghost use Rattle.nm_check.specs.Others.{IsAgainst, IsCarriedOther, IsOtherEvent, IsTakenBy};
 ghost use Rattle.nm_check.specs.Others.{is_mate as is_mate_lem, is_withdrawal as is_withdrawal_lem};
 ghost use Rattle.nm_check.specs.Others.{pair_shown};
-ghost use Rattle.nm_check.specs.Places.{events_in, line_of as line_of_lem};
+ghost use Rattle.nm_check.specs.Places.{events_in};
 
 use crate::breaks::places::{Place, events_of, line_of};
 use nm_check_rank::paired::tables::Tables;
@@ -22,6 +22,15 @@ use nm_history::plain::Pair;
 use nm_history::{Event, Happened};
 use nm_report::RankAccount;
 use nm_types::Line;
+
+/// An event that another one is held against: its rank, its place there, counted from 0, and its
+/// line of the trace, counted from 1.
+#[derive(Clone, Copy)]
+pub struct Held {
+    pub rank: u8,
+    pub at: usize,
+    pub line: u32,
+}
 
 /// Message n was sent to this rank.
 fn is_send(to: u8, n: u64, what: &Happened) -> bool
@@ -76,14 +85,18 @@ fn is_mate(x: u8, what: &Happened, other: &Happened) -> bool
     }
 }
 
-/// The line of an event of rank y, by its place.
-fn line_at(ranks: &[RankAccount], y: u8, at: Option<usize>) -> Option<u32>
+/// An event of rank y, by its place.
+fn held_at(ranks: &[RankAccount], y: u8, at: Option<usize>) -> Option<Held>
     requires short { events_in (ends_of ranks.now) ≤ 67108864 }
     requires inside { (k : ℕ) → at ≡ Some k → k < length (history_of (ends_of ranks.now) y) }
-    ensures { result ≡ option_map (line_of_lem (ends_of ranks.now) y) at }
+    ensures { result ≡ option_map (spec.held_at (ends_of ranks.now) y) at }
 {
     match at {
-        Some(at) => Some(line_of(ranks, y, at)),
+        Some(at) => Some(Held {
+            rank: y,
+            at,
+            line: line_of(ranks, y, at),
+        }),
         None => None,
     }
 }
@@ -102,72 +115,72 @@ fn send_at(events: &[Event], x: u8, n: u64) -> Option<usize>
     events.iter().position(|e| is_send(x, n, &e.what))
 }
 
-/// The line of the first event of rank y that what happened at rank x is held against.
-fn mate_line(ranks: &[RankAccount], x: u8, what: &Happened, y: u8) -> Option<u32>
+/// The first event of rank y that what happened at rank x is held against.
+fn mate_of(ranks: &[RankAccount], x: u8, what: &Happened, y: u8) -> Option<Held>
     requires { events_in (ends_of ranks.now) ≤ 67108864 }
-    ensures { result ≡ spec.first_line (ends_of ranks.now) y (is_mate_lem x what.now) }
+    ensures { result ≡ spec.first_held (ends_of ranks.now) y (is_mate_lem x what.now) }
 {
     let at = mate_at(events_of(ranks, y), x, what);
-    line_at(ranks, y, at)
+    held_at(ranks, y, at)
 }
 
-/// The line of the send of message n of rank y to rank x.
-fn send_line(ranks: &[RankAccount], x: u8, n: u64, y: u8) -> Option<u32>
+/// The send of message n of rank y to rank x.
+fn send_of(ranks: &[RankAccount], x: u8, n: u64, y: u8) -> Option<Held>
     requires { events_in (ends_of ranks.now) ≤ 67108864 }
-    ensures { result ≡ spec.first_line (ends_of ranks.now) y (is_send_lem x n) }
+    ensures { result ≡ spec.first_held (ends_of ranks.now) y (is_send_lem x n) }
 {
     let at = send_at(events_of(ranks, y), x, n);
-    line_at(ranks, y, at)
+    held_at(ranks, y, at)
 }
 
-/// The line of the event by which a receive of rank y took message n of rank x.
-fn taken_line(ranks: &[RankAccount], tables: &[Tables], x: u8, n: u64, y: u8) -> Option<u32>
+/// The event by which a receive of rank y took message n of rank x.
+fn taken_by(ranks: &[RankAccount], tables: &[Tables], x: u8, n: u64, y: u8) -> Option<Held>
     requires known { y < length ranks.now }
     requires short { events_in (ends_of ranks.now) ≤ 67108864 }
     requires tabled { AreTabled (ends_of ranks.now) tables.now }
-    ensures { IsTakenLine (ends_of ranks.now) x n y result }
+    ensures { IsTakenBy (ends_of ranks.now) x n y result }
 {
     let i = y as usize;
     let at = tables[i].taken_at(x, n);
-    line_at(ranks, y, at)
+    held_at(ranks, y, at)
 }
 
-/// The line of the send of the message that a pair of rank x has.
-fn sent_line(ranks: &[RankAccount], x: u8, pair: Option<Pair>) -> Option<u32>
+/// The send of the message that a pair of rank x has.
+fn sent_of(ranks: &[RankAccount], x: u8, pair: Option<Pair>) -> Option<Held>
     requires { events_in (ends_of ranks.now) ≤ 67108864 }
-    ensures { result ≡ spec.sent_line (ends_of ranks.now) x pair }
+    ensures { result ≡ spec.sent_held (ends_of ranks.now) x pair }
 {
     match pair {
-        Some(pair) => send_line(ranks, x, pair.arrival.n, pair.arrival.env.from),
+        Some(pair) => send_of(ranks, x, pair.arrival.n, pair.arrival.env.from),
         None => None,
     }
 }
 
-/// The line of the send of the message that the answer to the command of a line of rank x shows.
-fn shown_line(
+/// The send of the message that the answer to the command of a line of rank x shows.
+fn shown_by(
     lines: &[Line],
     ranks: &[RankAccount],
     tables: &[Tables],
     x: u8,
     at: usize,
     line: u32,
-) -> Option<u32>
+) -> Option<Held>
     requires known { x < length ranks.now }
     requires short { events_in (ends_of ranks.now) ≤ 67108864 }
     requires tabled { EachTabled lines.now (ends_of ranks.now) tables.now }
     ensures { (e : event.Event) (answer : given_answer.Answer) →
         slice_get (history_of (ends_of ranks.now) x) at ≡ Some e → e.what ≡ Ran line answer →
-        result ≡ spec.sent_line (ends_of ranks.now) x
+        result ≡ spec.sent_held (ends_of ranks.now) x
         (pair_shown (commands_of x lines.now) (take at (history_of (ends_of ranks.now) x))
         (Ran line answer)) }
 {
     let i = x as usize;
     let pair = tables[i].pair_asked(x, lines, at, line);
-    sent_line(ranks, x, pair)
+    sent_of(ranks, x, pair)
 }
 
-/// The line of rank y that the event at a place of rank x is held against.
-fn line_against(
+/// The event of rank y that the one at a place of rank x is held against.
+fn held_against(
     lines: &[Line],
     ranks: &[RankAccount],
     tables: &[Tables],
@@ -175,7 +188,7 @@ fn line_against(
     at: usize,
     what: &Happened,
     y: u8,
-) -> Option<u32>
+) -> Option<Held>
     requires known { x < length ranks.now }
     requires other { y < length ranks.now }
     requires short { events_in (ends_of ranks.now) ≤ 67108864 }
@@ -185,9 +198,9 @@ fn line_against(
         (take at (history_of (ends_of ranks.now) x)) what.now y result }
 {
     match what {
-        Happened::Out { n, .. } => taken_line(ranks, tables, x, *n, y),
-        Happened::Ran { line, .. } => shown_line(lines, ranks, tables, x, at, *line),
-        _ => mate_line(ranks, x, what, y),
+        Happened::Out { n, .. } => taken_by(ranks, tables, x, *n, y),
+        Happened::Ran { line, .. } => shown_by(lines, ranks, tables, x, at, *line),
+        _ => mate_of(ranks, x, what, y),
     }
 }
 
@@ -198,8 +211,8 @@ fn other_rank(i: u8, j: u8, x: u8) -> u8
     if x == i { j } else { i }
 }
 
-/// The line that the event of rank x at a place is held against, where x is rank i or rank j.
-fn other_line(
+/// What the event of rank x at a place is held against, where x is rank i or rank j.
+fn other_event(
     lines: &[Line],
     ranks: &[RankAccount],
     tables: &[Tables],
@@ -207,22 +220,22 @@ fn other_line(
     j: u8,
     x: u8,
     at: usize,
-) -> Option<u32>
+) -> Option<Held>
     requires sender { i < length ranks.now }
     requires receiver { j < length ranks.now }
     requires short { events_in (ends_of ranks.now) ≤ 67108864 }
     requires tabled { EachTabled lines.now (ends_of ranks.now) tables.now }
-    ensures { IsOtherLine lines.now (ends_of ranks.now) i j x at result }
+    ensures { IsOtherEvent lines.now (ends_of ranks.now) i j x at result }
 {
     let events = events_of(ranks, x);
     if at >= events.len() {
         return None;
     }
     let y = other_rank(i, j, x);
-    line_against(lines, ranks, tables, x, at, &events[at].what, y)
+    held_against(lines, ranks, tables, x, at, &events[at].what, y)
 }
 
-/// The other line of a place at which the messages from rank i to rank j break a rule.
+/// .. of a place at which the messages from rank i to rank j break a rule.
 pub fn carried_other(
     lines: &[Line],
     ranks: &[RankAccount],
@@ -230,7 +243,7 @@ pub fn carried_other(
     i: u8,
     j: u8,
     place: Place,
-) -> Option<u32>
+) -> Option<Held>
     requires sender { i < length ranks.now }
     requires receiver { j < length ranks.now }
     requires short { events_in (ends_of ranks.now) ≤ 67108864 }
@@ -238,7 +251,7 @@ pub fn carried_other(
     ensures { IsCarriedOther lines.now (ends_of ranks.now) i j place result }
 {
     match place {
-        Place::Event { rank, at, .. } => other_line(lines, ranks, tables, i, j, rank, at),
+        Place::Event { rank, at, .. } => other_event(lines, ranks, tables, i, j, rank, at),
         _ => None,
     }
 }

@@ -7,6 +7,7 @@ ghost use Rattle.nm_check.specs.Quotes.{quotes_of, text_at as text_at_lem};
 ghost use Rattle.nm_check.specs.Quotes.{told_line as told_line_lem};
 
 use crate::breaks::counts::Miscount;
+use crate::breaks::others::Held;
 use crate::breaks::stops::line_at;
 use crate::breaks::{Evidence, Found, Place};
 use nm_types::{Bytes, Memory};
@@ -89,6 +90,16 @@ fn told_line(found: &Found) -> Option<u64>
     }
 }
 
+/// The line of the trace of an event that another one is held against.
+pub fn held_line(held: Option<Held>) -> Option<u32>
+    ensures { result ≡ option_map (λ held. held.line) held }
+{
+    match held {
+        Some(held) => Some(held.line),
+        None => None,
+    }
+}
+
 /// The line of the whole input, counted from 1, of the other rank's event that it is held against.
 fn other_line(found: &Found) -> Option<u64>
     ensures { result ≡ other_line_lem found.now }
@@ -98,7 +109,7 @@ fn other_line(found: &Found) -> Option<u64>
             before,
             judgement,
             ..
-        } => whole_line(*before, judgement.why.other),
+        } => whole_line(*before, held_line(judgement.why.other)),
         Found::NoTrace => None,
         Found::NoScript { .. } => None,
         Found::BadTrace { .. } => None,

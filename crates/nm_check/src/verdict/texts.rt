@@ -9,10 +9,11 @@ ghost use Rattle.nm_check.specs.VerdictTexts.{done_rule, home_rule, quote_words}
 use crate::breaks::cells::CellCount;
 use crate::breaks::incidents::Incident;
 use crate::breaks::{Evidence, Found, Judgement, Place, Stop};
+use crate::verdict::between::against_words;
 use crate::verdict::counts::miscount_words;
 use crate::verdict::dues::due_words;
 use crate::verdict::incidents::where_words;
-use crate::verdict::quotes::{Quotes, place_line};
+use crate::verdict::quotes::{Quotes, held_line, place_line};
 use crate::verdict::sentences::{
     carried_words, kind_words, left_words, own_words, rest_words, stop_words,
 };
@@ -136,8 +137,9 @@ fn carried_against(
     match place {
         Place::Event { command, .. } => {
             let event = event_words(alloc, command, why.incident)?;
-            let other = other_words(alloc, before, why.other)?;
-            format!(in alloc; "{}: {}", event, other)
+            let between = against_words(alloc, why.against)?;
+            let other = other_words(alloc, before, held_line(why.other))?;
+            format!(in alloc; "{}: {}{}", event, between, other)
         }
         _ => format!(in alloc; ""),
     }

@@ -28,6 +28,7 @@ returns c = λ count. record {
   rests = record {
     first = ap (λ (e : Evidence). e.first) c.happened_at.ensures;
     other = rw (c.as_slice-ranks.ensures, c.as_slice-lines.ensures) at c.carried_other-other.ensures;
+    against = rw c.as_slice-ranks.ensures at c.against_of-against.ensures;
     incident = ap (λ (e : Evidence). e.incident) c.happened_at.ensures;
     cells = ap (λ (e : Evidence). e.cells) c.happened_at.ensures;
     counts = ap (λ (e : Evidence). e.counts) c.happened_at.ensures;

@@ -1,4 +1,4 @@
-use Rattle.std.proofs.Common.{◌≡◌, ◌≤◌, ◌+◌, length, ap, arith}
+use Rattle.std.proofs.Common.{◌≡◌, ◌≤◌, ◌+◌, ◌∙◌, Option, length, ap, arith, sym}
 use Rattle.std.proofs.lemmas.List.{length-map}
 use Rattle.nm_report.specs.Ends.{ends_of, packets_of}
 use Rattle.nm_check_rank.proofs.DifferLemmas.{differ_inside}
@@ -8,6 +8,9 @@ use Rattle.nm_history.specs.Quiescence.{packets_of as packets_due}
 use Rattle.nm_check.specs.Miscounts.{AreCounted, IsFirstCounted}
 use Rattle.nm_check.specs.Places.{events_in}
 use Rattle.nm_check.specs.Verdicts.{BreaksRest}
+use Rattle.nm_check.specs.Against.{against_of}
+use Rattle.nm_check.specs.declared.breaks.others.Held.{Held}
+use Rattle.nm_check.specs.declared.breaks.places.Place.TheVariants.{Count}
 use Rattle.nm_check.specs.declared.breaks.evidence.Evidence.{Evidence}
 use Rattle.nm_check.proofs.JudgementLemmas.{count_placed}
 use Rattle.nm_check.proofs.breaks.judgements.counts_judgement.Goals as goal
@@ -50,6 +53,9 @@ returns-in-Some c = λ count.
       rests = record {
         first = ap (λ (e : Evidence). e.first) c.happened_at.ensures;
         other = ap (λ (e : Evidence). e.other) c.happened_at.ensures;
+        against = ap (λ (e : Evidence). e.against) c.happened_at.ensures
+            ∙ sym (ap (λ (o : Option Held). against_of (ends_of c.args.run.now.ranks)
+            (Count c.in-Some.told.at c.count_line.result) o) (ap (λ (e : Evidence). e.other) c.happened_at.ensures));
         incident = ap (λ (e : Evidence). e.incident) c.happened_at.ensures;
         cells = ap (λ (e : Evidence). e.cells) c.happened_at.ensures;
         counts = counted.counted;

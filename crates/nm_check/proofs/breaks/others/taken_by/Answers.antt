@@ -4,13 +4,13 @@ use Rattle.nm_check_rank.specs.Takes.{IsTakenAt}
 use Rattle.nm_history.specs.Quiescence.{history_of}
 use Rattle.nm_check_ranks.proofs.TableLemmas.{table_inside}
 use Rattle.nm_check.proofs.OtherLemmas.{tables_here}
-use Rattle.nm_check.proofs.breaks.others.taken_line.Goals as goal
+use Rattle.nm_check.proofs.breaks.others.taken_by.Goals as goal
 
 pub bounds-tables-i : goal.bounds-tables-i
 bounds-tables-i c = table_inside c.args.ranks.now c.args.tables.now c.args.y c.requires.tabled c.requires.known
 
-pub line_at-requires-clause-inside : goal.line_at-requires-clause-inside
-line_at-requires-clause-inside c = λ k is.
+pub held_at-requires-clause-inside : goal.held_at-requires-clause-inside
+held_at-requires-clause-inside c = λ k is.
     let h = history_of (ends_of c.args.ranks.now) c.args.y in
     (subst (λ (o : Option ℕ). IsTakenAt h c.args.x c.args.n o) is
     (c.taken_at-at.ensures c.args.y c.requires.tabled.0 h (tables_here c.requires.tabled.0 c.args.ranks.now
@@ -22,5 +22,5 @@ returns c = (
   c.taken_at-at.ensures c.args.y c.requires.tabled.0 (history_of (ends_of c.args.ranks.now) c.args.y)
       (tables_here c.requires.tabled.0 c.args.ranks.now c.args.tables.now c.args.y c.index-tables-i.result
       c.requires.tabled.1 c.requires.known c.index-tables-i.is),
-  c.line_at.ensures,
+  c.held_at.ensures,
 )

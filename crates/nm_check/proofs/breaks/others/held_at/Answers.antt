@@ -1,5 +1,5 @@
 use Rattle.nm_check.proofs.OtherLemmas.{early_in, known_in}
-use Rattle.nm_check.proofs.breaks.others.line_at.Goals as goal
+use Rattle.nm_check.proofs.breaks.others.held_at.Goals as goal
 
 pub line_of-requires : goal.line_of-requires
 line_of-requires c =

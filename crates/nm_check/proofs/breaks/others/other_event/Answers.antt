@@ -6,10 +6,11 @@ use Rattle.nm_history.specs.declared.events.Event.{Event}
 use Rattle.nm_history.specs.Quiescence.{history_of}
 use Rattle.nm_report.specs.Ends.{ends_of}
 use Rattle.nm_check.specs.Others.{IsAgainst}
+use Rattle.nm_check.specs.declared.breaks.others.Held.{Held}
 use Rattle.nm_check.proofs.OtherLemmas.{known_in, one_of}
-use Rattle.nm_check.proofs.breaks.others.other_line.Goals as goal
+use Rattle.nm_check.proofs.breaks.others.other_event.Goals as goal
 
-abbrev nothing : Option ℕ
+abbrev nothing : Option Held
 nothing = None
 
 pub returns-then-at-events : goal.returns-then-at-events
@@ -24,8 +25,8 @@ returns-then-at-events c =
     (λ e. IsAgainst c.args.lines.now ends c.args.x (take c.args.at h) e.what
     (cond (c.args.x == c.args.i) c.args.j c.args.i) nothing)) (sym none) refl
 
-pub line_against-requires : goal.line_against-requires
-line_against-requires c =
+pub held_against-requires : goal.held_against-requires
+held_against-requires c =
     let here : c.args.at < length c.events_of-events.result.now = omega (arith, c.if-at-events.false) in
     let inside : c.args.at < length (history_of (ends_of c.args.ranks.now) c.args.x) =
     rw c.events_of-events.ensures at here in
@@ -47,8 +48,8 @@ returns c =
     let there : slice_get h c.args.at ≡ Some e =
     ap (λ (g : List Event). slice_get g c.args.at) (sym c.events_of-events.ensures)
     ∙ slice_get-get_or es c.args.at c.index-events-at.result inside in
-    subst (λ (o : Option Event). MatchOption o (c.line_against.result ≡ None)
+    subst (λ (o : Option Event). MatchOption o (c.held_against.result ≡ None)
     (λ e. IsAgainst c.args.lines.now ends c.args.x (take c.args.at h) e.what
-    (cond (c.args.x == c.args.i) c.args.j c.args.i) c.line_against.result)) (sym there)
-    (subst (λ (y : ℕ). IsAgainst c.args.lines.now ends c.args.x (take c.args.at h) e.what y c.line_against.result)
-    c.other_rank-y.ensures (c.line_against.ensures e there refl))
+    (cond (c.args.x == c.args.i) c.args.j c.args.i) c.held_against.result)) (sym there)
+    (subst (λ (y : ℕ). IsAgainst c.args.lines.now ends c.args.x (take c.args.at h) e.what y c.held_against.result)
+    c.other_rank-y.ensures (c.held_against.ensures e there refl))

@@ -1,13 +1,13 @@
 use Rattle.nm_check.specs.Others.{is_mate}
 use Rattle.nm_check.proofs.OtherLemmas.{first_at, first_inside}
-use Rattle.nm_check.proofs.breaks.others.mate_line.Goals as goal
+use Rattle.nm_check.proofs.breaks.others.mate_of.Goals as goal
 
-pub line_at-requires-clause-inside : goal.line_at-requires-clause-inside
-line_at-requires-clause-inside c =
+pub held_at-requires-clause-inside : goal.held_at-requires-clause-inside
+held_at-requires-clause-inside c =
     first_inside c.args.ranks.now c.args.y (is_mate c.args.x c.args.what.now) c.events_of.result.now
     c.mate_at-at.result c.events_of.ensures c.mate_at-at.ensures
 
 pub returns : goal.returns
 returns c =
     first_at c.args.ranks.now c.args.y (is_mate c.args.x c.args.what.now) c.events_of.result.now
-    c.mate_at-at.result c.line_at.result c.events_of.ensures c.mate_at-at.ensures c.line_at.ensures
+    c.mate_at-at.result c.held_at.result c.events_of.ensures c.mate_at-at.ensures c.held_at.ensures
