@@ -1,0 +1,3 @@
+mod NearLemmas
+mod StateLemmas
+mod WaitLemmas

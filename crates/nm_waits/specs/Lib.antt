@@ -1,0 +1,4 @@
+pub mod Chains
+pub mod Near
+pub mod States
+pub mod Waits
