@@ -1,0 +1,7 @@
+mod CandidateLemmas
+mod CureLemmas
+mod HangLemmas
+mod LeastLemmas
+mod LimitLemmas
+mod ListLemmas
+mod PartLemmas

@@ -1,0 +1,7 @@
+pub mod Candidates
+pub mod Changes
+pub mod Cures
+pub mod Hangs
+pub mod Least
+pub mod Lists
+pub mod Parts
