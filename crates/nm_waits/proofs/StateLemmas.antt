@@ -1,5 +1,5 @@
 -- The states of the ranks after moves, one move after another.
-use Rattle.std.proofs.Common.{◌≡◌, ℕ, zero, suc, ◌+◌, ◌-◌, ◌<◌, ◌≤◌, Some, List, [], ◌∷◌, ◌++◌, length, drop, refl}
+use Rattle.std.proofs.Common.{◌≡◌, ℕ, zero, suc, ◌+◌, ◌-◌, ◌<◌, ◌≤◌, Some, List, [], ◌∷◌, length, drop, refl}
 use Rattle.std.proofs.Common.{sym, ◌∙◌, ap, arith, replicate}
 use Rattle.std.specs.List.{slice_get, slice_set}
 use Rattle.std.specs.Option.{option_map_or}
@@ -57,11 +57,3 @@ way_states eager ranks lines (t ∷ ts) state way =
     ap (λ (before : List Spot). states_next before t) (way_states eager ranks lines ts way.0 way.1)
     ∙ ap (λ (x : Option Spot). option_map_or (λ spot. slice_set way.0 t.rank (moved_at spot t.by)) x way.0) way.2.here
     ∙ sym way.3
-
--- one element more
-pub replicate_next : {X : Type 0} (n : ℕ) (x : X) → replicate (n + 1) x ≡ replicate n x ++ x ∷ []
-replicate_next {X} n x = let e : n + 1 ≡ suc n = omega arith in ap (λ (k : ℕ). replicate k x) e ∙ more n
-  where
-    more : (n : ℕ) → replicate (suc n) x ≡ replicate n x ++ x ∷ []
-    more zero = refl
-    more (suc n) = ap (λ (xs : List X). x ∷ xs) (more n)

@@ -8,7 +8,8 @@ use Rattle.nm_outcomes.specs.RankStates.{Spot, first_spot}
 
 -- the states of the ranks after one move more
 abbrev pub states_next : List Spot → Turn → List Spot
-states_next states t = option_map_or (λ spot. slice_set states t.rank (moved_at spot t.by)) (slice_get states t.rank) states
+states_next states t =
+    option_map_or (λ spot. slice_set states t.rank (moved_at spot t.by)) (slice_get states t.rank) states
 
 -- .. after these moves, the newest first, where no rank did anything before
 abbrev pub states_by : ℕ → List Turn → List Spot

@@ -4,4 +4,6 @@ use Rattle.nm_waits.specs.Near.{first_said, send_line}
 use Rattle.nm_waits.proofs.near.line_of_send.Given as goal
 
 abbrev pub invariant-loop-deed : goal.invariant-loop-deed
-invariant-loop-deed l = first_said (send_line l.to l.n) (drop l.deed-index l.deeds) ≡ first_said (send_line l.to l.n) l.deeds
+invariant-loop-deed l =
+    first_said (send_line l.to l.n) (drop l.deed-index l.deeds)
+    ≡ first_said (send_line l.to l.n) l.deeds
