@@ -45,6 +45,13 @@ fn run<R: Threads + Wait + Sync, P: Program + Send>(
     Ok(outcome.ranks)
 }
 
+// The ring at its end.
+fn summed<R: Threads + Wait + Sync>(rt: &R, alloc: Global) -> Result<Vec<Finished<Link>>, Fail> {
+    let links = ring::links(alloc)?;
+    let outcome = run_ring(rt, alloc, shape_of(5)?, links)?;
+    Ok(outcome.ranks)
+}
+
 fn show_ping_pong(rt: &HostRuntime, ranks: Vec<Finished<Player>>) -> Result<(), Fail> {
     for (rank, finished) in ranks.iter().enumerate() {
         println!(rt;
@@ -96,7 +103,7 @@ fn show_rod(rt: &HostRuntime, one: Vec<u64>, four: Vec<u64>) -> Result<(), Fail>
 fn main(rt: HostRuntime) -> Result<(), Fail> {
     let alloc = rt.alloc();
     show_ping_pong(&rt, run(&rt, alloc, 2, ping_pong::players(alloc)?)?)?;
-    show_ring(&rt, run(&rt, alloc, 5, ring::links(alloc)?)?)?;
+    show_ring(&rt, summed(&rt, alloc)?)?;
     show_farm(&rt, run(&rt, alloc, 4, farm::hands(alloc)?)?)?;
     let one = values(alloc, run(&rt, alloc, 1, rod::parts(alloc, 1)?)?)?;
     let four = values(alloc, run(&rt, alloc, 4, rod::parts(alloc, 4)?)?)?;
