@@ -1,0 +1,34 @@
+-- How the program ends, clause by clause.
+use Rattle.std.proofs.Common.{inr, map, string_bytes}
+use Rattle.nm_check.specs.Done.{Ending}
+use Rattle.nm_why_top.specs.Answers.{TellsWhy}
+use Rattle.nm_why_top.proofs.AnswerLemmas.{not_six}
+use Rattle.nm_why_top.proofs.tops.why.Goals as goal
+use Rattle.nm_why_top.proofs.tops.why.Goals.{Joined-answer-3}
+use Rattle.nm_why_top.proofs.tops.why.Given.{Over}
+
+-- what is seen where all was written, or the sink failed
+abbrev seen : (g : Over) → Joined-answer-3 g → Ending
+seen g c =
+    record {
+      words = map string_bytes c.args.words.now;
+      input = g.S.Source.left c.args.source.now;
+      left = g.S.Source.left c.find_answer.new.source;
+      read_old = g.S.Source.faults c.args.source.now;
+      read_new = g.S.Source.faults c.find_answer.new.source;
+      before = g.K.Sink.taken c.args.sink.now;
+      after = g.K.Sink.taken c.deliver.new.sink;
+      write_old = g.K.Sink.faults c.args.sink.now;
+      write_new = g.K.Sink.faults c.deliver.new.sink;
+      status = c.deliver.result;
+    }
+
+-- and what is known of it
+known : (g : Over) (c : Joined-answer-3 g) → TellsWhy (seen g c) c.in-Ok.answer
+known g c = record { right = c.in-Ok.ensures.answer; said = c.deliver.ensures }
+
+pub returns-clause-done : goal.returns-clause-done
+returns-clause-done g c = inr (c.in-Ok.answer, known g c)
+
+pub returns-clause-memory : goal.returns-clause-memory
+returns-clause-memory g c six = absurd (not_six c.in-Ok.answer (known g c) six)

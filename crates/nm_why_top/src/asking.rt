@@ -1,0 +1,190 @@
+//! What there is to say of a script: how many of its reports are stuck, the least part of it that can hang, and the
+//! single changes after which it can't.
+
+ghost use Rattle.std.specs.Prelude.{◌≡◌, IfOk, IfSome, List, None, count_by, length};
+ghost use Rattle.nm_types.specs.declared.scripts.Line as the_line;
+ghost use Rattle.nm_types.specs.Limits.{IsScript};
+ghost use Rattle.nm_types.specs.Sizes.{Sizes};
+ghost use Rattle.nm_explored.specs.Ends.{AreEndsByWay, TellsAll, TellsOnly};
+ghost use Rattle.nm_listed.specs.Texts.{bytes_of};
+ghost use Rattle.nm_outcomes_top.specs.OptionWords.{InRange, sizes_for};
+ghost use Rattle.nm_outcomes_top.specs.Texts.{is_stuck as is_stuck_lem, stuck_count};
+ghost use Rattle.nm_why.specs.Hangs.{CanHang, Does};
+ghost use Rattle.nm_why_top.specs.Answers.{IsAnswerFor, IsChainOf, IsExplained, IsStuck, IsWhy, NoneHangs};
+
+use crate::answers::Response;
+use crate::searching::{Complete, does_one_end, is_hung};
+use nm_explored::{End, Explored, explore};
+use nm_listed::lawful::ends_are_runs;
+use nm_listed::{Found, Texts, reports};
+use nm_outcomes::spots::ranks::Rank;
+use nm_outcomes_top::words::Asked;
+use nm_types::{Memory, Script, Shape};
+use nm_waits::chains::chain;
+use nm_waits::states::states_after;
+use nm_waits::waits::{Wait, waits_of};
+use nm_why::candidates::single_changes;
+use nm_why::cures::cures_among;
+use nm_why::hangs::Aim;
+use nm_why::least::{Task, least_part};
+use nm_why_texts::Why;
+use std::alloc::Global;
+
+/// How many of some reports are stuck.
+fn count_among(texts: &[Vec<u8>]) -> usize
+    ensures { result ≡ count_by (λ text. is_stuck_lem (bytes_of text)) texts.now }
+{
+    texts
+        .iter()
+        .filter(|text| text.as_slice().ends_with(b"stuck\n".as_slice()))
+        .count()
+}
+
+/// .. of the reports of a script.
+fn count_stuck(texts: &Texts) -> usize
+    ensures { result ≡ stuck_count texts.now }
+{
+    count_among(texts.as_slice())
+}
+
+/// How many reports a script has.
+fn count_all(texts: &Texts) -> usize
+    ensures { result ≡ length texts.now }
+{
+    texts.as_slice().len()
+}
+
+/// The states of the ranks at the first end where one waits, if there is one.
+fn stuck_states(alloc: Global, shape: Shape, ends: &[End]) -> Result<Option<Vec<Rank>>, Memory>
+    ensures some { (lines : List the_line.Line) → AreEndsByWay shape lines ends.now →
+        IfOk result (λ found. IfSome found (λ states. IsStuck shape lines states.items)) }
+    ensures none { IfOk result (λ found. found ≡ None → NoneHangs ends.now) }
+{
+    for end in ends {
+        if is_hung(end) {
+            return Ok(Some(states_after(alloc, shape.ranks(), end.path.as_slice())?));
+        }
+    }
+    Ok(None)
+}
+
+/// Which of these ranks waits for which, from the first on.
+fn chain_of(alloc: Global, waits: &[Wait]) -> Result<Vec<u8>, Memory>
+    ensures { IfOk result (λ ranks. IsChainOf waits.now ranks.items) }
+{
+    match waits.first() {
+        Some(wait) => chain(alloc, waits, wait.rank),
+        None => Ok(Vec::new(alloc)),
+    }
+}
+
+/// What the least part of a script is to do still that has such ends, of which one hangs.
+fn aim_of(ends: &[End]) -> Aim
+    ensures { (shape : Sizes) (lines : List the_line.Line) → IsScript shape.ranks lines →
+        TellsOnly shape lines ends.now → CanHang shape lines → Does result shape lines }
+{
+    ends_are_runs();
+    if does_one_end(ends) {
+        return Aim::Both;
+    }
+    Aim::Hang
+}
+
+/// Why a script hangs: where the ranks wait in these states, its least part, and its cures.
+fn explain(
+    alloc: Global,
+    script: &Script,
+    shape: Shape,
+    limit: u32,
+    aim: Aim,
+    states: Vec<Rank>,
+) -> Result<Why, Memory>
+    requires equal { shape.ranks ≡ script.now.ranks }
+    requires does { Does aim shape script.now.lines }
+    requires stuck { IsStuck shape script.now.lines states.items }
+    ensures { IfOk result (IsWhy shape script.now.lines) }
+{
+    let search = Complete { states: limit };
+    let lines = script.lines.as_slice();
+    let waits = waits_of(alloc, lines, states.as_slice())?;
+    let chain = chain_of(alloc, waits.as_slice())?;
+    let least = least_part(alloc, &search, &Task { lines, shape, aim })?;
+    let tried = single_changes(alloc, shape.ranks(), lines)?;
+    let cures = cures_among(alloc, &search, shape, lines, tried.as_slice())?;
+    Ok(Why {
+        states,
+        waits,
+        chain,
+        aim,
+        least,
+        tried,
+        cures,
+    })
+}
+
+/// .. if it has an end that hangs.
+fn explain_ends(
+    alloc: Global,
+    script: &Script,
+    shape: Shape,
+    limit: u32,
+    ends: &[End],
+) -> Result<Option<Why>, Memory>
+    requires equal { shape.ranks ≡ script.now.ranks }
+    requires tells { TellsAll shape script.now.lines ends.now }
+    requires only { TellsOnly shape script.now.lines ends.now }
+    requires ways { AreEndsByWay shape script.now.lines ends.now }
+    ensures { IfOk result (IsExplained shape script.now.lines) }
+{
+    ends_are_runs();
+    let aim = aim_of(ends);
+    match stuck_states(alloc, shape, ends)? {
+        Some(states) => Ok(Some(explain(alloc, script, shape, limit, aim, states)?)),
+        None => Ok(None),
+    }
+}
+
+/// The answer for a script whose search found these ends.
+#[tactic(auto, using(crate::proofs::AnswerLemmas::outgrown_long))]
+fn answer_ends(
+    alloc: Global,
+    asked: Asked,
+    script: &Script,
+    shape: Shape,
+    ends: Vec<End>,
+) -> Result<Response, Memory>
+    requires range { InRange asked }
+    requires sizes { shape ≡ sizes_for asked script.now.ranks }
+    requires tells { TellsAll shape script.now.lines ends.items }
+    requires only { TellsOnly shape script.now.lines ends.items }
+    requires ways { AreEndsByWay shape script.now.lines ends.items }
+    ensures { IfOk result (IsAnswerFor asked script.now.ranks script.now.lines) }
+{
+    let why = explain_ends(alloc, script, shape, asked.states, ends.as_slice())?;
+    match reports(alloc, script, shape, ends)? {
+        Found::All(texts) => Ok(Response::Told {
+            reports: count_all(&texts),
+            stuck: count_stuck(&texts),
+            commands: script.lines.len(),
+            why,
+        }),
+        Found::TooLong => Ok(Response::Outgrown {
+            states: asked.states,
+        }),
+    }
+}
+
+/// The answer for a script.
+#[tactic(auto, using(crate::proofs::AnswerLemmas::outgrown_many))]
+pub fn answer_script(alloc: Global, asked: Asked, script: &Script) -> Result<Response, Memory>
+    requires { InRange asked }
+    ensures { IfOk result (IsAnswerFor asked script.now.ranks script.now.lines) }
+{
+    let shape = Shape::new(script.ranks, asked.cells, asked.eager).unwrap();
+    match explore(alloc, script, shape, asked.states)? {
+        Explored::All(ends) => answer_ends(alloc, asked, script, shape, ends.into_vec()),
+        Explored::TooMany => Ok(Response::Outgrown {
+            states: asked.states,
+        }),
+    }
+}
