@@ -32,3 +32,9 @@ _lawful_words() {
     mapfile -t COMPREPLY < <(compgen -W "$words" -- "$word")
 }
 complete -o default -F _lawful_words lawful ./lawful
+
+_why_words() {
+    local word=${COMP_WORDS[COMP_CWORD]} words="--cells --eager"
+    mapfile -t COMPREPLY < <(compgen -W "$words" -- "$word")
+}
+complete -o default -F _why_words why ./why
