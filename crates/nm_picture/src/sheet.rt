@@ -87,5 +87,5 @@ svg { background: #ffffff; color: #000000; max-width: 100%; height: auto; }
 <text class=\"note\" x=\"20\" y=\"26\">Space-time diagram of a run</text>
 <text x=\"20\" y=\"46\">Time runs downwards, by stamps.</text>
 <text x=\"20\" y=\"62\">m message, r receive, &lt; source, t tag, b bytes,</text>
-<text x=\"20\" y=\"78\">c context; a number alone: a line of the script.</text>
+<text x=\"20\" y=\"78\">c context; a number: a line of the script.</text>
 ";
