@@ -80,7 +80,7 @@ event_printable rank e few within =
           decimal_solid n h.1,
           (
             (middle tag h.2).0,
-            ((small ctx h.3).0, ((large size h.4).0, ((of_how how).0, large line h.5))),
+            ((small ctx h.3).0, ((large size h.4).0, ((of_how how).0, (decimal_solid line h.5, tt)))),
           ),
         ),
       ),
@@ -91,7 +91,7 @@ event_printable rank e few within =
         decimal_solid post.number h.0,
         (
           (of_peer post.from h.1).0,
-          ((of_pick post.tag h.2).0, ((small post.ctx h.3).0, ((large post.cap h.4).0, large line h.5))),
+          ((of_pick post.tag h.2).0, ((small post.ctx h.3).0, ((large post.cap h.4).0, (decimal_solid line h.5, tt)))),
         ),
       ),
     )
@@ -111,12 +111,12 @@ event_printable rank e few within =
     of_what (what.Recall to n) h = (refl, ((small to h.0).0, (decimal_solid n h.1, tt)))
     of_what (what.Withdraw from n done) h = (refl, ((small from h.0).0, (decimal_solid n h.1, of_done done)))
     of_what (what.Undone to n done) h = (refl, ((small to h.0).0, (decimal_solid n h.1, of_done done)))
-    of_what (what.Claim from n line) h = (refl, ((small from h.0).0, (decimal_solid n h.1, large line h.2)))
+    of_what (what.Claim from n line) h = (refl, ((small from h.0).0, (decimal_solid n h.1, (decimal_solid line h.2, tt))))
     of_what (what.Match number from n cap line) h = (
       refl,
       (
         decimal_solid number h.0,
-        ((small from h.1).0, (decimal_solid n h.2, ((large cap h.3).0, large line h.4))),
+        ((small from h.1).0, (decimal_solid n h.2, ((large cap h.3).0, (decimal_solid line h.4, tt)))),
       ),
     )
-    of_what (what.Ran line a) h = (refl, ((large line h.0).0, of_answer a h.1))
+    of_what (what.Ran line a) h = (refl, (decimal_solid line h.0, of_answer a h.1))

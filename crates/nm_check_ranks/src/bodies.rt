@@ -67,7 +67,7 @@ fn are_sent_by(bytes: &[u8], command: &Command) -> bool
 }
 
 /// Whether bytes are those that the command of a rank's line sends.
-fn are_of_line(i: u8, lines: &[Line], line: u32, bytes: &[u8]) -> bool
+fn are_of_line(i: u8, lines: &[Line], line: u64, bytes: &[u8]) -> bool
     ensures { Decides result (IsSomeAnd (command_at (commands_of i lines.now) line)
         (λ c. bytes.now ≡ sent_bytes c)) }
 {
@@ -140,7 +140,7 @@ fn were_sent(
 fn sender_of_answer(
     j: u8,
     k: usize,
-    line: u32,
+    line: u64,
     answer: &Answer,
     own: &Tables,
     lines: &[Line],

@@ -54,7 +54,7 @@ fn has_no_claim(lines: &[Line]) -> bool
 }
 
 /// Whether no move of others changes what a command does or answers.
-fn is_settled_by(view: View, i: u8, rank: &Rank, line: u32, command: &Command) -> bool
+fn is_settled_by(view: View, i: u8, rank: &Rank, line: u64, command: &Command) -> bool
     ensures { IsTrue result → IsSettledBy (spot_in view.entry.table.now view.entry.ids.now)
         view.entry.lines.now i rank.now line command.now }
 {

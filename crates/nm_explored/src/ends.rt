@@ -72,7 +72,7 @@ fn bytes_of(alloc: Global, body: &Body) -> Result<Bytes, Memory>
 }
 
 /// The bytes that the line of a rank sends.
-fn bytes_at(alloc: Global, lines: &[Line], from: u8, line: u32) -> Result<Bytes, Memory>
+fn bytes_at(alloc: Global, lines: &[Line], from: u8, line: u64) -> Result<Bytes, Memory>
     requires { AreShort lines.now }
     ensures { IfOk result (λ bytes. bytes ≡ bytes_at_lem lines.now from line) }
 {
@@ -109,7 +109,7 @@ fn answer_of(alloc: Global, lines: &[Line], reply: Reply) -> Result<Answer, Memo
 }
 
 /// The event of a send.
-fn sending(to: u8, n: u64, tag: u16, ctx: u8, len: u32, how: How, line: u32) -> Happened
+fn sending(to: u8, n: u64, tag: u16, ctx: u8, len: u32, how: How, line: u64) -> Happened
     ensures { result ≡ event.Send to n tag ctx len how line }
 {
     Happened::Send {
@@ -207,7 +207,7 @@ fn account(alloc: Global, lines: &[Line], i: u8, rank: &Rank) -> Result<RankAcco
     let waits = line_at(lines, i, at);
     Ok(RankAccount {
         history,
-        at: u32::try_from(at).unwrap_or(u32::MAX),
+        at: at as u64,
         waits,
     })
 }

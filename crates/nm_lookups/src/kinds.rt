@@ -230,9 +230,9 @@ impl Numbering for Starts {
 
     fn number(what: &Happened) -> Option<u64> {
         match what {
-            Happened::Send { line, .. } => Some(u64::from(*line)),
-            Happened::Post { line, .. } => Some(u64::from(*line)),
-            Happened::Match { line, .. } => Some(u64::from(*line)),
+            Happened::Send { line, .. } => Some(*line),
+            Happened::Post { line, .. } => Some(*line),
+            Happened::Match { line, .. } => Some(*line),
             _ => None,
         }
     }
@@ -248,7 +248,7 @@ impl Numbering for LineClaims {
 
     fn number(what: &Happened) -> Option<u64> {
         match what {
-            Happened::Claim { line, .. } => Some(u64::from(*line)),
+            Happened::Claim { line, .. } => Some(*line),
             _ => None,
         }
     }

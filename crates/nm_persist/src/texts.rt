@@ -137,7 +137,7 @@ fn push_waits(
     out: &mut String,
     rank: usize,
     line: u32,
-    waits: Option<u32>,
+    waits: Option<u64>,
 ) -> Result<(), AllocError>
     ensures { OnOk result (string_bytes out.new
         ≡ string_bytes out.old ++ waits_line rank (option_map (λ _. line) waits)) }
@@ -163,7 +163,7 @@ fn push_rank(
     rank: usize,
     asked: &[Asked],
     answers: &[&Answer],
-    waits: Option<u32>,
+    waits: Option<u64>,
 ) -> Result<(), Memory>
     ensures { OnOk result (string_bytes out.new ≡ string_bytes out.old
         ++ rank_lines rank asked.now [] (map (λ a. a.now) answers.now) waits) }

@@ -144,7 +144,7 @@ fn push_cancel(out: &mut String, number: u64, done: bool) -> Result<(), AllocErr
 }
 
 /// Writes a line of the script, and its answer.
-fn push_answer(out: &mut String, line: u32, answer: &Answer) -> Result<(), AllocError>
+fn push_answer(out: &mut String, line: u64, answer: &Answer) -> Result<(), AllocError>
     ensures ok { OnOk result (string_bytes out.new ≡ string_bytes out.old
         ++ (decimal line ++ (codes " " ++ answer_label answer.now))) }
 {

@@ -16,7 +16,7 @@ use std::alloc::AllocError;
 
 /// Writes the sign of a command that can't go on, at a place.
 #[tactic(auto, unfolding(crate::specs::Pictures::wait_sign_at))]
-fn push_wait_sign_at(out: &mut String, x: u64, y: u64, line: u32) -> Result<(), AllocError>
+fn push_wait_sign_at(out: &mut String, x: u64, y: u64, line: u64) -> Result<(), AllocError>
     ensures ok { OnOk result
         (string_bytes out.new ≡ string_bytes out.old ++ wait_sign_at x y line) }
 {
@@ -27,7 +27,7 @@ fn push_wait_sign_at(out: &mut String, x: u64, y: u64, line: u32) -> Result<(), 
 }
 
 /// Writes the sign at the end of a rank's line.
-fn push_wait_sign(out: &mut String, frame: &Frame, rank: u8, line: u32) -> Result<(), AllocError>
+fn push_wait_sign(out: &mut String, frame: &Frame, rank: u8, line: u64) -> Result<(), AllocError>
     ensures ok { OnOk result
         (string_bytes out.new ≡ string_bytes out.old ++ wait_sign frame.now rank line) }
 {
@@ -36,7 +36,7 @@ fn push_wait_sign(out: &mut String, frame: &Frame, rank: u8, line: u32) -> Resul
 
 /// Writes the words below the name of a rank that waits.
 #[tactic(auto, unfolding(crate::specs::Pictures::wait_label))]
-fn push_wait_label(out: &mut String, frame: &Frame, rank: u8, line: u32) -> Result<(), AllocError>
+fn push_wait_label(out: &mut String, frame: &Frame, rank: u8, line: u64) -> Result<(), AllocError>
     ensures ok { OnOk result (string_bytes out.new
         ≡ string_bytes out.old ++ wait_label frame.now rank line) }
 {
@@ -55,7 +55,7 @@ fn push_wait(
     out: &mut String,
     frame: &Frame,
     rank: u8,
-    waits: Option<u32>,
+    waits: Option<u64>,
 ) -> Result<(), AllocError>
     ensures ok { OnOk result
         (string_bytes out.new ≡ string_bytes out.old ++ wait_text frame.now rank waits) }
@@ -72,7 +72,7 @@ fn push_wait_words(
     out: &mut String,
     frame: &Frame,
     rank: u8,
-    waits: Option<u32>,
+    waits: Option<u64>,
 ) -> Result<(), AllocError>
     ensures ok { OnOk result
         (string_bytes out.new ≡ string_bytes out.old ++ wait_words frame.now rank waits) }

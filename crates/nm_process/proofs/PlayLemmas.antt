@@ -129,11 +129,11 @@ numbered_in_range n ranks (x ∷ xs) all = (all.0, numbered_in_range (n + 1) ran
 -- one more was given that may run, or none
 pub in_range_more : (ranks at : ℕ) (stray : Option Command) (given : List Command) (next : Option Command) →
     AllInRange ranks given →
-    IfSome next (λ x. (is_in_range ranks x ≡ true) × (at < 4294967290) × (stray ≡ None)) →
+    IfSome next (λ x. (is_in_range ranks x ≡ true) × (at < 18446744073709551610) × (stray ≡ None)) →
     AllInRange ranks (given ++ option_to_list next)
 in_range_more ranks at stray given next all runs =
     all_append (λ (x : Command). is_in_range ranks x ≡ true) given (option_to_list next) all (one next runs) where
-      one : (o : Option Command) → IfSome o (λ x. (is_in_range ranks x ≡ true) × (at < 4294967290) × (stray ≡ None)) →
+      one : (o : Option Command) → IfSome o (λ x. (is_in_range ranks x ≡ true) × (at < 18446744073709551610) × (stray ≡ None)) →
           AllInRange ranks (option_to_list o)
       one None runs = tt
       one (Some x) runs = (runs.0, tt)

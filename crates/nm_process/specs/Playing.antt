@@ -47,7 +47,7 @@ AllInRange ranks given = AllByRecursion (λ x. is_in_range ranks x ≡ true) giv
 
 -- after so many this command never runs: where it is in range, there is no line for it
 abbrev pub NeverRuns : ℕ → ℕ → Command → Type 0
-NeverRuns ranks at x = is_in_range ranks x ≡ true → 4294967290 ≤ at
+NeverRuns ranks at x = is_in_range ranks x ≡ true → 18446744073709551610 ≤ at
 
 -- how many ran, and the next one
 abbrev pub shown_by : {P : Type 0} → GivenView P → SourceView (List P)

@@ -61,7 +61,7 @@ fn send_copy(
     ctx: u8,
     body: &Body,
     sync: bool,
-    line: u32,
+    line: u64,
 ) -> Result<Req, Memory>
     requires to { to < rank.old.sizes.ranks }
     requires tag { tag ≤ MAX_TAG }
@@ -85,7 +85,7 @@ impl Process {
         ctx: u8,
         body: &Body,
         sync: bool,
-        line: u32,
+        line: u64,
     ) -> Result<Step, Memory>
         requires to { to < self.old.rank.sizes.ranks }
         requires tag { tag ≤ MAX_TAG }
@@ -112,7 +112,7 @@ impl Process {
         tag: TagPick,
         ctx: u8,
         cap: u32,
-        line: u32,
+        line: u64,
     ) -> Result<Step, Memory>
         requires fresh { IsFresh self.old.rank }
         ensures places { StandsStill self.old self.new }
@@ -129,7 +129,7 @@ impl Process {
     }
 
     // Gives the result of the request of this name, which then ends, if it is complete.
-    pub(crate) fn wait(&mut self, q: u16, line: u32) -> Result<Step, Memory>
+    pub(crate) fn wait(&mut self, q: u16, line: u64) -> Result<Step, Memory>
         requires fresh { IsFresh self.old.rank }
         ensures places { StandsStill self.old self.new }
         ensures tried { IfOk result (HasTriedWait self.old self.new q line) }
@@ -142,7 +142,7 @@ impl Process {
     }
 
     // Gives that result, or answers that there is none yet.
-    pub(crate) fn test(&mut self, q: u16, line: u32) -> Result<Step, Memory>
+    pub(crate) fn test(&mut self, q: u16, line: u64) -> Result<Step, Memory>
         requires fresh { IsFresh self.old.rank }
         ensures places { StandsStill self.old self.new }
         ensures ran { IfOk result (λ step. step ≡ step_is.Ran) }
@@ -172,7 +172,7 @@ impl Process {
         from: Peer,
         tag: TagPick,
         ctx: u8,
-        line: u32,
+        line: u64,
     ) -> Result<Step, Memory>
         requires fresh { IsFresh self.old.rank }
         ensures places { StandsStill self.old self.new }
@@ -191,7 +191,7 @@ impl Process {
         from: Peer,
         tag: TagPick,
         ctx: u8,
-        line: u32,
+        line: u64,
     ) -> Result<Step, Memory>
         requires fresh { IsFresh self.old.rank }
         ensures places { StandsStill self.old self.new }
@@ -204,7 +204,7 @@ impl Process {
     }
 
     // Cancels the request of this name.
-    pub(crate) fn cancel(&mut self, q: u16, line: u32) -> Result<Step, Memory>
+    pub(crate) fn cancel(&mut self, q: u16, line: u64) -> Result<Step, Memory>
         requires fresh { IsFresh self.old.rank }
         ensures places { StandsStill self.old self.new }
         ensures ran { IfOk result (λ step. step ≡ step_is.Ran) }
@@ -228,7 +228,7 @@ impl Process {
         from: Peer,
         tag: TagPick,
         ctx: u8,
-        line: u32,
+        line: u64,
     ) -> Result<Step, Memory>
         requires fresh { IsFresh self.old.rank }
         ensures places { StandsStill self.old self.new }
@@ -255,7 +255,7 @@ impl Process {
         q: u16,
         m: u16,
         cap: u32,
-        line: u32,
+        line: u64,
     ) -> Result<Step, Memory>
         requires fresh { IsFresh self.old.rank }
         ensures places { StandsStill self.old self.new }
@@ -276,7 +276,7 @@ impl Process {
 
     // Records the answer of a line's command.
     #[inline(always)]
-    fn answer(&mut self, line: u32, answer: Answer) -> Result<Step, Memory>
+    fn answer(&mut self, line: u64, answer: Answer) -> Result<Step, Memory>
         requires in_time { self.old.rank.clock < MAX_STAMP }
         ensures places { StandsStill self.old self.new }
         ensures ran { IfOk result (λ step. step ≡ step_is.Ran) }

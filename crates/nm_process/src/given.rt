@@ -17,7 +17,7 @@ use nm_types::{Answer, Command, Memory};
 use std::marker::Model;
 
 /// As many commands as there are lines for: the k-th one, from 0, has line k + 2.
-const LAST: u32 = 4294967290;
+const LAST: u64 = 18446744073709551610;
 
 /// A program, and the command that it gave last, which has not run. What it gave before is known to
 /// contracts alone.
@@ -32,7 +32,7 @@ pub struct Given<P: Program> {
     // a command that is out of range, or for which there is no line: it never runs, and is the last one
     stray: Option<Command>,
     // how many commands ran
-    at: u32,
+    at: u64,
     given: Trace<Command>,
     told: Trace<Answer>,
     // it was refused memory, and knows no more where it is
@@ -61,8 +61,8 @@ impl<P: Program> Model for Given<P> {
 
     ghost invariant = { λ g.
         IsCounted g.given.items g.next g.at
-        × (g.at ≤ 4294967290)
-        × IfSome g.next (λ x. (is_in_range g.ranks x ≡ true) × (g.at < 4294967290)
+        × (g.at ≤ 18446744073709551610)
+        × IfSome g.next (λ x. (is_in_range g.ranks x ≡ true) × (g.at < 18446744073709551610)
         × (g.stray ≡ None))
         × (g.failed ≡ false → IsPlayed P.says (record {
           ranks = g.ranks;
@@ -106,8 +106,8 @@ fn last_answer(rank: &Rank) -> Option<&Answer>
 }
 
 // Whether a command may run after so many.
-fn may_run(command: &Command, ranks: u8, at: u32) -> bool
-    ensures runs { result ≡ true → (is_in_range ranks command.now ≡ true) × (at < 4294967290) }
+fn may_run(command: &Command, ranks: u8, at: u64) -> bool
+    ensures runs { result ≡ true → (is_in_range ranks command.now ≡ true) × (at < 18446744073709551610) }
     ensures never { result ≡ false → NeverRuns ranks at command.now }
 {
     at < LAST && in_range(ranks, command)
@@ -172,8 +172,8 @@ impl<P: Program> Given<P> {
 }
 
 // A command that may run after so many, or one that never runs.
-fn sorted(command: Option<Command>, ranks: u8, at: u32) -> (Option<Command>, Option<Command>)
-    ensures runs { IfSome result.0 (λ x. (is_in_range ranks x ≡ true) × (at < 4294967290)
+fn sorted(command: Option<Command>, ranks: u8, at: u64) -> (Option<Command>, Option<Command>)
+    ensures runs { IfSome result.0 (λ x. (is_in_range ranks x ≡ true) × (at < 18446744073709551610)
         × (result.1 ≡ None)) }
     ensures never { IfSome result.1 (NeverRuns ranks at) }
     ensures same { (option_or result.1 result.0 ≡ command)
@@ -216,7 +216,7 @@ impl<P: Program> Source for Given<P> {
         0
     }
 
-    fn next(&self) -> Option<(u32, &Command)> {
+    fn next(&self) -> Option<(u64, &Command)> {
         let Some(command) = &self.next else {
             return None;
         };

@@ -33,7 +33,7 @@ pub struct Process {
     // by name of a handle
     pub(crate) handles: IndexMap<u16, Handle>,
     // how many commands ran
-    at: u32,
+    at: u64,
 }
 
 impl Drop for Process {
@@ -142,7 +142,7 @@ impl Process {
     }
 
     /// How many commands ran.
-    pub fn at(&self) -> u32
+    pub fn at(&self) -> u64
         ensures { result ≡ self.now.at }
     {
         self.at
@@ -177,7 +177,7 @@ impl Process {
     /// Runs a command at its line, if it can go on. A rank that is worn runs none.
     ///
     /// Whatever commands the process is at work on, it is still if this is the next of them.
-    pub fn run(&mut self, command: &Command, line: u32) -> Result<Step, Memory>
+    pub fn run(&mut self, command: &Command, line: u64) -> Result<Step, Memory>
         requires in_range { is_in_range self.old.rank.sizes.ranks command.now ≡ true }
         requires counted { self.old.at < line }
         ensures stepped { IfOk result (HasStepped command.now line self.old self.new) }
@@ -208,7 +208,7 @@ impl Process {
     }
 
     // Runs the command of a line.
-    fn run_command(&mut self, command: &Command, line: u32) -> Result<Step, Memory>
+    fn run_command(&mut self, command: &Command, line: u64) -> Result<Step, Memory>
         requires fresh { IsFresh self.old.rank }
         requires in_range { is_in_range self.old.rank.sizes.ranks command.now ≡ true }
         ensures places { self.new.at ≡ self.old.at }

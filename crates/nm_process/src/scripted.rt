@@ -92,9 +92,9 @@ impl<'a> Source for Scripted<'a> {
         self.own.len()
     }
 
-    fn next(&self) -> Option<(u32, &Command)> {
+    fn next(&self) -> Option<(u64, &Command)> {
         let line = self.lines.get(self.next)?;
-        Some((self.next as u32 + 2, &line.command))
+        Some((self.next as u64 + 2, &line.command))
     }
 
     fn pass(&mut self, _rank: &Rank) -> Result<(), Memory> {

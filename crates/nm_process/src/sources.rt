@@ -26,7 +26,7 @@ pub trait Source: Drop {
     fn count(&self) -> usize;
 
     /// The line of its next command and that command, if there is one.
-    fn next(&self) -> Option<(u32, &Command)>
+    fn next(&self) -> Option<(u64, &Command)>
         ensures shown { option_map (λ c. c.1.now) result ≡ (shows self.now).next }
         ensures counted { IfSome result (λ c. (shows self.now).at < c.0) }
         ensures in_range { IfSome result (λ c. is_in_range (shows self.now).ranks c.1.now ≡ true) }

@@ -208,7 +208,7 @@ impl<H: Recorder> Rank<H> {
 
     /// Records the answer of a line's command. The rank may have become worn by that command.
     #[inline(always)]
-    pub fn ran(&mut self, line: u32, answer: Answer) -> Result<(), Memory>
+    pub fn ran(&mut self, line: u64, answer: Answer) -> Result<(), Memory>
         requires in_time { self.old.clock < MAX_STAMP }
         ensures records { OnOk result (Records line answer self.old self.new) }
         ensures err { OnErr result (self.new ≡ self.old) }

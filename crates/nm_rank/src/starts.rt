@@ -78,7 +78,7 @@ impl<H: Recorder> Rank<H> {
         ctx: u8,
         body: Body,
         sync: bool,
-        line: u32,
+        line: u64,
     ) -> Result<Req, Memory>
         requires to { to < self.old.sizes.ranks }
         requires tag { tag ≤ MAX_TAG }
@@ -114,7 +114,7 @@ impl<H: Recorder> Rank<H> {
         tag: TagPick,
         ctx: u8,
         cap: u32,
-        line: u32,
+        line: u64,
     ) -> Result<Req, Memory>
         requires fresh { IsFresh self.old }
         ensures starts { IfOk result
@@ -144,7 +144,7 @@ impl<H: Recorder> Rank<H> {
         from: Peer,
         tag: TagPick,
         ctx: u8,
-        line: u32,
+        line: u64,
     ) -> Result<Option<Arrival>, Memory>
         requires fresh { IsFresh self.old }
         ensures oldest { let h = self.old.events in
@@ -172,7 +172,7 @@ impl<H: Recorder> Rank<H> {
 
     /// Starts the receive of a claimed message for the command of a line (section 3.8.3), and
     /// answers its request.
-    pub fn imrecv(&mut self, from: u8, n: u64, cap: u32, line: u32) -> Result<Req, Memory>
+    pub fn imrecv(&mut self, from: u8, n: u64, cap: u32, line: u64) -> Result<Req, Memory>
         requires claimed { let h = self.old.events in
             IsTrue (is_claimed_lem h (matched_pairs h) from n) }
         requires fresh { IsFresh self.old }

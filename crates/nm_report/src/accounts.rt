@@ -13,9 +13,9 @@ pub struct RankAccount {
     /// Its events.
     pub history: History,
     /// How many of its commands ran.
-    pub at: u32,
+    pub at: u64,
     /// The line of the command that can't go on. There is none where all of its commands ran.
-    pub waits: Option<u32>,
+    pub waits: Option<u64>,
 }
 
 impl Drop for RankAccount {

@@ -51,7 +51,7 @@ fn push_tag(out: &mut String, tag: TagPick) -> Result<(), AllocError>
 }
 
 /// Writes the words of a receive that was posted.
-fn push_post(out: &mut String, post: &Post, line: u32) -> Result<(), AllocError>
+fn push_post(out: &mut String, post: &Post, line: u64) -> Result<(), AllocError>
     ensures ok { OnOk result (string_bytes out.new ≡ string_bytes out.old
         ++ join_with_byte 32 (event_words (Happened.Post post.now line))) }
 {
@@ -84,7 +84,7 @@ fn push_send(
     ctx: u8,
     len: u32,
     how: How,
-    line: u32,
+    line: u64,
 ) -> Result<(), AllocError>
     ensures ok { OnOk result (string_bytes out.new ≡ string_bytes out.old
         ++ join_with_byte 32 (event_words (Happened.Send to n tag ctx len how line))) }
@@ -126,7 +126,7 @@ fn push_cancel(out: &mut String, number: u64, done: bool) -> Result<(), AllocErr
 }
 
 /// Writes the words of a claim.
-fn push_claim(out: &mut String, from: u8, n: u64, line: u32) -> Result<(), AllocError>
+fn push_claim(out: &mut String, from: u8, n: u64, line: u64) -> Result<(), AllocError>
     ensures ok { OnOk result (string_bytes out.new ≡ string_bytes out.old
         ++ join_with_byte 32 (event_words (Happened.Claim from n line))) }
 {
@@ -140,7 +140,7 @@ fn push_match(
     from: u8,
     n: u64,
     cap: u32,
-    line: u32,
+    line: u64,
 ) -> Result<(), AllocError>
     ensures ok { OnOk result (string_bytes out.new ≡ string_bytes out.old
         ++ join_with_byte 32 (event_words (Happened.Match number from n cap line))) }
@@ -149,7 +149,7 @@ fn push_match(
 }
 
 /// Writes the words of a command that ran.
-fn push_ran(out: &mut String, line: u32, answer: &Answer) -> Result<(), AllocError>
+fn push_ran(out: &mut String, line: u64, answer: &Answer) -> Result<(), AllocError>
     ensures ok { OnOk result (string_bytes out.new ≡ string_bytes out.old
         ++ join_with_byte 32 (event_words (Happened.Ran line answer.now))) }
 {

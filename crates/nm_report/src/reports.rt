@@ -16,7 +16,7 @@ use std::alloc::{AllocError, Global};
 fn push_answer_line(
     out: &mut String,
     rank: usize,
-    line: u32,
+    line: u64,
     answer: &Answer,
 ) -> Result<(), AllocError>
     ensures ok { OnOk result

@@ -20,7 +20,7 @@ struct Name {
 }
 
 /// The line of the start that each name stands for, where it stands for one.
-type Names = HashMap<Name, u32>;
+type Names = HashMap<Name, u64>;
 
 /// The name of a command.
 fn name_of(command: &Command) -> Option<u16>
@@ -33,7 +33,7 @@ fn name_of(command: &Command) -> Option<u16>
 }
 
 /// The start that a command's name stands for.
-fn held_by(names: &Names, line: &Line) -> Option<u32>
+fn held_by(names: &Names, line: &Line) -> Option<u64>
     ensures { result ≡ option_and_then (spec.held_in names.now line.now.rank)
         (spec.name_of line.now.command) }
 {
@@ -43,7 +43,7 @@ fn held_by(names: &Names, line: &Line) -> Option<u32>
 }
 
 /// A start under a name, which is taken where the name stands for none.
-fn start(names: &mut Names, name: Name, number: u32) -> Result<(), Memory>
+fn start(names: &mut Names, name: Name, number: u64) -> Result<(), Memory>
     ensures { OnOk result ((n : key.Name) → get same_name names.new n
         ≡ spec.held_after name number (get same_name names.old n) n) }
 {
@@ -54,7 +54,7 @@ fn start(names: &mut Names, name: Name, number: u32) -> Result<(), Memory>
 }
 
 /// Notes what each name stands for after a line.
-fn note(names: &mut Names, number: u32, line: &Line) -> Result<(), Memory>
+fn note(names: &mut Names, number: u64, line: &Line) -> Result<(), Memory>
     ensures { OnOk result ((n : key.Name) → get same_name names.new n
         ≡ name_by n (get same_name names.old n) number line.now) }
 {
@@ -72,7 +72,7 @@ fn note(names: &mut Names, number: u32, line: &Line) -> Result<(), Memory>
 }
 
 /// The line of the start that each line's name stands for, if it stands for one, by line.
-pub(crate) fn all_held(alloc: Global, lines: &[Line]) -> Result<Vec<Option<u32>>, Memory>
+pub(crate) fn all_held(alloc: Global, lines: &[Line]) -> Result<Vec<Option<u64>>, Memory>
     requires { length lines.now < MAX_LINES }
     ensures { IfOk result (λ held. held.items
         ≡ map (held_at lines.now) (range_with_len 0 (length lines.now))) }
@@ -81,7 +81,7 @@ pub(crate) fn all_held(alloc: Global, lines: &[Line]) -> Result<Vec<Option<u32>>
     let mut held = Vec::new(alloc);
     for (k, line) in lines.iter().enumerate() {
         held.push(held_by(&names, line))?;
-        note(&mut names, k as u32 + 2, line)?;
+        note(&mut names, k as u64 + 2, line)?;
     }
     Ok(held)
 }

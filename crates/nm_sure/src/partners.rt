@@ -23,7 +23,7 @@ pub(crate) struct Way {
 }
 
 /// The lines of the starts of each channel, in order.
-type Starts = HashMap<Way, Vec<u32>>;
+type Starts = HashMap<Way, Vec<u64>>;
 
 /// The channel of a send.
 fn send_way(line: &Line) -> Option<Way>
@@ -61,7 +61,7 @@ pub(crate) fn receive_way(line: &Line) -> Option<Way>
 }
 
 /// Puts a start of a channel behind the others, and answers its place.
-fn put(alloc: Global, starts: &mut Starts, way: Way, number: u32) -> Result<usize, Memory>
+fn put(alloc: Global, starts: &mut Starts, way: Way, number: u64) -> Result<usize, Memory>
     ensures place { IfOk result (λ place. place ≡ length (lines_at starts.old way)) }
     ensures ok { OnOk result ((w : key.Way) → lines_at starts.new w
         ≡ lines_at starts.old w ++ spec.number_if w (Some way) number) }
@@ -74,7 +74,7 @@ fn put(alloc: Global, starts: &mut Starts, way: Way, number: u32) -> Result<usiz
 }
 
 /// The start at a place of a channel.
-fn nth(starts: &Starts, way: Way, place: usize) -> Option<u32>
+fn nth(starts: &Starts, way: Way, place: usize) -> Option<u64>
     ensures { result ≡ slice_get (lines_at starts.now way) place }
 {
     starts.get(&way)?.get(place).copied()
@@ -91,7 +91,7 @@ struct Placed {
 
 impl Placed {
     /// Puts a start that is taken, and answers its place.
-    fn put(&mut self, alloc: Global, number: u32, line: &Line) -> Result<Option<usize>, Memory>
+    fn put(&mut self, alloc: Global, number: u64, line: &Line) -> Result<Option<usize>, Memory>
         ensures places { OnOk result (self.new.places.items ≡ self.old.places.items) }
         ensures place { IfOk result (λ place. place
             ≡ spec.place_in self.old.sends self.old.receives line.now) }
@@ -113,9 +113,9 @@ impl Placed {
     fn put_line(
         &mut self,
         alloc: Global,
-        number: u32,
+        number: u64,
         line: &Line,
-        held: Option<u32>,
+        held: Option<u64>,
     ) -> Result<(), Memory>
         ensures places { OnOk result (self.new.places.items ≡ self.old.places.items
             ++ (if is_none held then spec.place_in self.old.sends self.old.receives line.now
@@ -136,7 +136,7 @@ impl Placed {
     }
 
     /// The start that the start at a place of its channel belongs to, if there is one.
-    fn partner(&self, line: &Line, place: Option<usize>) -> Option<u32>
+    fn partner(&self, line: &Line, place: Option<usize>) -> Option<u64>
         ensures { result ≡ option_and_then
             (spec.partner_in self.now.sends self.now.receives line.now) place }
     {
@@ -150,7 +150,7 @@ impl Placed {
 }
 
 /// The starts of all ranks that are taken.
-fn place_starts(alloc: Global, lines: &[Line], held: &[Option<u32>]) -> Result<Placed, Memory>
+fn place_starts(alloc: Global, lines: &[Line], held: &[Option<u64>]) -> Result<Placed, Memory>
     requires few { length lines.now < MAX_LINES }
     requires held { held.now ≡ map (held_at lines.now) (range_with_len 0 (length lines.now)) }
     ensures all { IfOk result (λ p. AreAllIn p.sends p.receives lines.now) }
@@ -163,7 +163,7 @@ fn place_starts(alloc: Global, lines: &[Line], held: &[Option<u32>]) -> Result<P
         places: Vec::new(alloc),
     };
     for (k, line) in lines.iter().enumerate() {
-        placed.put_line(alloc, k as u32 + 2, line, held[k])?;
+        placed.put_line(alloc, k as u64 + 2, line, held[k])?;
     }
     Ok(placed)
 }
@@ -172,8 +172,8 @@ fn place_starts(alloc: Global, lines: &[Line], held: &[Option<u32>]) -> Result<P
 pub(crate) fn partners(
     alloc: Global,
     lines: &[Line],
-    held: &[Option<u32>],
-) -> Result<Vec<Option<u32>>, Memory>
+    held: &[Option<u64>],
+) -> Result<Vec<Option<u64>>, Memory>
     requires few { length lines.now < MAX_LINES }
     requires held { held.now ≡ map (held_at lines.now) (range_with_len 0 (length lines.now)) }
     ensures { IfOk result (λ partners. partners.items

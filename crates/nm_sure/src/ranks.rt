@@ -9,21 +9,21 @@ use nm_types::{Line, Memory};
 use std::alloc::Global;
 
 /// The lines of a rank's commands, in order.
-fn lines_of(alloc: Global, lines: &[Line], rank: u8) -> Result<Vec<u32>, Memory>
+fn lines_of(alloc: Global, lines: &[Line], rank: u8) -> Result<Vec<u64>, Memory>
     requires { length lines.now < MAX_LINES }
     ensures { IfOk result (λ own. own.items ≡ own_lines lines.now rank) }
 {
     let mut own = Vec::new(alloc);
     for (k, line) in lines.iter().enumerate() {
         if line.rank == rank {
-            own.push(k as u32 + 2)?;
+            own.push(k as u64 + 2)?;
         }
     }
     Ok(own)
 }
 
 /// The lines of each rank's commands, by rank.
-pub(crate) fn all_lines(alloc: Global, lines: &[Line], ranks: u8) -> Result<Vec<Vec<u32>>, Memory>
+pub(crate) fn all_lines(alloc: Global, lines: &[Line], ranks: u8) -> Result<Vec<Vec<u64>>, Memory>
     requires { length lines.now < MAX_LINES }
     ensures { IfOk result (λ all. map (λ own. own.items) all.items
         ≡ map (own_lines lines.now) (range_with_len 0 ranks)) }

@@ -69,7 +69,7 @@ fn shown(alloc: Global, way: Way, cap: u32, sent: &Command) -> Result<Answer, Me
 }
 
 /// What the request of the start of a line ends with.
-fn result(alloc: Global, plan: &Plan, start: u32) -> Result<Answer, Memory>
+fn result(alloc: Global, plan: &Plan, start: u64) -> Result<Answer, Memory>
     requires line { (rank : ℕ) × IsStart plan.now.lines.now rank start }
     ensures { IfOk result (λ answer. (rank : ℕ) → IsStart plan.now.lines.now rank start →
         answer ≡ result_at plan.now.lines.now rank start) }
@@ -97,7 +97,7 @@ fn is_start(command: &Command) -> bool
 }
 
 /// The answer to a start whose name stands for this one.
-fn started(held: Option<u32>) -> Answer
+fn started(held: Option<u64>) -> Answer
     ensures { result ≡ start_answer held }
 {
     match held {
@@ -107,7 +107,7 @@ fn started(held: Option<u32>) -> Answer
 }
 
 /// The answer of the command of a line.
-fn answer(alloc: Global, plan: &Plan, number: u32) -> Result<Answer, Memory>
+fn answer(alloc: Global, plan: &Plan, number: u64) -> Result<Answer, Memory>
     requires line { IsLine plan.now.lines.now number }
     ensures { IfOk result (λ answer. (rank n : ℕ) (c : Numbered) →
         slice_get (commands_of rank plan.now.lines.now) n ≡ Some c → c.line ≡ number →
@@ -126,7 +126,7 @@ fn answer(alloc: Global, plan: &Plan, number: u32) -> Result<Answer, Memory>
 }
 
 /// The answers of a rank's first commands, as a history.
-fn history(alloc: Global, plan: &Plan, rank: usize, at: u32) -> Result<History, Memory>
+fn history(alloc: Global, plan: &Plan, rank: usize, at: u64) -> Result<History, Memory>
     requires rank { rank < length plan.now.ranks.items }
     requires within { at ≤ length (commands_of rank plan.now.lines.now) }
     ensures { IfOk result (λ history. filter_map (λ e. told_by e.what) history.events
@@ -144,7 +144,7 @@ fn history(alloc: Global, plan: &Plan, rank: usize, at: u32) -> Result<History, 
 }
 
 /// What becomes of each rank.
-fn accounts(alloc: Global, plan: &Plan, at: &[u32]) -> Result<Accounts, Memory>
+fn accounts(alloc: Global, plan: &Plan, at: &[u64]) -> Result<Accounts, Memory>
     requires ranks { length at.now ≡ length plan.now.ranks.items }
     requires within { (rank : ℕ) →
         at_of at.now rank ≤ length (commands_of rank plan.now.lines.now) }

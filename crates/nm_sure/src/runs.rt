@@ -17,7 +17,7 @@ use nm_types::{Command, Line, Memory, Script};
 use std::alloc::Global;
 
 /// The place of the line of a number in the script.
-pub(crate) fn place_of(number: u32) -> usize
+pub(crate) fn place_of(number: u64) -> usize
     requires { 2 ≤ number }
     ensures { result + 2 ≡ number }
 {
@@ -39,11 +39,11 @@ fn is_eager(command: &Command, eager: u16) -> bool
 pub(crate) struct Plan<'a> {
     pub(crate) lines: &'a [Line],
     /// The lines of each rank's commands.
-    pub(crate) ranks: Vec<Vec<u32>>,
+    pub(crate) ranks: Vec<Vec<u64>>,
     /// What each line's name stands for, by line.
-    pub(crate) held: Vec<Option<u32>>,
+    pub(crate) held: Vec<Option<u64>>,
     /// The partner of each start, by line.
-    pub(crate) partners: Vec<Option<u32>>,
+    pub(crate) partners: Vec<Option<u64>>,
     /// Up to how many bytes a standard send does not wait for its receive.
     eager: u16,
     pub(crate) ghost right: { IsPlan lines.now ranks.items held.items partners.items },
@@ -64,7 +64,7 @@ impl Drop for Plan<'_> {
 /// How far a run got.
 pub(crate) struct Reached {
     /// How many commands of each rank ran.
-    pub(crate) at: Vec<u32>,
+    pub(crate) at: Vec<u64>,
     /// Whether it ran, by line.
     ran: Vec<bool>,
 }
@@ -77,7 +77,7 @@ impl Drop for Reached {
 
 impl Plan<'_> {
     /// The line of a rank's next command.
-    pub(crate) fn next(&self, at: &[u32], rank: usize) -> Option<u32>
+    pub(crate) fn next(&self, at: &[u64], rank: usize) -> Option<u64>
         requires { length at.now ≡ length self.now.ranks.items }
         ensures { result ≡ waits_at self.now.lines.now at.now rank }
     {
@@ -86,7 +86,7 @@ impl Plan<'_> {
     }
 
     /// The request of the start of a line is ready.
-    fn is_ready(&self, reached: &Reached, start: u32) -> bool
+    fn is_ready(&self, reached: &Reached, start: u64) -> bool
         requires ran { AreRan self.now.lines.now reached.now.at.items reached.now.ran.items }
         requires line { (rank : ℕ) × IsStart self.now.lines.now rank start }
         ensures { (rank : ℕ) → IsStart self.now.lines.now rank start →
@@ -104,7 +104,7 @@ impl Plan<'_> {
     }
 
     /// The command of a line, the next one of its rank, can go on.
-    fn goes_on(&self, reached: &Reached, number: u32) -> bool
+    fn goes_on(&self, reached: &Reached, number: u64) -> bool
         requires ran { AreRan self.now.lines.now reached.now.at.items reached.now.ran.items }
         requires line { IsLine self.now.lines.now number }
         ensures { (rank : ℕ) (c : Numbered) →

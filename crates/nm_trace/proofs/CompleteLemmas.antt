@@ -285,7 +285,7 @@ module _ (p : AnswerPlace) (small : length p.ends < 2 ^ 8) where
 
   -- the rank waits, or not
   waits_next : (events : List Event) (due : List Note) (at : ℕ) → is_next (length p.ends) due ≡ false
-      → at < 2 ^ 32
+      → at < 2 ^ 64
       → feed p.ranks (tells p events due) (text_of (waits_words (length p.ends) at))
       ≡ Some (tells_next p (ended events (Some at)) due)
   unfolding feed telling

@@ -20,10 +20,10 @@ pub pair_again : (p : PairCount) → PairIn p → pair_of (pair_words p) ≡ Som
 unfolding pair_of
 pair_again p h = rw (small_again p.from h.0, small_again p.to h.1, huge_again p.packets h.2) refl
 
-pub waits_again : (rank line : ℕ) → rank < 2 ^ 8 → line < 2 ^ 32
+pub waits_again : (rank line : ℕ) → rank < 2 ^ 8 → line < 2 ^ 64
     → waits_of rank (waits_words rank line) ≡ Some line
 unfolding waits_of
-waits_again rank line small h = rw (small_again rank small, large_again line h, eq-eqb rank rank refl) refl
+waits_again rank line small h = rw (small_again rank small, huge_again line h, eq-eqb rank rank refl) refl
 
 pub cells_again : (c : Account) → CellsIn c → cells_of (cells_words c) ≡ Some c
 unfolding cells_of cells_with
@@ -60,7 +60,7 @@ pair_taken (name ∷ from_w ∷ to_w ∷ packets_w ∷ []) p h =
 pair_taken (a ∷ b ∷ c ∷ d ∷ e ∷ more) p h = cc
 
 pub waits_taken : (rank line : ℕ) (words : List (List ℕ)) → waits_of rank words ≡ Some line
-    → (words ≡ waits_words rank line) × (line < 2 ^ 32)
+    → (words ≡ waits_words rank line) × (line < 2 ^ 64)
 unfolding waits_of
 waits_taken rank line [] h = cc
 waits_taken rank line (a ∷ []) h = cc
@@ -69,7 +69,7 @@ waits_taken rank line (r ∷ line_w ∷ name ∷ []) h =
     let n = bind_some (number_of (2 ^ 8) r) _ line h in
     let g = guard_some (eqb n.0 rank && bytes_eq name (codes "waits")) _ line n.2 in
     let p = and_parts (eqb n.0 rank) (bytes_eq name (codes "waits")) g.0 in
-    let l = large_taken line line_w g.1 in
+    let l = huge_taken line line_w g.1 in
     let first : r ≡ decimal rank = (small_taken n.0 r n.1).1 ∙ ap decimal (eqb-true n.0 rank p.0) in
     (same_three _ _ _ _ _ _ first l.1 (same_bytes name (codes "waits") p.1), l.0)
 waits_taken rank line (a ∷ b ∷ c ∷ d ∷ more) h = cc

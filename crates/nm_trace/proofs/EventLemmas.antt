@@ -24,7 +24,7 @@ use Rattle.nm_trace.proofs.FieldLemmas.{peer_taken, pick_taken, how_taken, done_
 -- what is spelled is read
 
 send_again : (to : ℕ) (n : ℕ) (tag : ℕ) (ctx : ℕ) (len : ℕ) (how : How) (line : ℕ) → to < 2 ^ 8 → n < 2 ^ 64
-    → tag < 2 ^ 16 → ctx < 2 ^ 8 → len < 2 ^ 32 → line < 2 ^ 32
+    → tag < 2 ^ 16 → ctx < 2 ^ 8 → len < 2 ^ 32 → line < 2 ^ 64
     → send_of (decimal to ∷ decimal n ∷ decimal tag ∷ decimal ctx ∷ decimal len ∷ how_word how ∷ decimal line
     ∷ []) ≡ Some (what.Send to n tag ctx len how line)
 unfolding send_of send_with
@@ -36,11 +36,11 @@ send_again to n tag ctx len how line h0 h1 h2 h3 h4 h5 =
       small_again ctx h3,
       large_again len h4,
       how_again how,
-      large_again line h5,
+      huge_again line h5,
     ) refl
 
 post_again : (number : ℕ) (from : Peer) (tag : TagPick) (ctx : ℕ) (cap : ℕ) (line : ℕ) → number < 2 ^ 64
-    → PeerIn from → PickIn tag → ctx < 2 ^ 8 → cap < 2 ^ 32 → line < 2 ^ 32
+    → PeerIn from → PickIn tag → ctx < 2 ^ 8 → cap < 2 ^ 32 → line < 2 ^ 64
     → post_of (decimal number ∷ peer_word from ∷ tag_word tag ∷ decimal ctx ∷ decimal cap ∷ decimal line
     ∷ []) ≡ Some (what.Post (record { number = number; from = from; tag = tag; ctx = ctx; cap = cap }) line)
 unfolding post_of
@@ -51,7 +51,7 @@ post_again number from tag ctx cap line h0 h1 h2 h3 h4 h5 =
       pick_again tag h2,
       small_again ctx h3,
       large_again cap h4,
-      large_again line h5,
+      huge_again line h5,
     ) refl
 
 arrive_again : (from : ℕ) (n : ℕ) (tag : ℕ) (ctx : ℕ) (len : ℕ) (how : How) → from < 2 ^ 8 → n < 2 ^ 64
@@ -106,19 +106,19 @@ unfolding undone_of
 undone_again to n done h0 h1 =
     rw (small_again to h0, huge_again n h1, done_again done) refl
 
-claim_again : (from : ℕ) (n : ℕ) (line : ℕ) → from < 2 ^ 8 → n < 2 ^ 64 → line < 2 ^ 32
+claim_again : (from : ℕ) (n : ℕ) (line : ℕ) → from < 2 ^ 8 → n < 2 ^ 64 → line < 2 ^ 64
     → claim_of (decimal from ∷ decimal n ∷ decimal line ∷ []) ≡ Some (what.Claim from n line)
 unfolding claim_of
 claim_again from n line h0 h1 h2 =
-    rw (small_again from h0, huge_again n h1, large_again line h2) refl
+    rw (small_again from h0, huge_again n h1, huge_again line h2) refl
 
 match_again : (number : ℕ) (from : ℕ) (n : ℕ) (cap : ℕ) (line : ℕ) → number < 2 ^ 64 → from < 2 ^ 8
-    → n < 2 ^ 64 → cap < 2 ^ 32 → line < 2 ^ 32
+    → n < 2 ^ 64 → cap < 2 ^ 32 → line < 2 ^ 64
     → match_of (decimal number ∷ decimal from ∷ decimal n ∷ decimal cap ∷ decimal line ∷ []) ≡ Some
     (what.Match number from n cap line)
 unfolding match_of
 match_again number from n cap line h0 h1 h2 h3 h4 =
-    rw (huge_again number h0, small_again from h1, huge_again n h2, large_again cap h3, large_again line h4) refl
+    rw (huge_again number h0, small_again from h1, huge_again n h2, large_again cap h3, huge_again line h4) refl
 
 -- the event of a sort, which is no answer
 abbrev pub sort_is : Happened → Sort
@@ -218,8 +218,8 @@ send_taken (to_w ∷ n_w ∷ tag_w ∷ ctx_w ∷ len_w ∷ how_w ∷ line_w ∷ 
     let t4 = large_taken b4.0 len_w b4.1 in
     let b5 = bind_some (how_of how_w) _ w b4.2 in
     let t5 = how_taken b5.0 how_w b5.1 in
-    let b6 = bind_some (number_of (2 ^ 32) line_w) _ w b5.2 in
-    let t6 = large_taken b6.0 line_w b6.1 in
+    let b6 = bind_some (number_of (2 ^ 64) line_w) _ w b5.2 in
+    let t6 = huge_taken b6.0 line_w b6.1 in
     let is : what.Send b0.0 b1.0 b2.0 b3.0 b4.0 b5.0 b6.0 ≡ w = cc (b6.2) in
     let made : IsSpelled sort.Send (to_w ∷ n_w ∷ tag_w ∷ ctx_w ∷ len_w ∷ how_w ∷ line_w ∷ [])
     (what.Send b0.0 b1.0 b2.0 b3.0 b4.0 b5.0 b6.0) = record {
@@ -250,8 +250,8 @@ post_taken (number_w ∷ from_w ∷ tag_w ∷ ctx_w ∷ cap_w ∷ line_w ∷ [])
     let t3 = small_taken b3.0 ctx_w b3.1 in
     let b4 = bind_some (number_of (2 ^ 32) cap_w) _ w b3.2 in
     let t4 = large_taken b4.0 cap_w b4.1 in
-    let b5 = bind_some (number_of (2 ^ 32) line_w) _ w b4.2 in
-    let t5 = large_taken b5.0 line_w b5.1 in
+    let b5 = bind_some (number_of (2 ^ 64) line_w) _ w b4.2 in
+    let t5 = huge_taken b5.0 line_w b5.1 in
     let is : what.Post (record { number = b0.0; from = b1.0; tag = b2.0; ctx = b3.0; cap = b4.0 }) b5.0
     ≡ w = cc (b5.2) in
     let made : IsSpelled sort.Post (number_w ∷ from_w ∷ tag_w ∷ ctx_w ∷ cap_w ∷ line_w ∷ []) (what.Post
@@ -428,8 +428,8 @@ claim_taken (from_w ∷ n_w ∷ line_w ∷ []) w h =
     let t0 = small_taken b0.0 from_w b0.1 in
     let b1 = bind_some (number_of (2 ^ 64) n_w) _ w b0.2 in
     let t1 = huge_taken b1.0 n_w b1.1 in
-    let b2 = bind_some (number_of (2 ^ 32) line_w) _ w b1.2 in
-    let t2 = large_taken b2.0 line_w b2.1 in
+    let b2 = bind_some (number_of (2 ^ 64) line_w) _ w b1.2 in
+    let t2 = huge_taken b2.0 line_w b2.1 in
     let is : what.Claim b0.0 b1.0 b2.0 ≡ w = cc (b2.2) in
     let made : IsSpelled sort.Claim (from_w ∷ n_w ∷ line_w ∷ []) (what.Claim b0.0 b1.0 b2.0) = record {
       sort = refl;
@@ -456,8 +456,8 @@ match_taken (number_w ∷ from_w ∷ n_w ∷ cap_w ∷ line_w ∷ []) w h =
     let t2 = huge_taken b2.0 n_w b2.1 in
     let b3 = bind_some (number_of (2 ^ 32) cap_w) _ w b2.2 in
     let t3 = large_taken b3.0 cap_w b3.1 in
-    let b4 = bind_some (number_of (2 ^ 32) line_w) _ w b3.2 in
-    let t4 = large_taken b4.0 line_w b4.1 in
+    let b4 = bind_some (number_of (2 ^ 64) line_w) _ w b3.2 in
+    let t4 = huge_taken b4.0 line_w b4.1 in
     let is : what.Match b0.0 b1.0 b2.0 b3.0 b4.0 ≡ w = cc (b4.2) in
     let made : IsSpelled sort.Match (number_w ∷ from_w ∷ n_w ∷ cap_w ∷ line_w ∷ [])
     (what.Match b0.0 b1.0 b2.0 b3.0 b4.0) = record {

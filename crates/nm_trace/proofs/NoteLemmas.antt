@@ -18,7 +18,7 @@ use Rattle.nm_trace.proofs.AnswerLemmas.{answer_again, answer_taken, found_all}
 use Rattle.nm_trace.proofs.EventLemmas.{sort_is, rest_words, plain_again, plain_taken}
 use Rattle.nm_script.proofs.StepLemmas.{guard_some}
 use Rattle.nm_trace.proofs.FieldLemmas.{bind_some, same_bytes, small_again, huge_again}
-use Rattle.nm_trace.proofs.FieldLemmas.{large_again, small_taken, large_taken, huge_taken}
+use Rattle.nm_trace.proofs.FieldLemmas.{huge_again, small_taken, huge_taken}
 
 pub sort_again : (s : Sort) → sort_of (sort_text s) ≡ Some s
 unfolding sort_of
@@ -89,7 +89,7 @@ told_again (what.Claim from n line) len h =
     rw (h.1, plain_again (what.Claim from n line) h.0 (λ e. cc)) refl
 told_again (what.Match number from n cap line) len h =
     rw (h.1, plain_again (what.Match number from n cap line) h.0 (λ e. cc)) refl
-told_again (what.Ran line answer) len h = rw (large_again line h.0, answer_again answer len h.1) refl
+told_again (what.Ran line answer) len h = rw (huge_again line h.0, answer_again answer len h.1) refl
 
 -- the event of a line is read again
 pub note_again : (note : Note) → NoteIn note → note_of (note_words note) ≡ Some note
@@ -144,9 +144,9 @@ ran_told : (words : List (List ℕ)) (t : Said) → ran_of words ≡ Some t → 
 unfolding ran_of
 ran_told [] t h = cc
 ran_told (line_w ∷ words) t h =
-    let b = bind_some (number_of (2 ^ 32) line_w) _ t h in
+    let b = bind_some (number_of (2 ^ 64) line_w) _ t h in
     let c = bind_some (answer_of words) _ t b.2 in
-    let n = large_taken b.0 line_w b.1 in
+    let n = huge_taken b.0 line_w b.1 in
     let a = answer_taken words c.0 c.1 in
     let is : record { what = what.Ran b.0 c.0.0; len = c.0.1 } ≡ t = cc (c.2) in
     let made : IsTold sort.Ran (line_w ∷ words) (record { what = what.Ran b.0 c.0.0; len = c.0.1 }) =

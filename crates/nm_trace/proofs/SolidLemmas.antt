@@ -91,7 +91,7 @@ event_solid (what.Send to n tag ctx size how line) h = (
         middle_word tag h.2,
         (
           small_word ctx h.3,
-          (large_word size h.4, (how_solid how, (large_word line h.5, tt))),
+          (large_word size h.4, (how_solid how, (decimal_solid line h.5, tt))),
         ),
       ),
     ),
@@ -105,7 +105,7 @@ event_solid (what.Post post line) h = (
       peer_solid post.from h.1,
       (
         pick_solid post.tag h.2,
-        (small_word post.ctx h.3, (large_word post.cap h.4, (large_word line h.5, tt))),
+        (small_word post.ctx h.3, (large_word post.cap h.4, (decimal_solid line h.5, tt))),
       ),
     ),
   ),
@@ -132,7 +132,7 @@ event_solid (what.Withdraw from n done) h =
 event_solid (what.Undone to n done) h =
     (refl, (small_word to h.0, (decimal_solid n h.1, (done_solid done, tt))))
 event_solid (what.Claim from n line) h =
-    (refl, (small_word from h.0, (decimal_solid n h.1, (large_word line h.2, tt))))
+    (refl, (small_word from h.0, (decimal_solid n h.1, (decimal_solid line h.2, tt))))
 event_solid (what.Match number from n cap line) h = (
   refl,
   (
@@ -141,12 +141,12 @@ event_solid (what.Match number from n cap line) h = (
       small_word from h.1,
       (
         decimal_solid n h.2,
-        (large_word cap h.3, (large_word line h.4, tt)),
+        (large_word cap h.3, (decimal_solid line h.4, tt)),
       ),
     ),
   ),
 )
-event_solid (what.Ran line a) h = (refl, (large_word line h.0, answer_solid a h.1))
+event_solid (what.Ran line a) h = (refl, (decimal_solid line h.0, answer_solid a h.1))
 
 spoken_solid : (a : Answer) (len : ℕ) → BareIn a len → Solid (spoken_words a len)
 spoken_solid answer.Started len h = (refl, tt)
@@ -180,7 +180,7 @@ told_solid (what.Undone to n done) len h = event_solid (what.Undone to n done) h
 told_solid (what.Claim from n line) len h = event_solid (what.Claim from n line) h.0
 told_solid (what.Match number from n cap line) len h =
     event_solid (what.Match number from n cap line) h.0
-told_solid (what.Ran line a) len h = (refl, (large_word line h.0, spoken_solid a len h.1))
+told_solid (what.Ran line a) len h = (refl, (decimal_solid line h.0, spoken_solid a len h.1))
 
 -- the words of a note's line
 pub note_solid : (note : Note) → NoteIn note → Solid (note_words note)
@@ -220,13 +220,13 @@ body_prints answer.Done h = refl
 body_prints answer.Late h = refl
 body_prints answer.Asked h = refl
 
-pub answer_prints : (rank line : ℕ) (a : Answer) → rank < 2 ^ 8 → line < 2 ^ 32 → AnswerIn a
+pub answer_prints : (rank line : ℕ) (a : Answer) → rank < 2 ^ 8 → line < 2 ^ 64 → AnswerIn a
     → is_printable (join_with_byte 32 (decimal rank ∷ decimal line ∷ answer_words a) ++ body_word a) ≡ true
 answer_prints rank line a small large h =
     let words = decimal line ∷ answer_words a in
     list_all-append (λ b. nat_le 32 b && nat_le b 126) (join_with_byte 32 (decimal rank ∷ words)) (body_word a)
     ∙ and_from _ _ (joined_printable (decimal rank) words
-    (small_word rank small, (large_word line large, answer_solid a h))) (body_prints a h)
+    (small_word rank small, (decimal_solid line large, answer_solid a h))) (body_prints a h)
 
 -- a digit comes first, and the word up to the space
 digit_first : (ds x y : List ℕ) (c : ℕ) → AllDigits 10 ds → ds ++ 32 ∷ x ≡ c ∷ y → (c ≡ 32) ⊎ IsInRange 48 57 c

@@ -37,8 +37,8 @@ text_of words = join_with_byte 32 words
 pub pair_solid : (p : PairCount) → PairIn p → Solid (pair_words p)
 pair_solid p h = (refl, (small_word p.from h.0, (small_word p.to h.1, (decimal_solid p.packets h.2, tt))))
 
-pub waits_solid : (rank line : ℕ) → rank < 2 ^ 8 → line < 2 ^ 32 → Solid (waits_words rank line)
-waits_solid rank line small large = (small_word rank small, (large_word line large, (refl, tt)))
+pub waits_solid : (rank line : ℕ) → rank < 2 ^ 8 → line < 2 ^ 64 → Solid (waits_words rank line)
+waits_solid rank line small large = (small_word rank small, (decimal_solid line large, (refl, tt)))
 
 pub cells_solid : (c : Account) → CellsIn c → Solid (cells_words c)
 cells_solid c h = (refl, (large_word c.total h.0, (refl, (large_word c.home h.1, tt))))
@@ -50,7 +50,7 @@ note_split n h = words_again _ _ (note_solid n h)
 pub pair_split : (p : PairCount) → PairIn p → words_of (text_of (pair_words p)) ≡ pair_words p
 pair_split p h = words_again _ _ (pair_solid p h)
 
-pub waits_split : (rank line : ℕ) → rank < 2 ^ 8 → line < 2 ^ 32
+pub waits_split : (rank line : ℕ) → rank < 2 ^ 8 → line < 2 ^ 64
     → words_of (text_of (waits_words rank line)) ≡ waits_words rank line
 waits_split rank line small large = words_again _ _ (waits_solid rank line small large)
 

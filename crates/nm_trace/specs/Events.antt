@@ -54,7 +54,7 @@ send_with to_word n_word tag_word ctx_word len_word how_word line_word = do
   ctx ← number_of (2 ^ 8) ctx_word
   len ← number_of (2 ^ 32) len_word
   how ← how_of how_word
-  line ← number_of (2 ^ 32) line_word
+  line ← number_of (2 ^ 64) line_word
   Some (what.Send to n tag ctx len how line)
 
 -- a send
@@ -70,7 +70,7 @@ post_of (number_word ∷ from_word ∷ tag_word ∷ ctx_word ∷ cap_word ∷ li
   tag ← pick_of tag_word
   ctx ← number_of (2 ^ 8) ctx_word
   cap ← number_of (2 ^ 32) cap_word
-  line ← number_of (2 ^ 32) line_word
+  line ← number_of (2 ^ 64) line_word
   Some (what.Post (record { number = number; from = from; tag = tag; ctx = ctx; cap = cap }) line)
 post_of _ = None
 
@@ -141,7 +141,7 @@ unfoldable pub claim_of : List (List ℕ) → Option Happened
 claim_of (from_word ∷ n_word ∷ line_word ∷ []) = do
   from ← number_of (2 ^ 8) from_word
   n ← number_of (2 ^ 64) n_word
-  line ← number_of (2 ^ 32) line_word
+  line ← number_of (2 ^ 64) line_word
   Some (what.Claim from n line)
 claim_of _ = None
 
@@ -152,7 +152,7 @@ match_of (number_word ∷ from_word ∷ n_word ∷ cap_word ∷ line_word ∷ []
   from ← number_of (2 ^ 8) from_word
   n ← number_of (2 ^ 64) n_word
   cap ← number_of (2 ^ 32) cap_word
-  line ← number_of (2 ^ 32) line_word
+  line ← number_of (2 ^ 64) line_word
   Some (what.Match number from n cap line)
 match_of _ = None
 
@@ -184,7 +184,7 @@ answer_of _ = None
 -- an answer and its line
 unfoldable pub ran_of : List (List ℕ) → Option Said
 ran_of (line_word ∷ words) = do
-  line ← number_of (2 ^ 32) line_word
+  line ← number_of (2 ^ 64) line_word
   a ← answer_of words
   Some (record { what = what.Ran line a.0; len = a.1 })
 ran_of [] = None

@@ -66,7 +66,7 @@ ended events waits =
 unfoldable pub waits_of : ℕ → List (List ℕ) → Option ℕ
 waits_of rank (r ∷ line ∷ name ∷ []) = do
   n ← number_of (2 ^ 8) r
-  if n == rank && bytes_eq name (codes "waits") then number_of (2 ^ 32) line else None
+  if n == rank && bytes_eq name (codes "waits") then number_of (2 ^ 64) line else None
 waits_of rank _ = None
 
 -- the account of the cells, by its four words

@@ -71,7 +71,7 @@ note_line note = text_line (note_words note)
 
 -- what happened, and the number of bytes, within their types
 abbrev pub ToldIn : Happened → ℕ → Type 0
-ToldIn (what.Ran line answer) len = (line < 2 ^ 32) × BareIn answer len
+ToldIn (what.Ran line answer) len = (line < 2 ^ 64) × BareIn answer len
 ToldIn w len = WhatIn w × (len ≡ 0)
 
 -- a note within its types

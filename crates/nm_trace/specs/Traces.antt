@@ -45,10 +45,10 @@ AnswerIn _ = Unit {0}
 -- what happened, with numbers within their types
 abbrev pub WhatIn : Happened → Type 0
 WhatIn (what.Send to n tag ctx len how line) =
-    (to < 2 ^ 8) × (n < 2 ^ 64) × (tag < 2 ^ 16) × (ctx < 2 ^ 8) × (len < 2 ^ 32) × (line < 2 ^ 32)
+    (to < 2 ^ 8) × (n < 2 ^ 64) × (tag < 2 ^ 16) × (ctx < 2 ^ 8) × (len < 2 ^ 32) × (line < 2 ^ 64)
 WhatIn (what.Post post line) =
     (post.number < 2 ^ 64) × PeerIn post.from × PickIn post.tag × (post.ctx < 2 ^ 8)
-    × (post.cap < 2 ^ 32) × (line < 2 ^ 32)
+    × (post.cap < 2 ^ 32) × (line < 2 ^ 64)
 WhatIn (what.Arrive a) =
     (a.env.from < 2 ^ 8) × (a.n < 2 ^ 64) × (a.env.tag < 2 ^ 16) × (a.env.ctx < 2 ^ 8)
     × (a.env.len < 2 ^ 32)
@@ -58,10 +58,10 @@ WhatIn (what.Cancel number done) = number < 2 ^ 64
 WhatIn (what.Recall to n) = (to < 2 ^ 8) × (n < 2 ^ 64)
 WhatIn (what.Withdraw from n done) = (from < 2 ^ 8) × (n < 2 ^ 64)
 WhatIn (what.Undone to n done) = (to < 2 ^ 8) × (n < 2 ^ 64)
-WhatIn (what.Claim from n line) = (from < 2 ^ 8) × (n < 2 ^ 64) × (line < 2 ^ 32)
+WhatIn (what.Claim from n line) = (from < 2 ^ 8) × (n < 2 ^ 64) × (line < 2 ^ 64)
 WhatIn (what.Match number from n cap line) =
-    (number < 2 ^ 64) × (from < 2 ^ 8) × (n < 2 ^ 64) × (cap < 2 ^ 32) × (line < 2 ^ 32)
-WhatIn (what.Ran line answer) = (line < 2 ^ 32) × AnswerIn answer
+    (number < 2 ^ 64) × (from < 2 ^ 8) × (n < 2 ^ 64) × (cap < 2 ^ 32) × (line < 2 ^ 64)
+WhatIn (what.Ran line answer) = (line < 2 ^ 64) × AnswerIn answer
 
 -- an event whose numbers are within their types
 abbrev pub EventIn : Event → Type 0
@@ -69,7 +69,7 @@ EventIn event = (event.stamp < 2 ^ 64) × WhatIn event.what
 
 -- the line at which a rank waits, within its type, or none
 abbrev pub WaitsIn : Option ℕ → Type 0
-WaitsIn (Some line) = line < 2 ^ 32
+WaitsIn (Some line) = line < 2 ^ 64
 WaitsIn None = Unit {0}
 
 -- a rank whose numbers are within their types, and whose commands that ran are counted

@@ -34,7 +34,7 @@ pub fn is_ran(what: &Happened) -> bool
 fn start_of(
     alloc: Global,
     rank: u8,
-    line: u32,
+    line: u64,
     answer: &Answer,
     len: u64,
 ) -> Result<String, AllocError>

@@ -87,7 +87,7 @@ fn send_with(
     let ctx = small(ctx)?;
     let len = large(len)?;
     let how = how_from(how)?;
-    let line = large(line)?;
+    let line = huge(line)?;
     Some(Happened::Send {
         to,
         n,
@@ -128,7 +128,7 @@ fn post_with(
     let tag = pick_from(tag)?;
     let ctx = small(ctx)?;
     let cap = large(cap)?;
-    let line = large(line)?;
+    let line = huge(line)?;
     Some(Happened::Post {
         post: Post {
             number,
@@ -323,7 +323,7 @@ fn claim_with(from: &[u8], n: &[u8], line: &[u8]) -> Option<Happened>
 {
     let from = small(from)?;
     let n = huge(n)?;
-    let line = large(line)?;
+    let line = huge(line)?;
     Some(Happened::Claim { from, n, line })
 }
 
@@ -346,7 +346,7 @@ fn match_with(number: &[u8], from: &[u8], n: &[u8], cap: &[u8], line: &[u8]) -> 
     let from = small(from)?;
     let n = huge(n)?;
     let cap = large(cap)?;
-    let line = large(line)?;
+    let line = huge(line)?;
     Some(Happened::Match {
         number,
         from,
@@ -424,7 +424,7 @@ fn ran_from(alloc: Global, words: &[&[u8]]) -> Option<Said>
 {
     match words {
         [line, rest @ ..] => {
-            let line = large(line)?;
+            let line = huge(line)?;
             let (answer, len) = answer_from(alloc, rest)?;
             let what = Happened::Ran { line, answer };
             Some(Said { what, len })

@@ -19,14 +19,14 @@ pub fn middle(word: &[u8]) -> Option<u16>
     number_up_to(word, 65535).map(|n| n as u16)
 }
 
-/// A line, or a length.
+/// A length.
 pub fn large(word: &[u8]) -> Option<u32>
     ensures { result ≡ number_of (2 ^ 32) word.now }
 {
     number_up_to(word, 4294967295).map(|n| n as u32)
 }
 
-/// A stamp, or a count.
+/// A line, a stamp, or a count.
 pub fn huge(word: &[u8]) -> Option<u64>
     ensures { result ≡ number_of (2 ^ 64) word.now }
 {

@@ -15,7 +15,7 @@ use crate::events::{note_from, pair_from};
 use crate::faults::TraceFault;
 use crate::lines::next_line;
 use crate::notes::Note;
-use crate::numbers::{large, small};
+use crate::numbers::{huge, large, small};
 use nm_history::Event;
 use nm_report::PairCount;
 use nm_script::words::words;
@@ -130,18 +130,18 @@ pub fn next_given<'a>(
 
 /// The line at which a rank waits, by the three words of a line.
 #[tactic(auto, unfolding(crate::specs::Machine::waits_of))]
-fn waits_with(whose: &[u8], line: &[u8], name: &[u8], rank: u8) -> Option<u32>
+fn waits_with(whose: &[u8], line: &[u8], name: &[u8], rank: u8) -> Option<u64>
     ensures { result ≡ waits_of rank (whose.now ∷ line.now ∷ name.now ∷ []) }
 {
     if small(whose)? != rank || name != b"waits".as_slice() {
         return None;
     }
-    large(line)
+    huge(line)
 }
 
 /// The line at which a rank waits, by the words of a line.
 #[tactic(auto, unfolding(crate::specs::Machine::waits_of))]
-fn waits_from(words: &[&[u8]], rank: u8) -> Option<u32>
+fn waits_from(words: &[&[u8]], rank: u8) -> Option<u64>
     ensures { result ≡ waits_of rank (map (λ word. word.now) words.now) }
 {
     match words {
@@ -155,7 +155,7 @@ pub fn next_waits<'a>(
     alloc: Global,
     rank: u8,
     text: Text<'a>,
-) -> Result<Option<(u32, Text<'a>)>, AllocError>
+) -> Result<Option<(u64, Text<'a>)>, AllocError>
     ensures read { IfOk result (λ next. option_map (λ x. (x.0, x.1.rest.now)) next
         ≡ line_as (λ line. waits_of rank (words_of line)) text.entry.rest.now) }
     ensures number { IfOk result (λ next. IfSome next (λ x. x.1.number ≡ text.entry.number + 1)) }

@@ -29,9 +29,9 @@ pub enum Standing {
     /// No receive took it.
     Free,
     /// The receive of this line took it.
-    Taken { line: Option<u32> },
+    Taken { line: Option<u64> },
     /// The matched probe of this line claimed it.
-    Claimed { line: u32 },
+    Claimed { line: u64 },
     /// Its sender withdrew it.
     Withdrawn,
 }
@@ -48,7 +48,7 @@ pub struct NearMessage {
 #[derive(Clone, Copy)]
 pub struct NearReceive {
     pub receive: Receive,
-    pub line: u32,
+    pub line: u64,
     pub fit: Fit,
 }
 
@@ -72,7 +72,7 @@ fn fit_of(from: Peer, tag: TagPick, ctx: u8, a: &Arrival) -> Fit
 }
 
 /// The line of a deed that starts the receive with a number.
-fn receive_line(number: u64, deed: Deed) -> Option<u32>
+fn receive_line(number: u64, deed: Deed) -> Option<u64>
     ensures { result ≡ receive_line_lem number deed }
 {
     match deed {
@@ -87,7 +87,7 @@ fn receive_line(number: u64, deed: Deed) -> Option<u32>
 }
 
 /// The line of the receive with a number.
-fn line_of_receive(deeds: &[Deed], number: u64) -> Option<u32>
+fn line_of_receive(deeds: &[Deed], number: u64) -> Option<u64>
     ensures { result ≡ first_said (receive_line_lem number) deeds.now }
 {
     for deed in deeds {
@@ -99,7 +99,7 @@ fn line_of_receive(deeds: &[Deed], number: u64) -> Option<u32>
 }
 
 /// The line of a deed that claims a message.
-fn claim_line(from: u8, n: u64, deed: Deed) -> Option<u32>
+fn claim_line(from: u8, n: u64, deed: Deed) -> Option<u64>
     ensures { result ≡ claim_line_lem from n deed }
 {
     match deed {
@@ -113,7 +113,7 @@ fn claim_line(from: u8, n: u64, deed: Deed) -> Option<u32>
 }
 
 /// The line of the matched probe that claimed a message.
-fn line_of_claim(deeds: &[Deed], from: u8, n: u64) -> Option<u32>
+fn line_of_claim(deeds: &[Deed], from: u8, n: u64) -> Option<u64>
     ensures { result ≡ first_said (claim_line_lem from n) deeds.now }
 {
     for deed in deeds {
@@ -125,7 +125,7 @@ fn line_of_claim(deeds: &[Deed], from: u8, n: u64) -> Option<u32>
 }
 
 /// The line of a deed that sends message `n` to a rank.
-fn send_line(to: u8, n: u64, deed: Deed) -> Option<u32>
+fn send_line(to: u8, n: u64, deed: Deed) -> Option<u64>
     ensures { result ≡ send_line_lem to n deed }
 {
     match deed {
@@ -140,7 +140,7 @@ fn send_line(to: u8, n: u64, deed: Deed) -> Option<u32>
 }
 
 /// The line that sends message `n` to a rank.
-pub fn line_of_send(deeds: &[Deed], to: u8, n: u64) -> Option<u32>
+pub fn line_of_send(deeds: &[Deed], to: u8, n: u64) -> Option<u64>
     ensures { result ≡ first_said (send_line_lem to n) deeds.now }
 {
     for deed in deeds {

@@ -25,14 +25,14 @@ pub enum Need {
         n: u64,
         tag: u16,
         ctx: u8,
-        line: u32,
+        line: u64,
     },
     /// A message that the receive or the probe of this line selects.
     Message {
         from: Peer,
         tag: TagPick,
         ctx: u8,
-        line: u32,
+        line: u64,
     },
 }
 
@@ -40,7 +40,7 @@ pub enum Need {
 #[derive(Clone, Copy)]
 pub struct Wait {
     pub rank: u8,
-    pub line: u32,
+    pub line: u64,
     pub need: Need,
 }
 
@@ -132,7 +132,7 @@ fn need_of(deeds: &[Deed], request: Request) -> Option<Need>
 }
 
 /// What a blocking command needs.
-fn need_of_command(lines: &[Line], i: u8, rank: &Rank, line: u32, command: &Command) -> Option<Need>
+fn need_of_command(lines: &[Line], i: u8, rank: &Rank, line: u64, command: &Command) -> Option<Need>
     ensures { result ≡ spec.need_of lines.now i rank.now line command.now }
 {
     match command {
@@ -148,7 +148,7 @@ fn need_of_command(lines: &[Line], i: u8, rank: &Rank, line: u32, command: &Comm
 }
 
 /// The command of a line, and what it needs.
-fn wait_at(lines: &[Line], i: u8, rank: &Rank, line: u32) -> Option<Wait>
+fn wait_at(lines: &[Line], i: u8, rank: &Rank, line: u64) -> Option<Wait>
     ensures { result ≡ wait_at_lem lines.now i rank.now line }
 {
     let command = command_of_line(lines, i, line)?;

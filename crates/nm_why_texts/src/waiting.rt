@@ -70,7 +70,7 @@ fn push_needs_message(
     from: Peer,
     tag: TagPick,
     ctx: u8,
-    line: u32,
+    line: u64,
 ) -> Result<(), AllocError>
     ensures { OnOk result
         (string_bytes out.new ≡ string_bytes out.old ++ need_words (Need.Message from tag ctx line)) }
@@ -105,7 +105,7 @@ fn push_need(out: &mut String, need: Need) -> Result<(), AllocError>
 }
 
 /// Writes where a rank waits.
-fn push_wait_head(out: &mut String, rank: u8, line: u32) -> Result<(), AllocError>
+fn push_wait_head(out: &mut String, rank: u8, line: u64) -> Result<(), AllocError>
     ensures { OnOk result (string_bytes out.new ≡ string_bytes out.old ++ (codes "rank "
         ++ (decimal rank ++ (codes " waits in line " ++ (decimal line ++ codes ": "))))) }
 {
@@ -122,7 +122,7 @@ fn push_wait(out: &mut String, wait: Wait) -> Result<(), AllocError>
 }
 
 /// Writes the number of a line, if there is one.
-fn push_line_of(out: &mut String, line: Option<u32>) -> Result<(), AllocError>
+fn push_line_of(out: &mut String, line: Option<u64>) -> Result<(), AllocError>
     ensures { OnOk result (string_bytes out.new ≡ string_bytes out.old ++ line_words line) }
 {
     match line {
@@ -132,7 +132,7 @@ fn push_line_of(out: &mut String, line: Option<u32>) -> Result<(), AllocError>
 }
 
 /// The line that sent a message to a rank.
-fn sent_in(states: &[Rank], i: u8, a: &Arrival) -> Option<u32>
+fn sent_in(states: &[Rank], i: u8, a: &Arrival) -> Option<u64>
     ensures { result ≡ sent_in_lem states.now i a.now }
 {
     let sender = states.get(usize::from(a.env.from))?;
@@ -149,7 +149,7 @@ fn push_message(out: &mut String, states: &[Rank], i: u8, a: &Arrival) -> Result
 }
 
 /// Writes which receive took a message.
-fn push_taken(out: &mut String, line: Option<u32>) -> Result<(), AllocError>
+fn push_taken(out: &mut String, line: Option<u64>) -> Result<(), AllocError>
     ensures { OnOk result (string_bytes out.new ≡ string_bytes out.old ++ standing_words (Standing.Taken line)) }
 {
     out.push_str(", taken by the receive of ")?;

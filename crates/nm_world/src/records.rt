@@ -33,7 +33,7 @@ pub(crate) struct Parts<S> {
 }
 
 // The line of the next command, if there is one.
-fn next_line<S: Source>(source: &S) -> Option<u32>
+fn next_line<S: Source>(source: &S) -> Option<u64>
     ensures some { is_some result ≡ is_some (S.shows source.now).next }
     ensures line { (commands : List Numbered) (last : ℕ) → S.gives source.now commands last →
         result ≡ option_map (λ c. c.line) (slice_get commands (S.shows source.now).at) }

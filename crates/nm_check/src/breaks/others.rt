@@ -163,7 +163,7 @@ fn shown_by(
     tables: &[Tables],
     x: u8,
     at: usize,
-    line: u32,
+    line: u64,
 ) -> Option<Held>
     requires known { x < length ranks.now }
     requires short { events_in (ends_of ranks.now) ≤ 67108864 }

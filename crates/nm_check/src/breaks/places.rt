@@ -24,7 +24,7 @@ pub enum Place {
         rank: u8,
         at: usize,
         line: u32,
-        command: Option<u32>,
+        command: Option<u64>,
     },
     /// Behind the last event of this rank.
     Behind {
@@ -34,7 +34,7 @@ pub enum Place {
     /// at none.
     Standing {
         rank: u8,
-        waits: Option<u32>,
+        waits: Option<u64>,
     },
     /// At the count of packets of this place, counted from 0, among those of the trace. It stands in
     /// this line of the trace, counted from 1, or is missing there.
@@ -49,7 +49,7 @@ pub enum Place {
 }
 
 /// The line of the command that an event names.
-fn command_of(what: &Happened) -> Option<u32>
+fn command_of(what: &Happened) -> Option<u64>
     ensures { result ≡ command_line what.now }
 {
     match what {
@@ -63,7 +63,7 @@ fn command_of(what: &Happened) -> Option<u32>
 }
 
 /// The line of the command that the event at a place names.
-fn command_at(events: &[Event], at: usize) -> Option<u32>
+fn command_at(events: &[Event], at: usize) -> Option<u64>
     ensures { result ≡ option_and_then (λ e. command_line e.what) (slice_get events.now at) }
 {
     if at >= events.len() {

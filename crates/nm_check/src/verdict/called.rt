@@ -67,7 +67,7 @@ pub(crate) fn claim_words(
 }
 
 /// A claim for another line.
-pub(crate) fn named_words(alloc: Global, called: u32, found: u32) -> Result<String, AllocError>
+pub(crate) fn named_words(alloc: Global, called: u64, found: u64) -> Result<String, AllocError>
     ensures { IfOk result (λ text. string_bytes text ≡ spec.named_words called found) }
 {
     format!(in alloc;

@@ -32,7 +32,7 @@ fn line_words(alloc: Global, before: u32, line: u32) -> Result<String, AllocErro
 }
 
 /// The command of an event, if it names one.
-fn command_words(alloc: Global, command: Option<u32>) -> Result<String, AllocError>
+fn command_words(alloc: Global, command: Option<u64>) -> Result<String, AllocError>
     ensures { IfOk result (λ text. string_bytes text ≡ spec.command_words command) }
 {
     match command {
@@ -54,7 +54,7 @@ fn place_words(alloc: Global, before: u32, line: Option<u32>) -> Result<String, 
 /// An event: what happened, and its command.
 fn event_words(
     alloc: Global,
-    command: Option<u32>,
+    command: Option<u64>,
     incident: Option<Incident>,
 ) -> Result<String, AllocError>
     ensures { IfOk result (λ text. string_bytes text ≡ spec.event_words command incident) }
@@ -186,7 +186,7 @@ fn carried_text(
 }
 
 /// What a rank is said to do in the end.
-fn standing_words(alloc: Global, waits: Option<u32>) -> Result<String, AllocError>
+fn standing_words(alloc: Global, waits: Option<u64>) -> Result<String, AllocError>
     ensures { IfOk result (λ text. string_bytes text ≡ spec.standing_words waits) }
 {
     match waits {
@@ -199,7 +199,7 @@ fn standing_words(alloc: Global, waits: Option<u32>) -> Result<String, AllocErro
 fn left_against(
     alloc: Global,
     clause: RestClause,
-    command: Option<u32>,
+    command: Option<u64>,
     incident: Option<Incident>,
 ) -> Result<String, AllocError>
     ensures { IfOk result (λ text. string_bytes text ≡ spec.event_words command incident

@@ -45,9 +45,9 @@ fn seen_fits(seen: Seen)
     let _len = seen.len;
 }
 
-fn answer_fits(answer: &Answer, line: u32)
+fn answer_fits(answer: &Answer, line: u64)
     ensures answer { AnswerIn answer.now }
-    ensures line { line < 2 ^ 32 }
+    ensures line { line < 2 ^ 64 }
 {
     let _line = line;
     match answer {
@@ -66,9 +66,9 @@ fn answer_fits(answer: &Answer, line: u32)
     }
 }
 
-fn post_fits(post: Post, line: u32)
+fn post_fits(post: Post, line: u64)
     ensures post { PostIn post }
-    ensures line { line < 2 ^ 32 }
+    ensures line { line < 2 ^ 64 }
 {
     let _line = line;
     let _number = post.number;
@@ -146,7 +146,7 @@ fn events_fit(events: &[Event])
     }
 }
 
-fn waits_fit(waits: Option<u32>)
+fn waits_fit(waits: Option<u64>)
     ensures { WaitsIn waits }
 {
     if let Some(line) = waits {

@@ -63,7 +63,7 @@ pub(crate) fn answer_told(
     tables: &Tables,
     command: &Command,
     k: usize,
-    line: u32,
+    line: u64,
 ) -> Option<Told>
     requires { ArePlaces events.now tables.now.places }
     ensures { (rank : ℕ) (lines : List script_line.Line) (e : event.Event)

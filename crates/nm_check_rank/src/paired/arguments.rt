@@ -36,7 +36,7 @@ pub enum Argument {
     Capacity(u32),
     Message(Message),
     /// The line of the command.
-    Line(u32),
+    Line(u64),
 }
 
 /// An argument that is called for, and another one that was found.
@@ -120,7 +120,7 @@ pub(crate) fn send_mismatch(
     tag: u16,
     ctx: u8,
     len: u64,
-    line: u32,
+    line: u64,
 ) -> Option<Mismatch>
     ensures { (how : How) → IsFirstMismatch
         (arguments (happening.Send to 0 tag ctx len how line)) (arguments what.now) result }
@@ -154,7 +154,7 @@ pub(crate) fn post_mismatch(
     tag: TagPick,
     ctx: u8,
     cap: u32,
-    line: u32,
+    line: u64,
 ) -> Option<Mismatch>
     ensures { is_start what.now ≡ true → IsFirstMismatch
         (arguments (happening.Post
@@ -179,7 +179,7 @@ pub(crate) fn match_mismatch(
     what: &Happened,
     message: Message,
     cap: u32,
-    line: u32,
+    line: u64,
 ) -> Option<Mismatch>
     ensures { IsFirstMismatch
         (arguments (happening.Match 0 message.rank message.n cap line)) (arguments what.now) result }

@@ -47,7 +47,7 @@ fn message_of(events: &[Event], places: &Places, message: Message, k: usize) -> 
 pub(crate) fn arrival_claimed(
     events: &[Event],
     places: &Places,
-    line: u32,
+    line: u64,
     k: usize,
 ) -> Option<Arrival>
     requires { ArePlaces events.now places.now }

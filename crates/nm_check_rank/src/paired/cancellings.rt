@@ -205,7 +205,7 @@ fn cancels_due(
 }
 
 /// Whether the command of a line is a cancel.
-fn is_cancel_line(rank: u8, lines: &[Line], line: u32) -> bool
+fn is_cancel_line(rank: u8, lines: &[Line], line: u64) -> bool
     ensures { result
         ≡ option_map_or is_canceller_lem (command_at (commands_of rank lines.now) line) false }
 {
@@ -216,7 +216,7 @@ fn is_cancel_line(rank: u8, lines: &[Line], line: u32) -> bool
 }
 
 /// The request that the command of a line cancels, which has its answer at a place.
-fn cancelled(rank: u8, lines: &[Line], tables: &Tables, k: usize, line: u32) -> Option<Request>
+fn cancelled(rank: u8, lines: &[Line], tables: &Tables, k: usize, line: u64) -> Option<Request>
     ensures { (h : List event.Event) (e : event.Event) (answer : Answer) →
         AreRankTables rank lines.now h tables.now → slice_get h k ≡ Some e →
         e.what ≡ Ran line answer → option_map meant_by result

@@ -40,7 +40,7 @@ fn message_probed(mprobe: bool, found: Option<Arrival>) -> Option<Message>
 }
 
 /// The message that is to be claimed for the line of the claim at a place.
-fn claim_called(rank: u8, lines: &[Line], pairing: &Pairing, k: usize, line: u32) -> Option<Message>
+fn claim_called(rank: u8, lines: &[Line], pairing: &Pairing, k: usize, line: u64) -> Option<Message>
     ensures { (h : List event.Event) (e : event.Event) (from n : ℕ) →
         Tells rank lines.now h pairing.now → slice_get h k ≡ Some e → e.what ≡ Claim from n line →
         result ≡ spec.claim_called (commands_of rank lines.now) (take k h) line }
@@ -60,7 +60,7 @@ fn message_due(called: Option<Message>, found: Message) -> Option<Due>
 }
 
 /// The claim is to name another line.
-fn named_due(called: u32, found: u32) -> Option<Due>
+fn named_due(called: u64, found: u64) -> Option<Due>
     ensures { result ≡ spec.named_due called found }
 {
     if called == found {
@@ -72,7 +72,7 @@ fn named_due(called: u32, found: u32) -> Option<Due>
 
 /// Another number of claims is called for than was found, or one that names another line, where at
 /// most one was found.
-fn line_due(called: bool, line: u32, found: Option<u32>) -> Option<Due>
+fn line_due(called: bool, line: u64, found: Option<u64>) -> Option<Due>
     ensures { result
         ≡ spec.claims_due (if called then line ∷ [] else []) (option_to_list found) }
 {
@@ -89,7 +89,7 @@ fn line_due(called: bool, line: u32, found: Option<u32>) -> Option<Due>
 }
 
 /// .. of the claims since the answer before.
-fn claims_due(before: &[Event], since: Since, called: bool, line: u32) -> Option<Due>
+fn claims_due(before: &[Event], since: Since, called: bool, line: u64) -> Option<Due>
     requires { IsLeft is_claiming before.now since }
     ensures { result
         ≡ spec.claims_due (if called then line ∷ [] else []) (claims_since before.now) }

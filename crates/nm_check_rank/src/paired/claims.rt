@@ -39,7 +39,7 @@ fn is_mprobe(command: &Command) -> bool
 }
 
 /// Whether the command of a line is a matched probe.
-pub(crate) fn is_mprobe_line(rank: u8, lines: &[Line], line: u32) -> bool
+pub(crate) fn is_mprobe_line(rank: u8, lines: &[Line], line: u64) -> bool
     ensures { result
         ≡ option_map_or is_matched_probe (command_at (commands_of rank lines.now) line) false }
 {
@@ -50,7 +50,7 @@ pub(crate) fn is_mprobe_line(rank: u8, lines: &[Line], line: u32) -> bool
 }
 
 /// Whether an answer calls for a claim: that of a matched probe which shows a message.
-pub(crate) fn calls_for_claim(rank: u8, lines: &[Line], line: u32, answer: &Answer) -> bool
+pub(crate) fn calls_for_claim(rank: u8, lines: &[Line], line: u64, answer: &Answer) -> bool
     ensures { result
         ≡ (option_map_or is_matched_probe (command_at (commands_of rank lines.now) line) false
         && is_seen_lem answer.now) }
@@ -59,7 +59,7 @@ pub(crate) fn calls_for_claim(rank: u8, lines: &[Line], line: u32, answer: &Answ
 }
 
 /// The line of the claim at a place.
-pub(crate) fn claim_line(events: &[Event], place: usize) -> Option<u32>
+pub(crate) fn claim_line(events: &[Event], place: usize) -> Option<u64>
     ensures { (e : event.Event) → slice_get events.now place ≡ Some e →
         result ≡ line_of_claim e.what }
 {

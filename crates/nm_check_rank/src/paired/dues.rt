@@ -82,8 +82,8 @@ pub enum Due {
     },
     /// The claim is to name this line, and names this one.
     Named {
-        called: u32,
-        found: u32,
+        called: u64,
+        found: u64,
     },
     /// The start is to have this argument, and has this one.
     Argument {
@@ -103,7 +103,7 @@ fn answer_called(
     events: &[Event],
     tables: &Tables,
     k: usize,
-    line: u32,
+    line: u64,
 ) -> Option<Told>
     requires told { AreRankTables rank lines.now events.now tables.now }
     ensures { (e : event.Event) (answer : given_answer.Answer) → slice_get events.now k ≡ Some e →
@@ -118,18 +118,18 @@ fn answer_called(
 }
 
 /// Whether the next command is in this line.
-fn is_next(next: Option<u64>, line: u32) -> bool
+fn is_next(next: Option<u64>, line: u64) -> bool
     ensures { Decides result (next ≡ Some line) }
 {
     match next {
-        Some(next) => next == u64::from(line),
+        Some(next) => next == line,
         None => false,
     }
 }
 
 /// What stands against the answer to the command of a line: another one is next, or it has another
 /// answer.
-fn line_due(called: Option<Told>, next: Option<u64>, line: u32, answer: &Answer) -> Option<Due>
+fn line_due(called: Option<Told>, next: Option<u64>, line: u64, answer: &Answer) -> Option<Due>
     ensures { (commands : List Numbered) (before : List event.Event) →
         next ≡ next_line_lem commands before →
         option_map untold called

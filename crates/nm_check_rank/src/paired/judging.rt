@@ -39,7 +39,7 @@ pub enum Judged {
 }
 
 /// Whether a rank's events keep a rule, where so many commands are said to have run.
-fn keeps(run: &Run, at: u32, clause: OwnClause) -> bool
+fn keeps(run: &Run, at: u64, clause: OwnClause) -> bool
     requires { IsRun run.now }
     ensures { Decides result
         (KeepsOwn run.now.shape (commands_in run.now) at run.now.events.now clause) }
@@ -51,7 +51,7 @@ fn keeps(run: &Run, at: u32, clause: OwnClause) -> bool
 }
 
 /// The first rule in order that a rank breaks.
-fn first_broken(run: &Run, at: u32) -> Option<OwnClause>
+fn first_broken(run: &Run, at: u64) -> Option<OwnClause>
     requires { IsRun run.now }
     ensures { MatchOption result
         (All (KeepsOwn run.now.shape (commands_in run.now) at run.now.events.now) own_order)
@@ -67,7 +67,7 @@ fn first_broken(run: &Run, at: u32) -> Option<OwnClause>
 }
 
 /// The first rule in order that the end breaks.
-fn first_left(so_far: SoFar, at: u32) -> Option<OwnClause>
+fn first_left(so_far: SoFar, at: u64) -> Option<OwnClause>
     ensures { (h : List event.Event) → IsSoFar h so_far → MatchOption result
         (All (λ d. KeepsInTheEnd at d h) own_order)
         (IsFirstBroken (λ d. KeepsInTheEnd at d h) own_order) }
@@ -81,7 +81,7 @@ fn first_left(so_far: SoFar, at: u32) -> Option<OwnClause>
 }
 
 /// The end breaks a rule first, if it breaks one.
-fn left_in_the_end(so_far: SoFar, at: u32) -> Option<Breach>
+fn left_in_the_end(so_far: SoFar, at: u64) -> Option<Breach>
     ensures { (shape : Sizes) (commands : List Numbered) (h : List event.Event) →
         IsSoFar h so_far → KeepsAll shape commands h →
         MatchOption result (IsRankRun shape commands at h) (IsBreach shape commands at h) }
@@ -97,7 +97,7 @@ fn left_in_the_end(so_far: SoFar, at: u32) -> Option<Breach>
 }
 
 /// Where a rank breaks a rule first, if it breaks one.
-fn first_breach(run: &Run, at: u32) -> Option<Breach>
+fn first_breach(run: &Run, at: u64) -> Option<Breach>
     requires { IsRun run.now }
     ensures { MatchOption result
         (IsRankRun run.now.shape (commands_in run.now) at run.now.events.now)
@@ -114,7 +114,7 @@ fn first_breach(run: &Run, at: u32) -> Option<Breach>
 }
 
 /// The first rule in order that a rank breaks, which breaks one there.
-fn broken_rule(run: &Run, at: u32, first: Breach) -> OwnClause
+fn broken_rule(run: &Run, at: u64, first: Breach) -> OwnClause
     requires run { IsRun run.now }
     requires broken { IsBreach run.now.shape (commands_in run.now) at run.now.events.now first }
     ensures { IsFirstBroken (KeepsOwn run.now.shape (commands_in run.now) at run.now.events.now)
@@ -132,7 +132,7 @@ fn judge_numbered(
     shape: Shape,
     rank: u8,
     lines: &[Line],
-    at: u32,
+    at: u64,
     events: &[Event],
 ) -> Result<Judged, Memory>
     requires { Always (NumberAt shape.ranks) events.now }
@@ -249,7 +249,7 @@ pub fn judge_rank(
     shape: Shape,
     rank: u8,
     lines: &[Line],
-    at: u32,
+    at: u64,
     events: &[Event],
 ) -> Result<Judged, Memory>
     ensures { IfOk result (IsJudged shape rank lines.now at events.now) }

@@ -13,7 +13,7 @@ pub(crate) fn line_ran(what: &Happened) -> Option<u64>
     ensures { result ≡ ran_of what.now }
 {
     match what {
-        Happened::Ran { line, .. } => Some(u64::from(*line)),
+        Happened::Ran { line, .. } => Some(*line),
         _ => None,
     }
 }

@@ -65,7 +65,7 @@ impl SoFar {
 
     /// Whether nothing is left in the end that a rule does not allow, where so many commands are
     /// said to have run.
-    pub(crate) fn is_over(self, clause: OwnClause, at: u32) -> bool
+    pub(crate) fn is_over(self, clause: OwnClause, at: u64) -> bool
         ensures { (h : List event.Event) → IsSoFar h self →
             Decides result (KeepsInTheEnd at clause h) }
     {
@@ -90,7 +90,7 @@ fn ran_after(ran: usize, line: Option<u64>) -> usize
 }
 
 /// Whether as many commands ran as are said to have.
-fn is_same(at: u32, ran: usize) -> bool
+fn is_same(at: u64, ran: usize) -> bool
     ensures { Decides result (at ≡ ran) }
 {
     at as usize == ran

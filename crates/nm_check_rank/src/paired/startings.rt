@@ -44,7 +44,7 @@ fn mismatch_due(first: Option<Mismatch>, other: Option<Due>) -> Option<Due>
 }
 
 /// The first argument in which a start is not the receive of the message of a handle.
-fn held_mismatch(what: &Happened, message: Option<Message>, cap: u32, line: u32) -> Option<Mismatch>
+fn held_mismatch(what: &Happened, message: Option<Message>, cap: u32, line: u64) -> Option<Mismatch>
     ensures { (m : message_lem.Message) → message ≡ Some m → IsFirstMismatch
         (arguments (happening.Match 0 m.rank m.n cap line)) (arguments what.now) result }
 {
@@ -59,7 +59,7 @@ fn first_mismatch(
     what: &Happened,
     command: &Command,
     message: Option<Message>,
-    line: u32,
+    line: u64,
 ) -> Option<Mismatch>
     ensures { (limit : ℕ) (commands : List Numbered) (before : List event.Event)
         (w : occurrence.Happened) → IsOfHandle commands before command.now message →
@@ -117,7 +117,7 @@ fn found_due(
     what: &Happened,
     command: &Command,
     message: Option<Message>,
-    line: u32,
+    line: u64,
     limit: u16,
 ) -> Option<Due>
     ensures { (commands : List Numbered) (before : List event.Event) →
@@ -142,7 +142,7 @@ fn there_due(
     place: usize,
     command: &Command,
     message: Option<Message>,
-    line: u32,
+    line: u64,
     limit: u16,
 ) -> Option<Due>
     ensures { (commands : List Numbered) (e : event.Event) → slice_get before.now place ≡ Some e →
@@ -163,7 +163,7 @@ fn taken_due(
     since: Since,
     command: &Command,
     message: Option<Message>,
-    line: u32,
+    line: u64,
     limit: u16,
 ) -> Option<Due>
     requires { IsLeft is_start before.now since }
@@ -196,7 +196,7 @@ fn answer_due(
     before: &[Event],
     since: Since,
     message: Option<Message>,
-    line: u32,
+    line: u64,
     started: bool,
     limit: u16,
 ) -> Option<Due>

@@ -64,7 +64,7 @@ impl Tables {
 
     /// The pair whose message the command of a line shows, if it is a wait or a test, which has its
     /// answer at a place.
-    pub fn pair_asked(&self, rank: u8, lines: &[Line], k: usize, line: u32) -> Option<Pair>
+    pub fn pair_asked(&self, rank: u8, lines: &[Line], k: usize, line: u64) -> Option<Pair>
         ensures { (h : List event.Event) (e : event.Event) (answer : Answer) →
             AreRankTables rank lines.now h self.now → slice_get h k ≡ Some e →
             e.what ≡ Ran line answer →

@@ -15,7 +15,7 @@ use nm_report::RankAccount;
 use nm_types::Line;
 
 /// The place of the line with a rank's command that comes after so many.
-fn next_place(rank: u8, lines: &[Line], at: u32) -> Option<usize>
+fn next_place(rank: u8, lines: &[Line], at: u64) -> Option<usize>
     ensures { MatchOption result (slice_get (commands_of rank lines.now) at ≡ None)
         (λ k. IsSomeAnd (slice_get lines.now k)
         (λ l. slice_get (commands_of rank lines.now) at
@@ -34,7 +34,7 @@ fn next_place(rank: u8, lines: &[Line], at: u32) -> Option<usize>
 }
 
 /// Whether a rank waits at the line at a place.
-fn is_waiting_at(waits: Option<u32>, k: usize) -> bool
+fn is_waiting_at(waits: Option<u64>, k: usize) -> bool
     ensures { Decides result (waits ≡ Some (k + 2)) }
 {
     match waits {

@@ -66,11 +66,11 @@ fn is_own(lines: &[Line], rank: u8, k: usize) -> bool
 }
 
 /// The number of the line at a place, as far as it fits.
-fn number_of_line(k: usize) -> Option<u32>
+fn number_of_line(k: usize) -> Option<u64>
     ensures { k < 4294967293 → result ≡ Some (k + 2) }
 {
     if k < 4294967293 {
-        Some(k as u32 + 2)
+        Some(k as u64 + 2)
     } else {
         None
     }
@@ -85,7 +85,7 @@ fn left_after(own: bool, left: usize) -> usize
 }
 
 /// The line of the command of a rank at a place, from 0.
-pub fn line_at(lines: &[Line], rank: u8, place: usize) -> Option<u32>
+pub fn line_at(lines: &[Line], rank: u8, place: usize) -> Option<u64>
     ensures { length lines.now < 4294967293 → result ≡ line_in lines.now rank place }
 {
     let mut left = place;
@@ -153,7 +153,7 @@ fn cancel(rank: &Rank, request: Request) -> Option<Deed>
 }
 
 /// The receive of a claimed message, which no receive took.
-fn matched(rank: &Rank, cap: u32, line: u32, m: Message) -> Option<Deed>
+fn matched(rank: &Rank, cap: u32, line: u64, m: Message) -> Option<Deed>
     ensures { result ≡ match_at rank.now cap line (message_meant m) }
 {
     if rank.is_taken(m.rank, m.n) {
@@ -169,7 +169,7 @@ fn matched(rank: &Rank, cap: u32, line: u32, m: Message) -> Option<Deed>
 }
 
 /// The claim of a message, if there is one.
-fn claim(free: Option<Arrival>, line: u32) -> Option<Deed>
+fn claim(free: Option<Arrival>, line: u64) -> Option<Deed>
     ensures { result ≡ option_map (λ a. Deed.Claim a.env.from a.n line) free }
 {
     match free {
@@ -186,7 +186,7 @@ fn claim(free: Option<Arrival>, line: u32) -> Option<Deed>
 fn send(
     deeds: &[Deed],
     eager: u16,
-    line: u32,
+    line: u64,
     to: u8,
     tag: u16,
     ctx: u8,
@@ -210,7 +210,7 @@ fn send(
 }
 
 /// The receive that a command posts.
-fn post(deeds: &[Deed], line: u32, from: Peer, tag: TagPick, ctx: u8, cap: u32) -> Deed
+fn post(deeds: &[Deed], line: u64, from: Peer, tag: TagPick, ctx: u8, cap: u32) -> Deed
     ensures { result ≡ Deed.Post (record {
       number = count_by is_receive_by deeds.now;
       from = from;
@@ -237,7 +237,7 @@ pub fn start(
     eager: u16,
     i: u8,
     rank: &Rank,
-    line: u32,
+    line: u64,
     command: &Command,
 ) -> Option<Deed>
     ensures { sent_len command.now < 2 ^ 32 →
@@ -326,7 +326,7 @@ pub fn begin(
     eager: u16,
     i: u8,
     rank: &Rank,
-    line: u32,
+    line: u64,
     command: &Command,
 ) -> Option<Deed>
     ensures { sent_len command.now < 2 ^ 32 →
@@ -512,7 +512,7 @@ fn seen_claim(rank: &Rank, m: Message) -> Option<Reply>
 }
 
 /// What a matched probe of a line shows: the message that it claimed.
-fn claimed(rank: &Rank, line: u32) -> Option<Reply>
+fn claimed(rank: &Rank, line: u64) -> Option<Reply>
     ensures { result ≡ option_map seen_at (option_and_then
         (λ m. find (is_message m.from m.n) rank.now.came) (claim_in rank.now.deeds line)) }
 {
@@ -523,7 +523,7 @@ fn claimed(rank: &Rank, line: u32) -> Option<Reply>
 }
 
 /// The answer to a matched probe whose handle has no message.
-fn probed_new(idle: bool, rank: &Rank, line: u32, free: Option<Arrival>) -> Option<Reply>
+fn probed_new(idle: bool, rank: &Rank, line: u64, free: Option<Arrival>) -> Option<Reply>
     ensures { result ≡ probed_at idle rank.now line free None }
 {
     if !idle {
@@ -539,7 +539,7 @@ fn probed_new(idle: bool, rank: &Rank, line: u32, free: Option<Arrival>) -> Opti
 fn probed(
     idle: bool,
     rank: &Rank,
-    line: u32,
+    line: u64,
     free: Option<Arrival>,
     held: Option<Message>,
 ) -> Option<Reply>
@@ -587,7 +587,7 @@ fn looked(free: Option<Arrival>) -> Reply
 
 /// The answer that the command of a line can have by now, but for that of a test that its request is
 /// not complete.
-pub fn answer(view: View, i: u8, rank: &Rank, line: u32, command: &Command) -> Option<Reply>
+pub fn answer(view: View, i: u8, rank: &Rank, line: u64, command: &Command) -> Option<Reply>
     ensures { result ≡ answer_in (spot_in view.entry.table.now view.entry.ids.now)
         view.entry.lines.now i rank.now line command.now }
 {

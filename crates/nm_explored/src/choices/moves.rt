@@ -80,7 +80,7 @@ fn push_deed(turns: &mut Vec<Turn>, rank: u8, deed: Option<Deed>) -> Result<(), 
 }
 
 /// The answer of a command, as a deed.
-fn replied(line: u32, reply: Option<Reply>) -> Option<Deed>
+fn replied(line: u64, reply: Option<Reply>) -> Option<Deed>
     ensures { result ≡ option_map (λ r. Deed.Ran line r) reply }
 {
     match reply {
@@ -90,7 +90,7 @@ fn replied(line: u32, reply: Option<Reply>) -> Option<Deed>
 }
 
 /// The answer of a test that its request is not complete.
-fn denied(lines: &[Line], i: u8, rank: &Rank, line: u32, command: &Command) -> Option<Deed>
+fn denied(lines: &[Line], i: u8, rank: &Rank, line: u64, command: &Command) -> Option<Deed>
     ensures { result ≡ no_in lines.now i rank.now line command.now }
 {
     if may_say_no(lines, i, rank, command) {
@@ -108,7 +108,7 @@ fn push_command(
     view: View,
     i: u8,
     rank: &Rank,
-    line: u32,
+    line: u64,
     command: &Command,
     turns: &mut Vec<Turn>,
 ) -> Result<(), Memory>

@@ -145,7 +145,7 @@ fn request_of_name(lines: &[Line], i: u8, rank: &Rank, name: Option<u16>) -> Opt
 }
 
 /// The request that the command of a line asks for.
-fn request_asked(lines: &[Line], i: u8, rank: &Rank, line: u32) -> Option<Request>
+fn request_asked(lines: &[Line], i: u8, rank: &Rank, line: u64) -> Option<Request>
     ensures { option_map meant_by result ≡ request_asked_lem lines.now i rank.now line }
 {
     match command_of_line(lines, i, line) {
@@ -324,7 +324,7 @@ impl Log {
         lines: &[Line],
         i: u8,
         rank: &Rank,
-        line: u32,
+        line: u64,
         reply: Reply,
     ) -> Result<(), Memory>
         ensures { OnOk result (self.new ≡ before_answer lines.now self.old i rank.now line reply) }

@@ -72,7 +72,7 @@ fn account(lines: &[Line], i: u8, rank: &Rank, events: Vec<Event>) -> RankAccoun
     let at = ran(rank.deeds());
     RankAccount {
         history: History::from_vec(events),
-        at: at as u32,
+        at: at as u64,
         waits: line_at(lines, i, at),
     }
 }

@@ -48,7 +48,7 @@ fn name_asked(lines: &[Line], rank: u8, what: &Happened) -> Option<u16>
 }
 
 /// The name of the request of a line's command.
-fn name_of_line(lines: &[Line], rank: u8, line: u32) -> Option<u16>
+fn name_of_line(lines: &[Line], rank: u8, line: u64) -> Option<u16>
     ensures { result ≡ option_and_then name_of_lem (command_at (commands_of rank lines.now) line) }
 {
     match command_of_line(lines, rank, line) {
@@ -59,7 +59,7 @@ fn name_of_line(lines: &[Line], rank: u8, line: u32) -> Option<u16>
 
 /// The live request of a name before a place.
 pub fn live(
-    names: &IndexMap<u16, u32>,
+    names: &IndexMap<u16, u64>,
     events: &[Event],
     places: &ByNumber,
     q: u16,
@@ -77,7 +77,7 @@ pub fn live(
 
 /// The request that what happened at a place asks for.
 fn request_asked(
-    names: &IndexMap<u16, u32>,
+    names: &IndexMap<u16, u64>,
     lines: &[Line],
     rank: u8,
     events: &[Event],
@@ -97,7 +97,7 @@ fn request_asked(
 }
 
 /// What the answer of a line's command does to the name of its request.
-fn change_of(lines: &[Line], rank: u8, line: u32, answer: &Answer) -> Change
+fn change_of(lines: &[Line], rank: u8, line: u64, answer: &Answer) -> Change
     ensures { (q : ℕ) (was : Option ℕ) →
         line_after (commands_of rank lines.now) q was
         (Ran line answer.now) ≡ changed q line was result }
@@ -110,7 +110,7 @@ fn change_of(lines: &[Line], rank: u8, line: u32, answer: &Answer) -> Change
 
 /// Notes what an event does to the lines that names stand for.
 fn rename(
-    names: &mut IndexMap<u16, u32>,
+    names: &mut IndexMap<u16, u64>,
     lines: &[Line],
     rank: u8,
     what: &Happened,
@@ -139,7 +139,7 @@ pub struct Asked {
     /// The message of each command's handle, by the place of its answer.
     pub messages: Vec<Option<Message>>,
     /// The lines of the starts that names stand for at the end.
-    pub names: IndexMap<u16, u32>,
+    pub names: IndexMap<u16, u64>,
 }
 
 impl Drop for Asked {

@@ -24,7 +24,7 @@ fn own_command(lines: &[Line], rank: u8, k: usize) -> Option<&Command>
 }
 
 /// The command of a line, where it is this rank's.
-pub fn command_of_line(lines: &[Line], rank: u8, line: u32) -> Option<&Command>
+pub fn command_of_line(lines: &[Line], rank: u8, line: u64) -> Option<&Command>
     ensures { option_copied result ≡ command_at (commands_of rank lines.now) line }
 {
     if line < 2 {

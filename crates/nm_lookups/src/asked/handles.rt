@@ -52,11 +52,11 @@ fn message_there(events: &[Event], place: usize) -> Option<Message>
 }
 
 /// The message that the command of a line claimed before a place.
-pub fn claim_at(events: &[Event], places: &ByNumber, line: u32, k: usize) -> Option<Message>
+pub fn claim_at(events: &[Event], places: &ByNumber, line: u64, k: usize) -> Option<Message>
     requires { AreByNumber events.now places.now }
     ensures { option_map message_meant result ≡ claim_at_lem (take k events.now) line }
 {
-    match places.claims.get(&u64::from(line)) {
+    match places.claims.get(&line) {
         Some(place) => {
             if *place < k {
                 message_there(events, *place)
@@ -80,7 +80,7 @@ fn handle_of(command: &Command) -> Option<u16>
 }
 
 /// The handle of a line's command.
-fn handle_of_line(lines: &[Line], rank: u8, line: u32) -> Option<u16>
+fn handle_of_line(lines: &[Line], rank: u8, line: u64) -> Option<u16>
     ensures { result
         ≡ option_and_then handle_of_lem (command_at (commands_of rank lines.now) line) }
 {
@@ -102,7 +102,7 @@ fn handle_asked(lines: &[Line], rank: u8, what: &Happened) -> Option<u16>
 
 /// The live message of a handle before a place.
 fn live_message(
-    handles: &IndexMap<u16, u32>,
+    handles: &IndexMap<u16, u64>,
     events: &[Event],
     places: &ByNumber,
     m: u16,
@@ -120,7 +120,7 @@ fn live_message(
 
 /// The message that what happened at a place asks for.
 fn message_asked(
-    handles: &IndexMap<u16, u32>,
+    handles: &IndexMap<u16, u64>,
     lines: &[Line],
     rank: u8,
     events: &[Event],
@@ -153,7 +153,7 @@ fn change_of_handle(command: &Command, answer: &Answer) -> Change
 }
 
 /// What the answer of a line's command does to the handle of its message.
-fn change_of(lines: &[Line], rank: u8, line: u32, answer: &Answer) -> Change
+fn change_of(lines: &[Line], rank: u8, line: u64, answer: &Answer) -> Change
     ensures { (m : ℕ) (was : Option ℕ) →
         claim_line_after (commands_of rank lines.now) m was (Ran line answer.now)
         ≡ changed m line was result }
@@ -166,7 +166,7 @@ fn change_of(lines: &[Line], rank: u8, line: u32, answer: &Answer) -> Change
 
 /// Notes what an event does to the lines that handles stand for.
 fn hand_on(
-    handles: &mut IndexMap<u16, u32>,
+    handles: &mut IndexMap<u16, u64>,
     lines: &[Line],
     rank: u8,
     what: &Happened,

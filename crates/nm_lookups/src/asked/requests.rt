@@ -49,11 +49,11 @@ fn request_there(events: &[Event], place: usize) -> Option<Request>
 }
 
 /// The request that the start of a line made before a place.
-pub fn request_at(events: &[Event], places: &ByNumber, line: u32, k: usize) -> Option<Request>
+pub fn request_at(events: &[Event], places: &ByNumber, line: u64, k: usize) -> Option<Request>
     requires { AreByNumber events.now places.now }
     ensures { option_map meant_by result ≡ request_at_lem (take k events.now) line }
 {
-    match places.starts.get(&u64::from(line)) {
+    match places.starts.get(&line) {
         Some(place) => {
             if *place < k {
                 request_there(events, *place)
@@ -127,7 +127,7 @@ pub(crate) fn ends(q: u16, so: bool) -> Change
 }
 
 /// Makes a change to the lines that names stand for.
-pub fn apply(lines: &mut IndexMap<u16, u32>, change: Change, line: u32) -> Result<(), Memory>
+pub fn apply(lines: &mut IndexMap<u16, u64>, change: Change, line: u64) -> Result<(), Memory>
     ensures { OnOk result ((name : ℕ) → get nat_eq lines.new name
         ≡ changed name line (get nat_eq lines.old name) change) }
 {

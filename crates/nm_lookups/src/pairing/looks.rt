@@ -12,7 +12,7 @@ use nm_match::Matcher;
 use nm_types::{Arrival, Command, Line};
 
 /// The line of the command that an event answers, or claims a message for.
-fn line_of(what: &Happened) -> Option<u32>
+fn line_of(what: &Happened) -> Option<u64>
     ensures { result ≡ line_of_look what.now }
 {
     match what {

@@ -16,7 +16,7 @@ pub enum Reply {
     Nothing,
     Sent,
     /// The bytes are those that the line of the message's sender sends.
-    Got { from: u8, tag: u16, line: u32 },
+    Got { from: u8, tag: u16, line: u64 },
     Cut { from: u8, tag: u16, len: u32 },
     Cancelled,
     Seen(Seen),
@@ -60,18 +60,18 @@ pub enum Deed {
         ctx: u8,
         len: u32,
         how: How,
-        line: u32,
+        line: u64,
     },
     Post {
         receive: Receive,
-        line: u32,
+        line: u64,
     },
     Match {
         number: u64,
         from: u8,
         n: u64,
         cap: u32,
-        line: u32,
+        line: u64,
     },
     Cancel {
         number: u64,
@@ -84,10 +84,10 @@ pub enum Deed {
     Claim {
         from: u8,
         n: u64,
-        line: u32,
+        line: u64,
     },
     Ran {
-        line: u32,
+        line: u64,
         reply: Reply,
     },
 }

@@ -78,7 +78,7 @@ fn is_result(reply: Reply) -> bool
 
 /// The line that a name stands for, after a command gave its answer.
 #[tactic(auto, using(crate::proofs::LookLemmas::named))]
-fn name_after(q: u16, was: Option<u32>, command: &Command, line: u32, reply: Reply) -> Option<u32>
+fn name_after(q: u16, was: Option<u64>, command: &Command, line: u64, reply: Reply) -> Option<u64>
     ensures { (lines : List script_line.Line) (commands : List Numbered) →
         command_at commands line ≡ Some command.now →
         line_after commands q was (Ran line (answer_meant lines reply)) ≡ result }
@@ -94,7 +94,7 @@ fn name_after(q: u16, was: Option<u32>, command: &Command, line: u32, reply: Rep
 
 /// .. and after a deed.
 #[tactic(auto, using(crate::proofs::LookLemmas::unnamed))]
-fn name_after_deed(lines: &[Line], rank: u8, q: u16, was: Option<u32>, deed: &Deed) -> Option<u32>
+fn name_after_deed(lines: &[Line], rank: u8, q: u16, was: Option<u64>, deed: &Deed) -> Option<u64>
     ensures { result ≡ line_after (commands_of rank lines.now) q was (happening lines.now deed.now) }
 {
     match deed {
@@ -107,7 +107,7 @@ fn name_after_deed(lines: &[Line], rank: u8, q: u16, was: Option<u32>, deed: &De
 }
 
 /// The line of the start that a name stands for.
-fn line_of_name(lines: &[Line], rank: u8, deeds: &[Deed], q: u16) -> Option<u32>
+fn line_of_name(lines: &[Line], rank: u8, deeds: &[Deed], q: u16) -> Option<u64>
     ensures { result ≡ name_in lines.now rank deeds.now q }
 {
     deeds.iter().fold(
@@ -117,7 +117,7 @@ fn line_of_name(lines: &[Line], rank: u8, deeds: &[Deed], q: u16) -> Option<u32>
 }
 
 /// Whether a deed starts the request of a line.
-fn is_start_of_line(line: u32, deed: &Deed) -> bool
+fn is_start_of_line(line: u64, deed: &Deed) -> bool
     ensures { result ≡ is_start_by line deed.now }
 {
     match deed {
@@ -129,7 +129,7 @@ fn is_start_of_line(line: u32, deed: &Deed) -> bool
 }
 
 /// The request that a deed makes for the start of a line.
-fn request_by(line: u32, deed: &Deed) -> Option<Request>
+fn request_by(line: u64, deed: &Deed) -> Option<Request>
     ensures { option_map meant_by result ≡ request_of line (happening [] deed.now) }
 {
     if !is_start_of_line(line, deed) {
@@ -146,14 +146,14 @@ fn request_by(line: u32, deed: &Deed) -> Option<Request>
 }
 
 /// The deed that starts the request of a line.
-fn start_of_line(deeds: &[Deed], line: u32) -> Option<Deed>
+fn start_of_line(deeds: &[Deed], line: u64) -> Option<Deed>
     ensures { result ≡ find (is_start_by line) deeds.now }
 {
     deeds.iter().copied().find(|d| is_start_of_line(line, d))
 }
 
 /// The request that the start of a line made.
-fn request_at(deeds: &[Deed], line: u32) -> Option<Request>
+fn request_at(deeds: &[Deed], line: u64) -> Option<Request>
     ensures { option_map meant_by result ≡ request_in deeds.now line }
 {
     match start_of_line(deeds, line) {
@@ -194,7 +194,7 @@ fn receives_of(m: u16, command: &Command) -> bool
 
 /// The line that a handle stands for, after a command gave its answer.
 #[tactic(auto, using(crate::proofs::LookLemmas::handled))]
-fn handle_after(m: u16, was: Option<u32>, command: &Command, line: u32, reply: Reply) -> Option<u32>
+fn handle_after(m: u16, was: Option<u64>, command: &Command, line: u64, reply: Reply) -> Option<u64>
     ensures { (lines : List script_line.Line) (commands : List Numbered) →
         command_at commands line ≡ Some command.now →
         claim_line_after commands m was (Ran line (answer_meant lines reply)) ≡ result }
@@ -210,7 +210,7 @@ fn handle_after(m: u16, was: Option<u32>, command: &Command, line: u32, reply: R
 
 /// .. and after a deed.
 #[tactic(auto, using(crate::proofs::LookLemmas::unhandled))]
-fn handle_after_deed(lines: &[Line], rank: u8, m: u16, was: Option<u32>, deed: &Deed) -> Option<u32>
+fn handle_after_deed(lines: &[Line], rank: u8, m: u16, was: Option<u64>, deed: &Deed) -> Option<u64>
     ensures { result
         ≡ claim_line_after (commands_of rank lines.now) m was (happening lines.now deed.now) }
 {
@@ -224,7 +224,7 @@ fn handle_after_deed(lines: &[Line], rank: u8, m: u16, was: Option<u32>, deed: &
 }
 
 /// The line of the claim that a handle stands for.
-fn line_of_handle(lines: &[Line], rank: u8, deeds: &[Deed], m: u16) -> Option<u32>
+fn line_of_handle(lines: &[Line], rank: u8, deeds: &[Deed], m: u16) -> Option<u64>
     ensures { result ≡ handle_in lines.now rank deeds.now m }
 {
     deeds.iter().fold(
@@ -234,7 +234,7 @@ fn line_of_handle(lines: &[Line], rank: u8, deeds: &[Deed], m: u16) -> Option<u3
 }
 
 /// Whether a deed claims the message of a line.
-fn is_claim_of_line(line: u32, deed: &Deed) -> bool
+fn is_claim_of_line(line: u64, deed: &Deed) -> bool
     ensures { result ≡ is_claim_at line deed.now }
 {
     match deed {
@@ -244,7 +244,7 @@ fn is_claim_of_line(line: u32, deed: &Deed) -> bool
 }
 
 /// The message that a deed claims for the command of a line.
-fn claim_by(line: u32, deed: &Deed) -> Option<Message>
+fn claim_by(line: u64, deed: &Deed) -> Option<Message>
     ensures { option_map message_meant result ≡ message_claimed line (happening [] deed.now) }
 {
     if !is_claim_of_line(line, deed) {
@@ -257,14 +257,14 @@ fn claim_by(line: u32, deed: &Deed) -> Option<Message>
 }
 
 /// The deed that claims the message of a line.
-fn claim_of_line(deeds: &[Deed], line: u32) -> Option<Deed>
+fn claim_of_line(deeds: &[Deed], line: u64) -> Option<Deed>
     ensures { result ≡ find (is_claim_at line) deeds.now }
 {
     deeds.iter().copied().find(|d| is_claim_of_line(line, d))
 }
 
 /// The message that the command of a line claimed.
-pub fn claim_at(deeds: &[Deed], line: u32) -> Option<Message>
+pub fn claim_at(deeds: &[Deed], line: u64) -> Option<Message>
     ensures { option_map message_meant result ≡ claim_in deeds.now line }
 {
     match claim_of_line(deeds, line) {

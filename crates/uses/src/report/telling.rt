@@ -10,7 +10,7 @@ use std::alloc::Global;
 
 /// The report of a record of one rank that waits at this line: it ran no command, nothing happened, and
 /// its eight cells are home.
-pub fn stands_at(alloc: Global, shape: Shape, line: u32) -> Result<Vec<u8>, Memory>
+pub fn stands_at(alloc: Global, shape: Shape, line: u64) -> Result<Vec<u8>, Memory>
     ensures { IfOk result (λ text. text.items ≡ standing_text line) }
 {
     let mut ranks = Accounts::new(alloc);

@@ -1,33 +1,25 @@
-use Rattle.std.proofs.Common.{◌≡◌, ℕ, Option, Some, None, List, ◌∙◌, sym, subst}
-use Rattle.std.specs.Prelude.{option_map, position}
+use Rattle.std.proofs.Common.{◌∙◌, sym}
+use Rattle.std.specs.Prelude.{option_map}
 use Rattle.nm_history.specs.declared.events.Event.{Event}
 use Rattle.nm_history.specs.Answers.{request_of}
-use Rattle.nm_lookups.specs.Firsts.{is_start_at}
 use Rattle.nm_lookups.specs.AskedFor.{meant_by}
 use Rattle.nm_lookups.proofs.GivenLemmas.{given_before, given_later, given_never}
 use Rattle.nm_lookups.proofs.RequestLemmas.{an_event}
 use Rattle.nm_lookups.proofs.asked.requests.request_at.Goals as goal
 
-first_of_line : (h : List Event) (n line : ℕ) (o : Option ℕ) → n ≡ line →
-    position (λ e. is_start_at n e.what) h ≡ o → position (λ e. is_start_at line e.what) h ≡ o
-first_of_line h n line o same first = subst (λ (m : ℕ). position (λ e. is_start_at m e.what) h ≡ o) same first
-
 pub returns-then-place-k : goal.returns-then-place-k
 returns-then-place-k c =
     given_before (λ (e : Event). request_of c.args.line e.what) c.args.events.now c.args.k an_event c.in-Some.place.now
     (option_map meant_by c.request_there.result)
-    (first_of_line c.args.events.now c.from.result c.args.line (Some c.in-Some.place.now) c.from.ensures
-    (sym (c.in-Some.ensures.value ∙ c.requires.starts c.from.result))) c.if-place-k.true
+    (sym (c.in-Some.ensures.value ∙ c.requires.starts c.args.line)) c.if-place-k.true
     (c.request_there.ensures c.args.line)
 
 pub returns-else-place-k : goal.returns-else-place-k
 returns-else-place-k c =
     given_later (λ (e : Event). request_of c.args.line e.what) c.args.events.now c.args.k c.in-Some.place.now
-    (first_of_line c.args.events.now c.from.result c.args.line (Some c.in-Some.place.now) c.from.ensures
-    (sym (c.in-Some.ensures.value ∙ c.requires.starts c.from.result))) c.if-place-k.false
+    (sym (c.in-Some.ensures.value ∙ c.requires.starts c.args.line)) c.if-place-k.false
 
 pub returns-in-None : goal.returns-in-None
 returns-in-None c =
     given_never (λ (e : Event). request_of c.args.line e.what) c.args.events.now c.args.k
-    (first_of_line c.args.events.now c.from.result c.args.line None c.from.ensures
-    (sym (c.in-None.ensures.value ∙ c.requires.starts c.from.result)))
+    (sym (c.in-None.ensures.value ∙ c.requires.starts c.args.line))

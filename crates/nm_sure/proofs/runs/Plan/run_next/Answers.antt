@@ -48,7 +48,7 @@ overflow_add-index_mut c =
     let is = at_read c.args.reached.now.at.items c.args.rank c.index_mut-in-Some.result.now low
     c.index_mut-in-Some.ensures.value in
     let few = next.1 in
-    let small : c.index_mut-in-Some.result.now + 1 < 4294967296 = omega (arith, is, few) in
+    let small : c.index_mut-in-Some.result.now + 1 < 18446744073709551616 = omega (arith, is, few) in
     search (arith, small)
 
 pub returns-in-Some-clause-at : goal.returns-in-Some-clause-at
