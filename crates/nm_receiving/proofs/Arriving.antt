@@ -37,6 +37,8 @@ use Rattle.nm_receiving.proofs.Facts.{taken_pair}
 use Rattle.nm_receiving.proofs.Grow.{posts_still, taken_now, taken_other}
 use Rattle.nm_receiving.proofs.Lists.{row-same, slice_get-last}
 use Rattle.nm_receiving.proofs.Marking.{marked}
+use Rattle.nm_receiving.specs.Receives.{has_ended_at}
+use Rattle.nm_receiving.proofs.Overs.{ended_same, taken_ended}
 use Rattle.nm_receiving.proofs.Stood.{Stood, stood_of}
 use Rattle.nm_receiving.proofs.TablesCome.{AreLonger, owed-came, tables-came}
 use Rattle.nm_receiving.proofs.TablesMark.{MayMark, owed-marked, tables-marked}
@@ -185,16 +187,19 @@ module _ (v : ReceivingView) (kept : ReceivingInvariant v) (streams : List Strea
     closed = all_shut none;
   }
 
+  ended1 : (k : ℕ) → has_ended_at v1.receives k ≡ true → has_ended_at v.receives k ≡ true
+  ended1 = ended_same v.receives v1.receives (taken_ended v.receives taker a)
+
   pub kept-came : (b : Bool) → IsAtOnce a o b → (b ≡ true → MayMark v1 h1 a.env.from a.n (newcomer a)) →
       ReceivingInvariant (marked_if b v1 a.env.from a.n)
   kept-came false at_once may =
-      goes_on v v1 kept (e ∷ []) refl
+      goes_on v v1 kept (e ∷ []) refl ended1
       (keeps-came v streams a o false next at_once (receive_caps v kept a o oldest) h kept.received kept.right oldest0
       (e ∷ []) refl)
       (λ i k. refl) tables1 owed1
   kept-came true at_once may =
       let x : Event = at 0 (Whole a.env.from a.n) in
-      goes_on v (marked v1 a.env.from a.n) kept (e ∷ x ∷ []) refl
+      goes_on v (marked v1 a.env.from a.n) kept (e ∷ x ∷ []) refl ended1
       (keeps-came v streams a o true next at_once (receive_caps v kept a o oldest) h kept.received kept.right oldest0
       (e ∷ x ∷ []) refl)
       (λ i k. refl)

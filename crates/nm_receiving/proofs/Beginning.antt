@@ -1,10 +1,12 @@
 -- The tables where nothing came and nothing was received.
-use Rattle.std.proofs.Common.{◌≡◌, ℕ, ◌<◌, ◌≤◌, nat_eq, Some, None, List, [], length, get_or, replicate, refl, sym}
+use Rattle.std.proofs.Common.{◌≡◌, ℕ, ◌<◌, ◌≤◌, false, nat_eq, Option, Some, None, List, []}
+use Rattle.std.proofs.Common.{length, get_or, replicate, refl, sym}
 use Rattle.std.proofs.Common.{◌∙◌, ap, subst}
 use Rattle.std.proofs.Common.{arith, ◌⊎◌, inl, inr}
 use Rattle.std.specs.List.{All, IsDistinct, slice_get}
 use Rattle.std.specs.Map.{keys_of}
-use Rattle.std.proofs.lemmas.Bool.{cases_lt}
+use Rattle.std.specs.Option.{option_map_or}
+use Rattle.std.proofs.lemmas.Bool.{cases_lt, false≢true}
 use Rattle.std.proofs.lemmas.List.{get_or-replicate, get_or_past, length-replicate}
 use Rattle.std.proofs.lemmas.List.Elements.{All-nil}
 use Rattle.std.proofs.lemmas.List.FromFn.{get_or-map-range_with_len, length-map-range_with_len}
@@ -139,4 +141,6 @@ module _ (v : ReceivingView) (empty : IsEmpty v) where
     in_time = λ from n. refl;
     tables = tables-none;
     owed = λ from n r is. never_receipt from n r is;
+    over = λ k is. absurd (false≢true
+        (sym (ap (λ (o : Option Receive). option_map_or (λ r. r.ended) o false) (no_receive k)) ∙ is));
   }

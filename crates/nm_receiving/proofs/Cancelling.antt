@@ -17,15 +17,12 @@ use Rattle.nm_receiving.specs.declared.receipts.Receive.{Receive}
 use Rattle.nm_receiving.specs.Receipts.{ReceivingView, drawn_from, pair_with}
 use Rattle.nm_receiving.proofs.Grow.{arrivals_still, happened_now, happened_still}
 use Rattle.nm_receiving.proofs.Grow.{message_still, pair_still, pairs_still}
+use Rattle.nm_receiving.specs.Steps.{has_cancelled}
 use Rattle.nm_receiving.proofs.Dues.{due-with}
 use Rattle.nm_receiving.proofs.Stood.{Stood, is_cancelled_at, stood-quiet}
 use Rattle.nm_types.proofs.NumberLemmas.{unequal, eq_true}
 use Rattle.nm_types.proofs.ListLemmas.{get_set_other, get_set_same}
 use Rattle.nm_history.proofs.AppendLemmas.{receives_still}
-
--- the receive is cancelled
-abbrev pub has_cancelled : Receive → Receive
-has_cancelled r = record r { cancelled = true }
 
 module _ (v : ReceivingView) (h : List Event) (stood : Stood v h) (stamp number : ℕ) where
   abbrev e : Bool → Event

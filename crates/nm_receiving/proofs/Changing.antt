@@ -37,8 +37,8 @@ use Rattle.nm_match.proofs.StandsLemmas.{paired-stands}
 use Rattle.nm_match.specs.Deeds.{history_of}
 use Rattle.nm_receiving.specs.Receipts.{drawn_from, granted_to, pair_with}
 use Rattle.nm_receiving.specs.Received.{is_of_receiving}
-use Rattle.nm_receiving.specs.Steps.{has_ended, rows_from}
-use Rattle.nm_receiving.proofs.Cancelling.{has_cancelled, stood-cancelled, stood-late}
+use Rattle.nm_receiving.specs.Steps.{has_cancelled, has_ended, rows_from}
+use Rattle.nm_receiving.proofs.Cancelling.{stood-cancelled, stood-late}
 use Rattle.nm_receiving.proofs.Lists.{row-other, row-same}
 use Rattle.nm_receiving.proofs.Stood.{is_cancelled_at, stood-quiet, with_deeds}
 use Rattle.nm_types.proofs.ListLemmas.{get_set_other, get_set_same}

@@ -214,11 +214,12 @@ module _ (v : ReceivingView) (kept : ReceivingInvariant v) (gs : Granting) (p : 
             tables = tables1;
             owed = owed-piece v kept.history p.from p.n p.bytes drawn1 found.0 found.1 found.2 kept.tables inside
                 found.3 kept.owed (short later);
+            over = kept.over;
           })
       by true last =
           let x : Event = at 0 (Whole p.from p.n) in
           subst (λ (b : Bool). ReceivingInvariant (marked_if b piecing p.from p.n)) (sym last)
-          (goes_on v (marked piecing p.from p.n) kept (x ∷ []) refl
+          (goes_on v (marked piecing p.from p.n) kept (x ∷ []) refl (λ _ is. is)
           (keeps-marked piecing p.from p.n true kept.history (x ∷ []) refl (received1 kept.history kept.received)
           kept.right
           (λ _. may_end kept.history kept.received))

@@ -15,7 +15,8 @@ use Rattle.nm_types.specs.Sizes.{Sizes}
 use Rattle.nm_types.specs.declared.messages.Arrival.{Arrival}
 use Rattle.nm_history.specs.declared.events.Event.{Event}
 use Rattle.nm_history.specs.declared.plain.Pair.{Pair}
-use Rattle.nm_history.specs.Completion.{is_taken}
+use Rattle.nm_history.specs.Completion.{is_complete, is_taken}
+use Rattle.nm_history.specs.Completion.Request.{Receiving}
 use Rattle.nm_history.specs.Matching.{is_of_message}
 use Rattle.nm_history.specs.Sends.{is_ask}
 use Rattle.nm_eager.specs.Streams.{Incoming, Stream, message_of, missing, nothing_came, without}
@@ -30,12 +31,15 @@ use Rattle.nm_receiving.specs.Receipts.{ReceivingView, SameOtherBytes, came_of}
 use Rattle.nm_receiving.specs.Receipts.{granted_to, pair_at, receipt_of, stream_of}
 use Rattle.nm_receiving.specs.Received.{AreReceived}
 use Rattle.nm_receiving.specs.Steps.{IsThere, has_ended, with_ended}
+use Rattle.nm_receiving.proofs.Answering.{taken_complete}
 use Rattle.nm_receiving.proofs.CameLemmas.{came-same, granted_bytes, joined_bytes}
 use Rattle.nm_receiving.proofs.Changing.{keeps-ended, keeps-taken}
 use Rattle.nm_receiving.proofs.Goings.{names_of}
 use Rattle.nm_receiving.proofs.Grants.{all_set, grant_among, grant_set}
 use Rattle.nm_receiving.proofs.Lists.{row-other, row-same, row_inside}
 use Rattle.nm_receiving.proofs.Lists.{some_from}
+use Rattle.nm_receiving.specs.Receives.{has_ended_at}
+use Rattle.nm_receiving.proofs.Overs.{over-ended}
 use Rattle.nm_receiving.proofs.Showing.{pair_here}
 use Rattle.nm_receiving.proofs.Tables.{took}
 use Rattle.nm_receiving.proofs.TablesRest.{AreRemoved, later_set, like_itself, owed-removed, owed-still}
@@ -63,14 +67,16 @@ tables-ended v h number r here tables =
     (record { taken = refl; ended = λ live. absurd (true≢false live) }) refl)
 
 pub kept-ended : (v : ReceivingView) (kept : ReceivingInvariant v) (number : ℕ) (r : Receive) →
-    slice_get v.receives number ≡ Some r → ReceivingInvariant (ended_view v number r)
-kept-ended v kept number r here = record {
+    slice_get v.receives number ≡ Some r → is_complete kept.history (Receiving number) ≡ true
+    → ReceivingInvariant (ended_view v number r)
+kept-ended v kept number r here complete = record {
   history = kept.history;
   received = keeps-ended v number r here kept.history kept.received;
   right = kept.right;
   in_time = kept.in_time;
   tables = tables-ended v kept.history number r here kept.tables;
   owed = owed-still v (ended_view v number r) kept.history kept.history refl refl (like_itself kept.history) kept.owed;
+  over = over-ended v.receives kept.history number r here complete kept.over;
 }
 
 -- the bytes of a whole message are there
@@ -175,6 +181,11 @@ module _ (v : ReceivingView) (kept : ReceivingInvariant v) (number : ℕ) (r : R
   owed1 : AreGrantedFor v1 h
   owed1 = owed-still v v1 h h refl refl (like_itself h) kept.owed
 
+  -- its receive is complete
+  over1 : (k : ℕ) → has_ended_at v1.receives k ≡ true → is_complete h (Receiving k) ≡ true
+  over1 = over-ended v.receives h number r here (taken_complete v h kept.received number r here a some m came whole)
+      kept.over
+
   -- a message that was sent by asking
   module _ (asked : is_ask a.env.how ≡ true) (inside : from < length v.grants) where
     granted : (g : Granted) × (grant_in row a.n ≡ Some g)
@@ -267,6 +278,7 @@ module _ (v : ReceivingView) (kept : ReceivingInvariant v) (number : ℕ) (r : R
       in_time = kept.in_time;
       tables = tables-removed v1 h v.streams grants1 from a.n tables1 removed-asked is_done others names1;
       owed = owed-removed v1 h v.streams grants1 from a.n m removed-asked came whole owed1;
+      over = over1;
     }
 
   -- an eager message
@@ -328,6 +340,7 @@ module _ (v : ReceivingView) (kept : ReceivingInvariant v) (number : ℕ) (r : R
       in_time = kept.in_time;
       tables = tables-removed v1 h streams1 v.grants from a.n tables1 removed-eager is_done others names1;
       owed = owed-removed v1 h streams1 v.grants from a.n m removed-eager came whole owed1;
+      over = over1;
     }
 
   abbrev kept_stream : Stream

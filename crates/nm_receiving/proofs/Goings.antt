@@ -34,12 +34,14 @@ use Rattle.nm_receiving.specs.declared.receipts.Receive.{Receive}
 use Rattle.nm_receiving.specs.Kept.{AreGrantedFor, TablesAgree, ReceivingInvariant}
 use Rattle.nm_receiving.specs.Receipts.{ReceivingView, receipt_of, receipts_from}
 use Rattle.nm_receiving.specs.Received.{AreReceived, Preserves}
-use Rattle.nm_receiving.proofs.Cancelling.{has_cancelled}
+use Rattle.nm_receiving.specs.Steps.{has_cancelled}
 use Rattle.nm_receiving.proofs.Changing.{keeps-cancelled, keeps-claim, keeps-deeds, keeps-late}
 use Rattle.nm_receiving.proofs.Coming.{newcomer}
 use Rattle.nm_receiving.proofs.Events.{right-one}
 use Rattle.nm_receiving.proofs.Facts.{arrived_from, message_name}
 use Rattle.nm_receiving.proofs.Grow.{posts_still}
+use Rattle.nm_receiving.specs.Receives.{has_ended_at}
+use Rattle.nm_receiving.proofs.Overs.{cancelled_ended, complete_later, ended_same}
 use Rattle.nm_receiving.proofs.Stood.{with_deeds}
 use Rattle.nm_receiving.proofs.TablesMark.{IsLike}
 use Rattle.nm_types.proofs.ListLemmas.{find_passes}
@@ -56,10 +58,11 @@ names_of v h received i k s is =
 
 -- the tables afterwards, by the longer history
 pub goes_on : (v v' : ReceivingView) (kept : ReceivingInvariant v) (events : List Event) → v'.sizes ≡ v.sizes
+    → ((k : ℕ) → has_ended_at v'.receives k ≡ true → has_ended_at v.receives k ≡ true)
     → AreReceived v' (kept.history ++ events) × AreRight v.sizes.ranks kept.history events
     → ((from n : ℕ) → happened (is_withdraw from n false) events ≡ false) → TablesAgree v' (kept.history ++ events)
     → AreGrantedFor v' (kept.history ++ events) → ReceivingInvariant v'
-goes_on v v' kept events same keeps in_time tables owed = record {
+goes_on v v' kept events same ended keeps in_time tables owed = record {
   history = kept.history ++ events;
   received = keeps.0;
   right = subst (λ s. AreRight s.ranks [] (kept.history ++ events)) (sym same)
@@ -69,6 +72,7 @@ goes_on v v' kept events same keeps in_time tables owed = record {
       (kept.in_time from n) (in_time from n);
   tables = tables;
   owed = owed;
+  over = λ k is. complete_later kept.history events k (kept.over k (ended k is));
 }
 
 -- one event that makes no pair and posts nothing
@@ -82,7 +86,7 @@ pub kept-claim : (v : ReceivingView) → ReceivingInvariant v → (from n : ℕ)
     → ReceivingInvariant (with_deeds v deeds)
 kept-claim v kept from n deeds done free =
     let e : Event = at 0 (Claim from n 0) in
-    goes_on v (with_deeds v deeds) kept (e ∷ []) refl
+    goes_on v (with_deeds v deeds) kept (e ∷ []) refl (λ _ is. is)
     (keeps-claim v from n 0 deeds done free kept.history (e ∷ []) refl kept.received kept.right) (λ i k. refl)
     (tables-receives v kept.history (kept.history ++ e ∷ []) deeds v.receives kept.tables
     (like-push kept.history e refl refl) (later_same v.receives))
@@ -136,6 +140,7 @@ kept-cancelled v kept number r here deeds done late =
     let e : Event = at 0 (Cancel number true) in
     let v' : ReceivingView = record v { deeds = deeds; receives = set v.receives number (has_cancelled r) } in
     goes_on v v' kept (e ∷ []) refl
+    (ended_same v.receives (set v.receives number (has_cancelled r)) (cancelled_ended v.receives number r here))
     (keeps-cancelled v number r here deeds done late kept.history (e ∷ []) refl kept.received kept.right) (λ i k. refl)
     (tables-receives v kept.history (kept.history ++ e ∷ []) deeds (set v.receives number (has_cancelled r)) kept.tables
     (like-push kept.history e refl refl)
@@ -157,7 +162,7 @@ kept-withdrawn v kept from n below free =
     let there : message_of h from n ≡ Some r.arrival =
     sym (kept.received.messages from n) ∙ ap (λ (o : Option Receipt). option_map (λ m. m.arrival) o) here in
     let v' : ReceivingView = with_deeds v (v.deeds ++ deed.Withdraw from n ∷ []) in
-    goes_on v v' kept (e ∷ []) refl (
+    goes_on v v' kept (e ∷ []) refl (λ _ is. is) (
       keeps-deeds v (Withdraw from n true) (v.deeds ++ deed.Withdraw from n ∷ []) refl refl refl refl (λ _ _. refl)
           (λ _. refl)
           h (e ∷ []) refl kept.received,

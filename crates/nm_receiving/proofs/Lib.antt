@@ -19,8 +19,10 @@ pub mod Grow
 mod Joinings
 mod Keeping
 pub mod Lists
+mod Lives
 mod Marking
 mod NumberLemmas
+mod Overs
 mod Owing
 mod Packets
 pub mod PieceLemmas

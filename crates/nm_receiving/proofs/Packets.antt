@@ -1,16 +1,15 @@
 -- How the tables go on by a packet: a message begins, goes on, or is announced.
 use Rattle.std.specs.Prelude.{IfSome, IsSome, is_some}
-use Rattle.std.proofs.Common.{◌≡◌, ℕ, ◌+◌, ◌<◌, ◌≤◌, ◌==◌, Bool, true, false, ◌&&◌, cond, min, nat_le, nat_lt, Option}
-use Rattle.std.proofs.Common.{Some, None, List, [], ◌∷◌, ◌++◌}
-use Rattle.std.proofs.Common.{length, get_or, map, refl, sym, ◌∙◌, ap, subst, append-nil, arith}
+use Rattle.std.proofs.Common.{◌≡◌, ℕ, ◌+◌, ◌<◌, ◌≤◌, ◌==◌, Bool, true, false, not, ◌&&◌, cond, min, nat_le, nat_lt}
+use Rattle.std.proofs.Common.{Option, Some, None, List, [], ◌∷◌, ◌++◌}
+use Rattle.std.proofs.Common.{length, get_or, refl, sym, ◌∙◌, ap, subst, append-nil, arith}
 use Rattle.std.specs.Bool.{then_some}
 use Rattle.std.specs.List.{slice_get}
 use Rattle.std.specs.Option.{option_map, option_map_or}
 use Rattle.std.proofs.Math.ListN.{set}
-use Rattle.std.proofs.Math.Seq.{map-set_same}
-use Rattle.std.proofs.lemmas.Bool.{and_parts, eqb-true, ltb-true, false≢true, true≢false}
+use Rattle.std.proofs.lemmas.Bool.{and_parts, eqb-true, false_from_ne_true, false≢true, ltb-true, true≢false}
 use Rattle.std.proofs.lemmas.List.{get_or-set_other, get_or-set_same, length-set}
-use Rattle.std.proofs.lemmas.Option.{get_or_from_slice_get, same_Some, slice_get_within}
+use Rattle.std.proofs.lemmas.Option.{same_Some}
 use Rattle.nm_types.specs.declared.limits.TheConstants.{MAX_PAYLOAD, MAX_TAG, MAX_BODY}
 use Rattle.nm_types.specs.declared.messages.Arrival.{Arrival}
 use Rattle.nm_types.specs.declared.messages.How.TheVariants.{Ask, Eager}
@@ -21,8 +20,9 @@ use Rattle.nm_types.specs.declared.packets.What.TheVariants as what
 use Rattle.nm_types.specs.Sizes.{Sizes}
 use Rattle.nm_history.specs.declared.events.Event.{Event}
 use Rattle.nm_history.specs.declared.events.Happened.TheVariants.{Arrive, Whole}
-use Rattle.nm_history.specs.Matching.{first_receive, matched_pairs}
-use Rattle.nm_history.specs.Sends.{is_ask}
+use Rattle.nm_history.specs.Matching.{first_receive, is_of_receive, is_open, matched_pairs}
+use Rattle.nm_history.specs.Selection.{matches}
+use Rattle.nm_history.specs.Sends.{is_ask, posts}
 use Rattle.nm_history.specs.Effects.{packet_events, whole_if}
 use Rattle.nm_history.specs.Happens.{at}
 use Rattle.nm_match.specs.declared.deeds.Deed.{Deed}
@@ -37,7 +37,7 @@ use Rattle.nm_receiving.specs.declared.receipts.Receive.{Receive}
 use Rattle.nm_receiving.specs.Kept.{AreGrantedFor, TablesAgree, HasBytes, IsGranted, IsJoined, ReceivingInvariant}
 use Rattle.nm_receiving.specs.Receipts.{ReceivingView, granted_to, receipt_of, receipts_from, stream_of}
 use Rattle.nm_receiving.specs.Received.{TakesPacket}
-use Rattle.nm_receiving.specs.Steps.{grants_with, has_taken, made_whole, rows_from, rows_with, rows_with_whole}
+use Rattle.nm_receiving.specs.Steps.{grants_with, made_whole, rows_from, rows_with, rows_with_whole}
 use Rattle.nm_receiving.specs.Steps.{with_taken}
 use Rattle.nm_receiving.proofs.Arriving.{came_may_mark, kept-came, none_granted_yet, receive_caps, row_came}
 use Rattle.nm_receiving.proofs.Grants.{grant_new, granted_new}
@@ -51,33 +51,42 @@ use Rattle.nm_receiving.proofs.TablesCarry.{AreCarried, carried_may_mark, goes_o
 use Rattle.nm_receiving.proofs.TablesMark.{owed-marked, tables-marked}
 use Rattle.nm_receiving.proofs.TablesRest.{like_itself, owed-still}
 use Rattle.nm_receiving.proofs.Taking.{IsAtOnce, IsNext, MayEnd, keeps-came, keeps-marked, marked_if, streams_apart}
+use Rattle.nm_kept.proofs.EntryLemmas.{kept_there}
+use Rattle.nm_match.proofs.QueueLemmas.{open_means}
+use Rattle.nm_receiving.specs.Receives.{is_live, live_at}
+use Rattle.nm_receiving.proofs.Overs.{open_incomplete}
+use Rattle.nm_types.proofs.ListLemmas.{find_nothing, find_passes}
 use Rattle.nm_types.proofs.OptionLemmas.{if_each}
+use Rattle.nm_types.proofs.TruthLemmas.{and_right}
 
--- the receive that takes a message is among the receives
-pub taker_inside : (v : ReceivingView) (kept : ReceivingInvariant v) (a : Arrival) (taker : Option ℕ)
+-- the receive that takes a message is open, so it did not end
+pub taker_live : (v : ReceivingView) (kept : ReceivingInvariant v) (a : Arrival) (taker : Option ℕ)
     → taker ≡ option_map (λ p. p.number) (first_receive (history_of v.deeds) (matched_pairs (history_of v.deeds)) a.env)
-    → IfSome taker (λ number. number < length v.receives)
-taker_inside v kept a taker is =
-    subst (λ (k : Option ℕ). IfSome k (λ number. number < length v.receives)) (sym is)
+    → IfSome taker (λ number. IsSome (live_at v.receives number))
+taker_live v kept a taker is =
+    subst (λ (k : Option ℕ). IfSome k (λ number. IsSome (live_at v.receives number))) (sym is)
     (by (first_receive (history_of v.deeds) (matched_pairs (history_of v.deeds)) a.env) refl)
   where
-    by : (o : Option post.Post) → first_receive (history_of v.deeds) (matched_pairs (history_of v.deeds)) a.env ≡ o
-        → IfSome (option_map (λ p. p.number) o) (λ number. number < length v.receives)
-    by None oldest = tt
-    by (Some p) oldest = let had = receive_caps v kept a (Some p) oldest p refl in
-        slice_get_within v.receives p.number had.0 had.1.there
+    h : List Event
+    h = kept.history
 
--- a receive that takes a message did not end by that
-pub taken_ended : (rs : List Receive) (taker : Option ℕ) (a : Arrival) → map (λ r. r.ended) (with_taken rs taker a)
-    ≡ map (λ r. r.ended) rs
-taken_ended rs None a = refl
-taken_ended rs (Some k) a = by (slice_get rs k) refl
-  where
-    by : (o : Option Receive) → slice_get rs k ≡ o →
-        map (λ r. r.ended) (option_map_or (λ r. set rs k (has_taken a r)) o rs) ≡ map (λ r. r.ended) rs
-    by None is = refl
-    by (Some r) is = map-set_same (λ (r : Receive). r.ended) rs k (has_taken a r) r
-        (ap (λ (r : Receive). r.ended) (sym (get_or_from_slice_get rs k r r is)))
+    by : (o : Option post.Post) → first_receive (history_of v.deeds) (matched_pairs (history_of v.deeds)) a.env ≡ o
+        → IfSome (option_map (λ p. p.number) o) (λ number. IsSome (live_at v.receives number))
+    by None oldest = tt
+    by (Some p) oldest =
+        let had = receive_caps v kept a (Some p) oldest p refl in
+        let r : Receive = had.0 in
+        let passes = find_passes (λ (p : post.Post). matches p.from p.tag p.ctx a.env && is_open h (matched_pairs h) p)
+        (posts h) p (first_receive-stands v.deeds h kept.received.stands a.env ∙ oldest) in
+        let means = open_means h (matched_pairs h) p
+        (and_right (matches p.from p.tag p.ctx a.env) (is_open h (matched_pairs h) p) passes) in
+        let open' = open_incomplete h p.number
+        (find_nothing (is_of_receive p.number) (matched_pairs h) means.0) means.1 in
+        let live : r.ended ≡ false = false_from_ne_true r.ended (λ ended. false≢true (sym open'
+        ∙ kept.over p.number (ap (λ (o : Option Receive). option_map_or (λ r. r.ended) o false) had.1.there ∙ ended)))
+        in
+        ap (λ (o : Option Receive). is_some o) (kept_there is_live (slice_get v.receives p.number) r had.1.there
+        (ap not live))
 
 -- an eager message begins
 module _ (v : ReceivingView) (kept : ReceivingInvariant v) (p : Packet) (tag ctx len : ℕ) (head : p.what ≡ what.Head tag ctx len)
@@ -420,6 +429,7 @@ module _ (v : ReceivingView) (kept : ReceivingInvariant v) (p : Packet) (n : ℕ
             in_time = kept.in_time;
             tables = tables-more;
             owed = owed-more;
+            over = kept.over;
           })
       by true last =
           let h : List Event = kept.history in
@@ -428,7 +438,7 @@ module _ (v : ReceivingView) (kept : ReceivingInvariant v) (p : Packet) (n : ℕ
           let r = the_receipt.0 in
           let name = names_of v h kept.received p.from n r the_receipt.1 in
           subst (λ (b : Bool). ReceivingInvariant (marked_if b carried p.from n)) (sym last)
-          (goes_on v (marked carried p.from n) kept (x ∷ []) refl
+          (goes_on v (marked carried p.from n) kept (x ∷ []) refl (λ _ is. is)
           (keeps-marked carried p.from n true h (x ∷ []) refl received1 kept.right (λ _. may_end h))
           (λ i k. refl)
           (tables-marked carried h (h ++ x ∷ []) (stood_of carried h received1) p.from n r tables-more

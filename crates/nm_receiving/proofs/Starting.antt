@@ -36,6 +36,8 @@ use Rattle.nm_receiving.proofs.Grow.{taken_now}
 use Rattle.nm_receiving.proofs.Keeping.{IsBegin, MayBegin, begun_stood, grown, keeps-begun}
 use Rattle.nm_receiving.proofs.Lists.{some_from}
 use Rattle.nm_receiving.proofs.Marking.{marked}
+use Rattle.nm_receiving.specs.Receives.{has_ended_at}
+use Rattle.nm_receiving.proofs.Overs.{begun_ended}
 use Rattle.nm_receiving.proofs.Stood.{begun}
 use Rattle.nm_receiving.proofs.Tables.{IsFree, no_grant, owed-begun, tables-begun}
 use Rattle.nm_receiving.proofs.TablesMark.{MayMark, owed-marked, tables-marked}
@@ -169,9 +171,14 @@ module _ (v : ReceivingView) (kept : ReceivingInvariant v) (w : Happened) (d : D
         owed-begun v h h1 d number cap taken kept.received kept.tables begins.next
         (grown v w d number cap taken begins h 0 kept.received kept.right) free kept.owed
 
+    ended1 : (taken : Option Arrival) (k : ℕ) → has_ended_at (begun v d cap taken).receives k ≡ true →
+        has_ended_at v.receives k ≡ true
+    ended1 taken =
+        begun_ended v.receives (record { cap = cap; taken = taken; cancelled = false; ended = false }) refl
+
     kept-begun_none : IsBegin v w d number cap None → ReceivingInvariant (begun v d cap None)
     kept-begun_none begins =
-        goes_on v (begun v d cap None) kept (e ∷ []) refl
+        goes_on v (begun v d cap None) kept (e ∷ []) refl (ended1 None)
         (keeps-begun v w d number cap None begins (λ a is. absurd (let h' : ⊥ = cc in h')) h (e ∷ []) refl kept.received
         kept.right)
         in_time1 (tables1 None begins (λ a is. absurd (let h' : ⊥ = cc in h')))
@@ -198,7 +205,7 @@ module _ (v : ReceivingView) (kept : ReceivingInvariant v) (w : Happened) (d : D
             let keeps = keeps-begun v w d number cap (Some a) begins may_of h (e ∷ [])
             (ap (λ (b : Bool). w ∷ cond b (Whole a.env.from a.n ∷ []) []) (sym bytes)) kept.received kept.right in
             subst (λ (rs : List (List Receipt)). ReceivingInvariant (record (begun v d cap (Some a)) { receipts = rs })) (sym rows)
-            (goes_on v (begun v d cap (Some a)) kept (e ∷ []) refl
+            (goes_on v (begun v d cap (Some a)) kept (e ∷ []) refl (ended1 (Some a))
             (subst (λ (rs : List (List Receipt)). AreReceived (record (begun v d cap (Some a)) { receipts = rs })
             (h ++ e ∷ []) × AreRight v.sizes.ranks h (e ∷ [])) rows keeps)
             in_time1 (tables1 (Some a) begins free_of) (owed1 (Some a) begins free_of))
@@ -211,7 +218,7 @@ module _ (v : ReceivingView) (kept : ReceivingInvariant v) (w : Happened) (d : D
             let stood1 = begun_stood v w d number cap (Some a) begins h 0 kept.received kept.right
             (λ b is. let m = may_of b is in m.1.granted) in
             subst (λ (rs : List (List Receipt)). ReceivingInvariant (record (begun v d cap (Some a)) { receipts = rs })) (sym rows)
-            (goes_on v (marked (begun v d cap (Some a)) a.env.from a.n) kept (e ∷ x ∷ []) refl
+            (goes_on v (marked (begun v d cap (Some a)) a.env.from a.n) kept (e ∷ x ∷ []) refl (ended1 (Some a))
             (subst (λ (rs : List (List Receipt)). AreReceived (record (begun v d cap (Some a)) { receipts = rs })
             (h ++ (e ∷ x ∷ []))
             × AreRight v.sizes.ranks h (e ∷ x ∷ [])) rows keeps)

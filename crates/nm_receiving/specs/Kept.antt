@@ -5,7 +5,8 @@ use Rattle.std.specs.List.{slice_get, IsDistinct}
 use Rattle.std.specs.Map.{keys_of}
 use Rattle.nm_types.specs.declared.messages.Arrival.{Arrival}
 use Rattle.nm_history.specs.declared.events.Event.{Event}
-use Rattle.nm_history.specs.Completion.{is_taken}
+use Rattle.nm_history.specs.Completion.{is_complete, is_taken}
+use Rattle.nm_history.specs.Completion.Request.{Receiving}
 use Rattle.nm_history.specs.Happens.{happened, is_withdraw}
 use Rattle.nm_history.specs.Sends.{is_ask, posts}
 use Rattle.nm_history.specs.Rules.{AreRight}
@@ -15,6 +16,7 @@ use Rattle.nm_receiving.specs.declared.receipts.Receipt.{Receipt}
 use Rattle.nm_receiving.specs.declared.receipts.Receive.{Receive}
 use Rattle.nm_receiving.specs.Receipts.{ReceivingView, stream_of, granted_to, receipts_from, receipt_of}
 use Rattle.nm_receiving.specs.Received.{AreReceived}
+use Rattle.nm_receiving.specs.Receives.{has_ended_at}
 
 -- the bytes of an eager message are here, all of them where it is whole
 pub record IsJoined (r : Receipt) (m : Incoming) : Type 0 where
@@ -102,7 +104,7 @@ abbrev pub AreGrantedFor : ReceivingView → List Event → Type 0
 AreGrantedFor v h = (from n : ℕ) → IsGrantedFor v h from n
 
 -- The tables stand for some history, in which no withdrawal came late: such a one leaves no trace. Each
--- message whose pieces are to come has an open grant.
+-- message whose pieces are to come has an open grant. A receive whose result was given is complete.
 pub record ReceivingInvariant (v : ReceivingView) : Type 0 where
   pub history : List Event
   pub received : AreReceived v history
@@ -110,3 +112,6 @@ pub record ReceivingInvariant (v : ReceivingView) : Type 0 where
   pub in_time : (from n : ℕ) → happened (is_withdraw from n false) history ≡ false
   pub tables : TablesAgree v history
   pub owed : AreGrantedFor v history
+  pub over :
+      (number : ℕ) → has_ended_at v.receives number ≡ true →
+      is_complete history (Receiving number) ≡ true

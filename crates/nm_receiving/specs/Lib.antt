@@ -4,6 +4,7 @@ pub mod Made
 pub mod Pieces
 pub mod Receipts
 pub mod Received
+pub mod Receives
 pub mod Rows
 pub mod Seen
 pub mod Steps

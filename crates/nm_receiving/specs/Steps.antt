@@ -42,6 +42,14 @@ abbrev pub with_taken : List Receive → Option ℕ → Arrival → List Receive
 with_taken rs None a = rs
 with_taken rs (Some k) a = option_map_or (λ r. slice_set rs k (has_taken a r)) (slice_get rs k) rs
 
+-- the receive was cancelled
+abbrev pub has_cancelled : Receive → Receive
+has_cancelled r = record r { cancelled = true }
+
+-- the receives, of which the one with this number was cancelled
+abbrev pub with_cancelled : List Receive → ℕ → List Receive
+with_cancelled rs k = option_map_or (λ r. slice_set rs k (has_cancelled r)) (slice_get rs k) rs
+
 -- the grants after a receive took this message
 abbrev pub grants_after : List (List (ℕ × Granted)) → Arrival → List (List (ℕ × Granted))
 grants_after grants a =

@@ -4,7 +4,7 @@ ghost use Rattle.std.specs.Prelude.{◌≡◌, ◌<◌, [], ◌∷◌, ◌++◌,
 ghost use Rattle.std.specs.Prelude.{slice_set, false, Some, IfOk, IfSome, IsSome, OnOk};
 ghost use Rattle.std.specs.List.{slice_get};
 ghost use Rattle.std.specs.Option.{option_map_or};
-ghost use Rattle.nm_receiving.specs.Steps.{rows_from, with_whole, with_taken};
+ghost use Rattle.nm_receiving.specs.Steps.{rows_from, with_whole};
 
 use crate::rows::Row;
 use nm_types::{Arrival, Memory};
@@ -139,15 +139,5 @@ impl Receipts {
             ≡ option_map_or (λ r. r.whole) (slice_get (rows_from self.now.rows from) n) false }
     {
         self.rows[from as usize].is_whole(n)
-    }
-}
-
-/// The receive of this number takes a message, where there is one.
-pub(crate) fn give(receives: &mut Vec<Receive>, taker: Option<u64>, a: Arrival)
-    requires { IfSome taker (λ number. number < length receives.old.items) }
-    ensures { receives.new.items ≡ with_taken receives.old.items taker a }
-{
-    if let Some(number) = taker {
-        receives[number as usize].taken = Some(a);
     }
 }

@@ -1,6 +1,6 @@
 //! The receiving side of a rank.
 
-ghost use Rattle.std.specs.Prelude.{◌≡◌, ◌↔◌, ℕ, ◌<◌, ◌≤◌, true, false, not, [], ◌∷◌, ◌++◌, List};
+ghost use Rattle.std.specs.Prelude.{◌≡◌, ◌↔◌, ℕ, ◌+◌, ◌^◌, ◌<◌, ◌≤◌, true, false, not, [], ◌∷◌, ◌++◌, List};
 ghost use Rattle.std.specs.Prelude.{IfOk, IfSome, IsSome, IsTrue, MatchOption, OnErr, OnOk};
 ghost use Rattle.std.specs.Prelude.{length, map, nat_lt};
 ghost use Rattle.std.specs.List.{list_any, slice_get};
@@ -24,10 +24,12 @@ ghost use Rattle.nm_receiving.specs.Calls.{ReceivedNothing, TakesMessagePacket};
 ghost use Rattle.nm_receiving.specs.StreamViews.{is_done_at_once};
 ghost use Rattle.nm_receiving.specs.Receipts.{drawn_from, receipt_of, receipts_from};
 ghost use Rattle.nm_receiving.specs.Receipts.{stream_of};
+ghost use Rattle.nm_receiving.specs.Receives.{first_live};
 ghost use Rattle.nm_receiving.specs.Received.{AreReceived, PreservesSender, IsOwed, Preserves, MayBeTaken};
 
 use crate::bytes::{grant_taken, reserve_from, shown, take_bytes};
-use crate::receipts::{Receipt, Receipts, Receive, give};
+use crate::receipts::{Receipt, Receipts, Receive};
+use crate::receives::{Receives, give};
 use crate::streams::{arrival, pieces};
 use crate::telling::packets_tell;
 use nm_eager::Joiner;
@@ -57,8 +59,7 @@ pub struct Receiving {
     joiner: Joiner,
     grants: Grants,
     receipts: Receipts,
-    // by number
-    receives: Vec<Receive>,
+    receives: Receives,
     // by sender, how many pieces continued
     drawn: Vec<u64>,
 }
@@ -107,9 +108,17 @@ impl Receiving {
             grants: Grants::new(alloc, ranks)?,
             receipts: Receipts::new(alloc, ranks)?,
             drawn: vec![in alloc; 0; ranks as usize]?,
-            receives: Vec::with_capacity(alloc, receives)?,
+            receives: Receives::with_capacity(alloc, receives)?,
             matcher: Matcher::new(alloc),
         })
+    }
+
+    /// How many receives are in memory: those from the first on whose result was not given.
+    pub fn held_receives(&self) -> usize
+        ensures { first_live self.now.receives ≤ 2 ^ 62
+            → first_live self.now.receives + result ≡ length self.now.receives }
+    {
+        self.receives.held()
     }
 
     /// How many messages came from a rank: the number of the next one.
@@ -130,9 +139,9 @@ impl Receiving {
             s self.old self.new) }
         ensures err { OnErr result (self.new ≡ self.old) }
     {
-        self.receives.reserve(1)?;
+        self.receives.reserve()?;
         reserve_from(&mut self.grants, from, self.drawn.len())?;
-        let number = self.receives.len() as u64;
+        let number = self.receives.count();
         let taken = self.matcher.post(Post {
             number,
             from,
@@ -140,7 +149,7 @@ impl Receiving {
             ctx,
             cap,
         })?;
-        self.receives.push_reserved(Receive::new(cap, taken));
+        self.receives.push(Receive::new(cap, taken));
         grant_taken(&mut self.grants, &mut self.receipts, &taken);
         Ok(Started { number, taken })
     }
@@ -156,13 +165,13 @@ impl Receiving {
         ensures err { OnErr result (self.new ≡ self.old) }
     {
         prove!(self.matcher.is_claimed(from, n));
-        self.receives.reserve(1)?;
+        self.receives.reserve()?;
         let arrival = self.receipts.get(from, n).arrival;
         self.grants.reserve_for(arrival.env.from)?;
-        let number = self.receives.len() as u64;
+        let number = self.receives.count();
         let taken = Some(arrival);
         self.matcher.take_claimed(number, from, n)?;
-        self.receives.push_reserved(Receive::new(cap, taken));
+        self.receives.push(Receive::new(cap, taken));
         grant_taken(&mut self.grants, &mut self.receipts, &taken);
         Ok(Started { number, taken })
     }
@@ -217,7 +226,7 @@ impl Receiving {
     {
         let done = self.matcher.cancel(number);
         if done {
-            self.receives[number as usize].cancelled = true;
+            self.receives.cancel(number);
         }
         done
     }
@@ -377,9 +386,9 @@ impl Receiving {
         ensures { (h : List Event) → AreReceived self.now h →
             result ≡ is_complete_lem h (ReceivingRequest number) }
     {
-        match self.receives.get(number as usize) {
-            Some(receive) => receive.cancelled || self.has_message(receive),
-            None => false,
+        match self.receives.live(number) {
+            Some(receive) => receive.cancelled || self.has_message(&receive),
+            None => number < self.receives.count(),
         }
     }
 
@@ -406,9 +415,9 @@ impl Receiving {
             ≡ false }
         ensures { FinishesReceive number result self.old self.new }
     {
-        let receive = self.receives[number as usize];
+        let receive = self.receives.live(number).unwrap();
         if receive.cancelled {
-            self.receives[number as usize].ended = true;
+            self.receives.end(number);
             return Some(Answer::Cancelled);
         }
         let a = receive.taken?;
@@ -416,7 +425,7 @@ impl Receiving {
             return None;
         }
         let bytes = take_bytes(&mut self.joiner, &mut self.grants, &a);
-        self.receives[number as usize].ended = true;
+        self.receives.end(number);
         Some(shown(&a, receive.cap, bytes))
     }
 }

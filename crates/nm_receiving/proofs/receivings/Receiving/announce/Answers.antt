@@ -30,7 +30,8 @@ use Rattle.nm_receiving.proofs.Goings.{next_message}
 use Rattle.nm_receiving.proofs.Joinings.{stream_stepped}
 use Rattle.nm_receiving.proofs.Packets.{ask_finished, ask_grant-came, ask_grant-new, ask_is, ask_view, kept-ask}
 use Rattle.nm_receiving.proofs.Packets.{takes-ask}
-use Rattle.nm_receiving.proofs.Packets.{taken_ended, taker_inside, then_taken}
+use Rattle.nm_receiving.proofs.Overs.{taken_ended}
+use Rattle.nm_receiving.proofs.Packets.{taker_live, then_taken}
 use Rattle.std.proofs.Common.{get_or}
 use Rattle.std.proofs.lemmas.Bool.{true≢false}
 use Rattle.nm_eager.specs.Streams.{is_eager}
@@ -75,7 +76,7 @@ skip-requires-clause-limit c =
 
 pub give-requires : goal.give-requires
 give-requires c =
-    taker_inside (seen c.self.inside) c.self.invariant c.arrival-arrival.result c.in_ok-taker.taker
+    taker_live (seen c.self.inside) c.self.invariant c.arrival-arrival.result c.in_ok-taker.taker
     c.in_ok-taker.ensures.oldest
 
 pub reserve_for-requires : goal.reserve_for-requires

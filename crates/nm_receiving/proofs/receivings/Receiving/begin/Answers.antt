@@ -23,7 +23,8 @@ use Rattle.nm_receiving.specs.Steps.{rows_from, streams_of}
 use Rattle.nm_receiving.proofs.Beginning.{stream_at}
 use Rattle.nm_receiving.proofs.Goings.{next_message}
 use Rattle.nm_receiving.proofs.Joinings.{room_same, stream_stepped}
-use Rattle.nm_receiving.proofs.Packets.{finished, head_is, head_view, kept-head, takes-head, taken_ended, taker_inside}
+use Rattle.nm_receiving.proofs.Overs.{taken_ended}
+use Rattle.nm_receiving.proofs.Packets.{finished, head_is, head_view, kept-head, takes-head, taker_live}
 use Rattle.nm_receiving.proofs.Results.{ok_gives}
 use Rattle.nm_receiving.proofs.CameLemmas.{packet-came}
 use Rattle.nm_receiving.proofs.receivings.Receiving.begin.Goals as goal
@@ -70,7 +71,7 @@ add-requires-clause-limit c =
 
 pub give-requires : goal.give-requires
 give-requires c =
-    taker_inside (seen c.self.inside) c.self.invariant c.arrival-arrival.result c.in_ok-taker.taker
+    taker_live (seen c.self.inside) c.self.invariant c.arrival-arrival.result c.in_ok-taker.taker
     c.in_ok-taker.ensures.oldest
 
 -- the fields afterwards

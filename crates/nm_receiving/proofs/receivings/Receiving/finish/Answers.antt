@@ -1,11 +1,11 @@
-use Rattle.std.specs.Prelude.{is_some}
-use Rattle.std.proofs.Common.{◌≡◌, ◌<◌, ℕ, Bool, true, false, if◌then◌else◌, Option, Some, None, List, length, cond}
-use Rattle.std.proofs.Common.{get_or, refl, sym, ◌∙◌, ap, subst}
+use Rattle.std.specs.Prelude.{IsSome, is_some}
+use Rattle.std.proofs.Common.{◌≡◌, ◌<◌, ℕ, Bool, true, false, not, if◌then◌else◌, Option, Some, None, List, length}
+use Rattle.std.proofs.Common.{cond}
+use Rattle.std.proofs.Common.{refl, sym, ◌∙◌, ap, subst}
 use Rattle.std.specs.List.{slice_get}
 use Rattle.std.specs.Option.{option_map_or}
 use Rattle.std.proofs.Math.ListN.{set}
 use Rattle.std.proofs.lemmas.Bool.{true≢false}
-use Rattle.std.proofs.lemmas.Option.{same_Some, slice_get_read}
 use Rattle.nm_types.specs.Sizes.{Sizes}
 use Rattle.nm_types.specs.declared.answers.Answer.{Answer}
 use Rattle.nm_types.specs.declared.answers.Answer.TheVariants.{Cancelled}
@@ -26,6 +26,11 @@ use Rattle.nm_receiving.specs.Kept.{ReceivingInvariant}
 use Rattle.nm_receiving.specs.Receipts.{ReceivingView, SameOtherBytes, ShowsBytes, granted_to, pair_at}
 use Rattle.nm_receiving.specs.Receipts.{receipt_of, stream_of}
 use Rattle.nm_receiving.specs.Received.{AreReceived}
+use Rattle.nm_kept.proofs.EntryLemmas.{kept_passes, kept_there}
+use Rattle.nm_receiving.specs.Receives.{is_live, live_at}
+use Rattle.nm_receiving.proofs.Answering.{cancelled_complete}
+use Rattle.nm_receiving.proofs.Lives.{not_ended}
+use Rattle.nm_types.proofs.ListLemmas.{get_some}
 use Rattle.nm_receiving.specs.Seen.{seen}
 use Rattle.nm_receiving.specs.Steps.{IsThere, bytes_there, has_ended, streams_of, with_ended}
 use Rattle.nm_receiving.proofs.Beginning.{stream_at}
@@ -36,11 +41,6 @@ use Rattle.nm_receiving.proofs.Showing.{result_cancelled, result_taken, result_u
 use Rattle.nm_receiving.proofs.Joinings.{stream_stepped}
 use Rattle.nm_receiving.proofs.receivings.Receiving.finish.Goals as goal
 
--- the receive, where it is read and where it is written
-read_at : (rs : List Receive) (number : ℕ) (r : Receive) → number < length rs → r ≡ get_or rs number r →
-    slice_get rs number ≡ Some r
-read_at rs number r below is = slice_get_read rs (length rs) number r refl below is
-
 -- the message that the receive took, as it came, and whether it is whole
 taken_came : (v : ReceivingView) → ReceivingInvariant v → (number : ℕ) (r : Receive) →
     slice_get v.receives number ≡ Some r → (a : Arrival) → r.taken ≡ Some a → (b : Bool) →
@@ -50,39 +50,76 @@ taken_came v kept number r here a was b is =
     let had = kept.tables.taken number r a here was in
     (had.0, had.1.0, sym (is ∙ ap (λ (o : Option Receipt). option_map_or (λ q. q.whole) o false) had.1.0))
 
+-- the receive as it was, where it did not end
+live_is : (v : ReceivingView) (number : ℕ) (o : Option Receive) (r : Receive) → o ≡ live_at v.receives number →
+    o ≡ Some r → (slice_get v.receives number ≡ Some r) × (r.ended ≡ false)
+live_is v number o r found is =
+    let was = kept_passes is_live (slice_get v.receives number) r (sym found ∙ is) in
+    (was.0, not_ended r.ended was.1)
+
+-- it is among those that did not end
+is_there : (v : ReceivingView) (number : ℕ) → number < length v.receives →
+    option_map_or (λ r. r.ended) (slice_get v.receives number) false ≡ false → IsSome (live_at v.receives number)
+is_there v number below live =
+    let r = get_some v.receives number below in
+    ap (λ (o : Option Receive). is_some o) (kept_there is_live (slice_get v.receives number) r.0 r.1
+    (ap not (ap (λ (o : Option Receive). option_map_or (λ r. r.ended) o false) (sym r.1) ∙ live)))
+
+pub unwrap-receive-requires : goal.unwrap-receive-requires
+unwrap-receive-requires c =
+    let v : ReceivingView = seen c.self.inside in
+    subst (λ (o : Option Receive). IsSome o) (sym c.live.ensures) (is_there v c.args.number
+    (subst (λ (w : ReceivingView). c.args.number < length w.receives) (sym c.self.view_is) c.requires.known)
+    (ap (λ (w : ReceivingView). option_map_or (λ r. r.ended) (slice_get w.receives c.args.number) false) c.self.view_is
+    ∙ c.requires.live))
+
+pub end-requires : goal.end-requires
+end-requires c =
+    let v : ReceivingView = seen c.self.inside in
+    is_there v c.args.number
+    (subst (λ (w : ReceivingView). c.args.number < length w.receives) (sym c.self.view_is) c.requires.known)
+    (ap (λ (w : ReceivingView). option_map_or (λ r. r.ended) (slice_get w.receives c.args.number) false) c.self.view_is
+    ∙ c.requires.live)
+
+pub end-requires-2 : goal.end-requires-2
+end-requires-2 c =
+    let v : ReceivingView = seen c.self.inside in
+    is_there v c.args.number
+    (subst (λ (w : ReceivingView). c.args.number < length w.receives) (sym c.self.view_is) c.requires.known)
+    (ap (λ (w : ReceivingView). option_map_or (λ r. r.ended) (slice_get w.receives c.args.number) false) c.self.view_is
+    ∙ c.requires.live)
+
 pub invariant_of-self : goal.invariant_of-self
 invariant_of-self c =
-    let below = subst (λ (v : ReceivingView). c.args.number < length v.receives) (sym c.self.view_is) c.requires.known
-    in
-    kept-ended (seen c.self.inside) c.self.invariant c.args.number c.index_mut.result.now
-    (read_at c.self.inside.receives.items c.args.number c.index_mut.result.now below c.index_mut.ensures.value)
+    let v : ReceivingView = seen c.self.inside in
+    let r = c.unwrap-receive.result in
+    let here = live_is v c.args.number c.live.result r c.live.ensures c.unwrap-receive.ensures in
+    subst (λ (rs : List Receive). ReceivingInvariant (record v { receives = rs }))
+    (ended_is v.receives c.args.number r here.0 ∙ sym c.end.ensures)
+    (kept-ended v c.self.invariant c.args.number r here.0
+    (cancelled_complete v c.self.invariant.history c.self.invariant.received c.args.number r here.0 c.if-receive.true))
 
 pub is_whole-requires : goal.is_whole-requires
 is_whole-requires c =
-    let below = subst (λ (v : ReceivingView). c.args.number < length v.receives) (sym c.self.view_is) c.requires.known
-    in
-    let had = c.self.invariant.tables.taken c.args.number c.index-receive.result.now c.in_ok-a.a
-    (read_at c.self.inside.receives.items c.args.number c.index-receive.result.now below c.index-receive.ensures)
-    c.in_ok-a.was in
+    let v : ReceivingView = seen c.self.inside in
+    let r = c.unwrap-receive.result in
+    let here = live_is v c.args.number c.live.result r c.live.ensures c.unwrap-receive.ensures in
+    let had = c.self.invariant.tables.taken c.args.number r c.in_ok-a.a here.0 c.in_ok-a.was in
     ap (λ (o : Option Receipt). is_some o) had.1.0
 
 pub take_bytes-bytes-requires-clause-here : goal.take_bytes-bytes-requires-clause-here
 take_bytes-bytes-requires-clause-here c =
     let v : ReceivingView = seen c.self.inside in
-    let below = subst (λ (v : ReceivingView). c.args.number < length v.receives) (sym c.self.view_is) c.requires.known
-    in
-    let r = c.index-receive.result.now in
+    let r = c.unwrap-receive.result in
     let a = c.in_ok-a.a in
-    let here = read_at c.self.inside.receives.items c.args.number r below c.index-receive.ensures in
-    let live = ap (λ (o : Option Receive). option_map_or (λ r. r.ended) o false) (sym here)
-    ∙ ap (λ (v : ReceivingView). option_map_or (λ r. r.ended) (slice_get v.receives c.args.number) false)
-    c.self.view_is ∙ c.requires.live in
-    let came = taken_came v c.self.invariant c.args.number r here a c.in_ok-a.was c.is_whole.result c.is_whole.ensures
+    let here = live_is v c.args.number c.live.result r c.live.ensures c.unwrap-receive.ensures in
+    let came = taken_came v c.self.invariant c.args.number r here.0 a c.in_ok-a.was c.is_whole.result c.is_whole.ensures
     in
-    let there = bytes_there_now v c.self.invariant c.args.number r here live a c.in_ok-a.was came.0 came.1
+    let there = bytes_there_now v c.self.invariant c.args.number r here.0 here.1 a c.in_ok-a.was came.0 came.1
     (came.2 ∙ c.if-not-is_whole.false) in
     subst (λ (s : Stream). IsThere s (granted_to v a.env.from) a)
-    (stream_at c.self.inside.joiner a.env.from (taken_from v c.self.invariant c.args.number r here a c.in_ok-a.was))
+    (stream_at c.self.inside.joiner a.env.from
+    (taken_from v c.self.invariant c.args.number r here.0 a c.in_ok-a.was))
     there
 
 -- where the bytes were taken
@@ -91,7 +128,7 @@ module _ (c : goal.After-shown) where
   v = seen c.self.inside
 
   abbrev r : Receive
-  r = c.index-receive.result.now
+  r = c.unwrap-receive.result
 
   abbrev a : Arrival
   a = c.in_ok-a.a
@@ -99,20 +136,20 @@ module _ (c : goal.After-shown) where
   abbrev number : ℕ
   number = c.args.number
 
-  below : number < length v.receives
-  below = subst (λ (v : ReceivingView). number < length v.receives) (sym c.self.view_is) c.requires.known
+  is_live' : (slice_get v.receives number ≡ Some r) × (r.ended ≡ false)
+  is_live' = live_is v number c.live.result r c.live.ensures c.unwrap-receive.ensures
 
   here : slice_get v.receives number ≡ Some r
-  here = read_at c.self.inside.receives.items number r below c.index-receive.ensures
+  here = is_live'.0
 
   live : r.ended ≡ false
-  live = ap (λ (o : Option Receive). option_map_or (λ r. r.ended) o false) (sym here)
-      ∙ ap (λ (v : ReceivingView). option_map_or (λ r. r.ended) (slice_get v.receives number) false) c.self.view_is
-      ∙ c.requires.live
+  live = is_live'.1
 
-  again : r ≡ c.index_mut-2.result.now
-  again = same_Some r c.index_mut-2.result.now (sym here
-      ∙ read_at c.self.inside.receives.items number c.index_mut-2.result.now below c.index_mut-2.ensures.value)
+  abbrev rs : List Receive
+  rs = c.end-2.new.self.items
+
+  again : set v.receives number (has_ended r) ≡ rs
+  again = ended_is v.receives number r here ∙ sym c.end-2.ensures
 
   came : (q : Receipt) × (receipt_of v a.env.from a.n ≡ Some q) × (q.whole ≡ c.is_whole.result)
   came = taken_came v c.self.invariant number r here a c.in_ok-a.was c.is_whole.result c.is_whole.ensures
@@ -140,34 +177,34 @@ module _ (c : goal.After-shown) where
       sender c.take_bytes-bytes.ensures.joined.changed
       (λ other differ. ap (λ (x : Received). x.stream) (c.take_bytes-bytes.ensures.joined.others other differ))
 
-  abbrev done : Receive → ReceivingView
-  done r = record {
+  abbrev done : List Receive → ReceivingView
+  done rs = record {
     sizes = c.take_bytes-bytes.new.joiner.sizes;
     deeds = v.deeds;
     streams = streams_of c.take_bytes-bytes.new.joiner;
     grants = c.take_bytes-bytes.new.grants.grants;
     receipts = v.receipts;
-    receives = set v.receives number (has_ended r);
+    receives = rs;
     drawn = v.drawn;
   }
 
-  kept_after : ReceivingInvariant (done c.index_mut-2.result.now)
-  kept_after = subst (λ (r : Receive). ReceivingInvariant (done r)) again
+  kept_after : ReceivingInvariant (done rs)
+  kept_after = subst (λ (rs : List Receive). ReceivingInvariant (done rs)) again
       (kept-finished v c.self.invariant number r here live a c.in_ok-a.was came.0 came.1 whole sender left
       c.take_bytes-bytes.new.joiner.sizes (streams_of c.take_bytes-bytes.new.joiner)
       c.take_bytes-bytes.new.grants.grants
       c.take_bytes-bytes.ensures.joined.sizes streams_are c.take_bytes-bytes.ensures.grants)
 
-  received_after : (h : List Event) → AreReceived v h → AreReceived (done c.index_mut-2.result.now) h
-  received_after h received = subst (λ (r : Receive). AreReceived (done r) h) again
+  received_after : (h : List Event) → AreReceived v h → AreReceived (done rs) h
+  received_after h received = subst (λ (rs : List Receive). AreReceived (done rs) h) again
       (received-finished v c.self.invariant number r here live a c.in_ok-a.was came.0 came.1 whole sender
       left
       c.take_bytes-bytes.new.joiner.sizes (streams_of c.take_bytes-bytes.new.joiner)
       c.take_bytes-bytes.new.grants.grants
       c.take_bytes-bytes.ensures.joined.sizes streams_are c.take_bytes-bytes.ensures.grants h received)
 
-  streams_after : (i : ℕ) → ((stream_of (done c.index_mut-2.result.now) i).count ≡ (stream_of v i).count)
-      × (missing (stream_of (done c.index_mut-2.result.now) i) ≡ missing (stream_of v i))
+  streams_after : (i : ℕ) → ((stream_of (done rs) i).count ≡ (stream_of v i).count)
+      × (missing (stream_of (done rs) i) ≡ missing (stream_of v i))
   streams_after i =
       streams-finished v c.self.invariant number r here live a c.in_ok-a.was came.0 came.1 whole sender
       left
@@ -175,8 +212,8 @@ module _ (c : goal.After-shown) where
       c.take_bytes-bytes.new.grants.grants
       c.take_bytes-bytes.ensures.joined.sizes streams_are c.take_bytes-bytes.ensures.grants i
 
-  bytes_after : SameOtherBytes (pair_at v number) v (done c.index_mut-2.result.now)
-  bytes_after = subst (λ (r : Receive). SameOtherBytes (pair_at v number) v (done r)) again
+  bytes_after : SameOtherBytes (pair_at v number) v (done rs)
+  bytes_after = subst (λ (rs : List Receive). SameOtherBytes (pair_at v number) v (done rs)) again
       (bytes-finished v c.self.invariant number r here live a c.in_ok-a.was came.0 came.1 whole
       sender left c.take_bytes-bytes.new.joiner.sizes (streams_of c.take_bytes-bytes.new.joiner)
       c.take_bytes-bytes.new.grants.grants c.take_bytes-bytes.ensures.joined.sizes streams_are
@@ -195,9 +232,8 @@ module _ (c : goal.After-shown) where
       (shows_bytes v number r here a c.in_ok-a.was r.cap c.take_bytes-bytes.result
       (ap (λ (s : Stream). bytes_there s (granted_to v a.env.from) a) stream_here ∙ c.take_bytes-bytes.ensures.bytes))
 
-  ended_after : set v.receives number (has_ended c.index_mut-2.result.now) ≡ with_ended v.receives number
-  ended_after = ap (λ (r : Receive). set v.receives number (has_ended r)) (sym again)
-      ∙ ended_is v.receives number r here
+  ended_after : rs ≡ with_ended v.receives number
+  ended_after = c.end-2.ensures
 
 pub invariant_of-self-2 : goal.invariant_of-self-2
 invariant_of-self-2 c = kept_after c
@@ -206,18 +242,17 @@ pub returns-then-receive : goal.returns-then-receive
 returns-then-receive c =
     let v : ReceivingView = seen c.self.inside in
     let number = c.args.number in
-    let below = subst (λ (w : ReceivingView). number < length w.receives) (sym c.self.view_is) c.requires.known in
-    let there = read_at c.self.inside.receives.items number c.index_mut.result.now below c.index_mut.ensures.value in
-    let new : ReceivingView = record v { receives = set v.receives number (has_ended c.index_mut.result.now) } in
+    let r = c.unwrap-receive.result in
+    let here = live_is v number c.live.result r c.live.ensures c.unwrap-receive.ensures in
+    let new : ReceivingView = record v { receives = c.end.new.self.items } in
     subst (λ (w : ReceivingView). FinishesReceive number (Some Cancelled) w new) c.self.view_is
     (record {
-      value = λ h here. sym (result_cancelled v h here number c.index-receive.result.now
-          (read_at c.self.inside.receives.items number c.index-receive.result.now below c.index-receive.ensures)
-          c.if-receive.true);
+      value = λ h received. sym (result_cancelled v h received number r here.0 c.if-receive.true);
       body = tt;
-      kept = keeps-ended v number c.index_mut.result.now there;
+      kept = λ h received. subst (λ (rs : List Receive). AreReceived (record v { receives = rs }) h)
+          (ended_is v.receives number r here.0 ∙ sym c.end.ensures) (keeps-ended v number r here.0 h received);
       none = λ lie. absurd (true≢false lie);
-      ended = λ _. ended_is v.receives number c.index_mut.result.now there;
+      ended = λ _. c.end.ensures;
       streams = λ _. (refl, refl);
       bytes = λ _ _. refl;
       same = refl;
@@ -242,31 +277,29 @@ pub returns-in_err-a : goal.returns-in_err-a
 returns-in_err-a c =
     let v : ReceivingView = seen c.self.inside in
     let number = c.args.number in
-    let below = subst (λ (w : ReceivingView). number < length w.receives) (sym c.self.view_is) c.requires.known in
+    let r = c.unwrap-receive.result in
+    let there = live_is v number c.live.result r c.live.ensures c.unwrap-receive.ensures in
     rw c.from_residual.ensures
     (subst (λ (w : ReceivingView). FinishesReceive number None w w) c.self.view_is
-    (gives_none v number (λ h here. sym (result_untaken v h here number c.index-receive.result.now
-    (read_at c.self.inside.receives.items number c.index-receive.result.now below c.index-receive.ensures)
-    c.if-receive.false c.in_err-a.was))))
+    (gives_none v number (λ h here. sym (result_untaken v h here number r there.0 c.if-receive.false c.in_err-a.was))))
 
 pub returns-then-not-is_whole : goal.returns-then-not-is_whole
 returns-then-not-is_whole c =
     let v : ReceivingView = seen c.self.inside in
     let number = c.args.number in
-    let below = subst (λ (w : ReceivingView). number < length w.receives) (sym c.self.view_is) c.requires.known in
-    let r = c.index-receive.result.now in
-    let there = read_at c.self.inside.receives.items number r below c.index-receive.ensures in
-    let came = taken_came v c.self.invariant number r there c.in_ok-a.a c.in_ok-a.was c.is_whole.result
+    let r = c.unwrap-receive.result in
+    let there = live_is v number c.live.result r c.live.ensures c.unwrap-receive.ensures in
+    let came = taken_came v c.self.invariant number r there.0 c.in_ok-a.a c.in_ok-a.was c.is_whole.result
     c.is_whole.ensures in
     subst (λ (w : ReceivingView). FinishesReceive number None w w) c.self.view_is
-    (gives_none v number (λ h here. sym (result_taken v h here number r there c.if-receive.false
+    (gives_none v number (λ h here. sym (result_taken v h here number r there.0 c.if-receive.false
     c.in_ok-a.a c.in_ok-a.was came.0 came.1
     ∙ ap (λ (b : Bool). cond b (Some (shown (pair number r.cap c.in_ok-a.a))) None)
     (came.2 ∙ c.if-not-is_whole.true))))
 
 pub returns : goal.returns
 returns c =
-    let now : ReceivingView = done c c.index_mut-2.result.now in
+    let now : ReceivingView = done c (rs c) in
     subst (λ (v : ReceivingView). FinishesReceive c.args.number (Some c.shown.result) v now) c.self.view_is
     (record {
       value = value_after c;

@@ -25,9 +25,9 @@ use Rattle.nm_receiving.proofs.receivings.Receiving.post.Goals as goal
 pub post-requires : goal.post-requires
 post-requires c =
     let a = c.self.inside in
-    let next : c.len-number.result ≡ length a.receives.items =
-    omega (arith, c.len-number.ensures, c.reserve.ensures.len, a.receives.ok.0) in
-    record { is_new = next_receive (seen a) c.self.invariant c.len-number.result next }
+    let next : c.count-number.result ≡ length a.receives.items =
+    c.count-number.ensures ∙ ap (λ (rs : List Receive). length rs) c.reserve.ensures.items in
+    record { is_new = next_receive (seen a) c.self.invariant c.count-number.result next }
 
 pub reserve_from-requires : goal.reserve_from-requires
 reserve_from-requires c =
@@ -40,7 +40,7 @@ pub grant_taken-requires-clause-ready : goal.grant_taken-requires-clause-ready
 grant_taken-requires-clause-ready c =
     let v = seen c.self.inside in
     let p : post.Post = record {
-      number = c.len-number.result;
+      number = c.count-number.result;
       from = c.args.from;
       tag = c.args.tag;
       ctx = c.args.ctx;
@@ -55,7 +55,7 @@ pub grant_taken-requires-clause-sender : goal.grant_taken-requires-clause-sender
 grant_taken-requires-clause-sender c =
     let v = seen c.self.inside in
     let p : post.Post = record {
-      number = c.len-number.result;
+      number = c.count-number.result;
       from = c.args.from;
       tag = c.args.tag;
       ctx =
@@ -70,7 +70,7 @@ pub grant_taken-requires-clause-new : goal.grant_taken-requires-clause-new
 grant_taken-requires-clause-new c =
     let v = seen c.self.inside in
     let p : post.Post = record {
-      number = c.len-number.result;
+      number = c.count-number.result;
       from = c.args.from;
       tag = c.args.tag;
       ctx =
@@ -85,7 +85,7 @@ pub grant_taken-requires-clause-came : goal.grant_taken-requires-clause-came
 grant_taken-requires-clause-came c =
     let v = seen c.self.inside in
     let p : post.Post = record {
-      number = c.len-number.result;
+      number = c.count-number.result;
       from = c.args.from;
       tag = c.args.tag;
       ctx =
@@ -100,7 +100,7 @@ invariant_of-self-2 c =
     let v = seen c.self.inside in
     let a = c.self.inside in
     let p : post.Post = record {
-      number = c.len-number.result;
+      number = c.count-number.result;
       from = c.args.from;
       tag = c.args.tag;
       ctx =
@@ -108,17 +108,17 @@ invariant_of-self-2 c =
       cap = c.args.cap;
     } in
     let taken = c.in_ok-taken.taken in
-    let next : c.len-number.result ≡ length a.receives.items =
-    omega (arith, c.len-number.ensures, c.reserve.ensures.len, a.receives.ok.0) in
+    let next : c.count-number.result ≡ length a.receives.items =
+    c.count-number.ensures ∙ ap (λ (rs : List Receive). length rs) c.reserve.ensures.items in
     let same = begun_same v (deed.Post p) c.args.cap taken c.post.new.self c.grant_taken.new.grants.grants
     c.grant_taken.new.receipts.rows
-    c.push_reserved.new.self.items c.in_ok-taken.ensures.ok
+    c.push.new.self.items c.in_ok-taken.ensures.ok
     (c.grant_taken.ensures.grants ∙ ap (λ gs. grants_with gs taken) c.reserve_from.ensures.same)
     c.grant_taken.ensures.receipts
-    (c.push_reserved.ensures.items ∙ ap (λ (rs : List Receive). rs ++ c.new.result ∷ []) c.reserve.ensures.items
+    (c.push.ensures ∙ ap (λ (rs : List Receive). rs ++ c.new.result ∷ []) c.reserve.ensures.items
     ∙ ap (λ (r : Receive). a.receives.items ++ r ∷ []) c.new.ensures) in
     subst (λ (v : ReceivingView). ReceivingInvariant v) same
-    (kept-begun v c.self.invariant (event.Post p 0) (deed.Post p) c.len-number.result c.args.cap
+    (kept-begun v c.self.invariant (event.Post p 0) (deed.Post p) c.count-number.result c.args.cap
     (record {
       posted = λ q is. let is_p : p ≡ q = cc in
           (ap (λ (x : post.Post). x.number) (sym is_p), ap (λ (x : post.Post). x.cap) (sym is_p));
@@ -138,36 +138,36 @@ returns-clause-started c =
     let v = seen c.self.inside in
     let a = c.self.inside in
     let p : post.Post = record {
-      number = c.len-number.result;
+      number = c.count-number.result;
       from = c.args.from;
       tag = c.args.tag;
       ctx = c.args.ctx;
       cap = c.args.cap;
     } in
     let taken = c.in_ok-taken.taken in
-    let s : Started = record { number = c.len-number.result; taken = taken } in
-    let next : c.len-number.result ≡ length a.receives.items =
-    omega (arith, c.len-number.ensures, c.reserve.ensures.len, a.receives.ok.0) in
+    let s : Started = record { number = c.count-number.result; taken = taken } in
+    let next : c.count-number.result ≡ length a.receives.items =
+    c.count-number.ensures ∙ ap (λ (rs : List Receive). length rs) c.reserve.ensures.items in
     let grants = c.grant_taken.ensures.grants ∙ ap (λ gs. grants_with gs taken) c.reserve_from.ensures.same in
-    let receives = c.push_reserved.ensures.items
+    let receives = c.push.ensures
     ∙ ap (λ (rs : List Receive). rs ++ c.new.result ∷ []) c.reserve.ensures.items
     ∙ ap (λ (r : Receive). a.receives.items ++ r ∷ []) c.new.ensures in
     let same = begun_same v (deed.Post p) c.args.cap taken c.post.new.self c.grant_taken.new.grants.grants
     c.grant_taken.new.receipts.rows
-    c.push_reserved.new.self.items c.in_ok-taken.ensures.ok grants c.grant_taken.ensures.receipts receives in
+    c.push.new.self.items c.in_ok-taken.ensures.ok grants c.grant_taken.ensures.receipts receives in
     let takeable = post_takeable v c.self.invariant p taken c.in_ok-taken.ensures.oldest in
     let v' : ReceivingView = record v {
       deeds = c.post.new.self;
       grants = c.grant_taken.new.grants.grants;
       receipts = c.grant_taken.new.receipts.rows;
-      receives = c.push_reserved.new.self.items;
+      receives = c.push.new.self.items;
     } in
     subst (λ (w : ReceivingView). StartsOne c.args.cap (event.Post p) s w v') c.self.view_is
     (record {
       number = next;
       sender = taken_sender v c.self.invariant taken takeable;
       kept = λ line. subst (λ (w : ReceivingView). Preserves v w (event.Post p line ∷ taken_events taken)) same
-          (keeps-begun v (event.Post p line) (deed.Post p) c.len-number.result c.args.cap taken
+          (keeps-begun v (event.Post p line) (deed.Post p) c.count-number.result c.args.cap taken
           (is_begin_post v p line taken next c.in_ok-taken.ensures.oldest)
           (may_begin_with v c.self.invariant taken takeable));
       sizes = refl;

@@ -1,4 +1,4 @@
-use Rattle.std.proofs.Common.{◌≡◌, ℕ, Option, Some, List, [], ◌∷◌, ◌++◌, length, refl, sym, ◌∙◌, ap, subst, arith}
+use Rattle.std.proofs.Common.{◌≡◌, ℕ, Option, Some, List, [], ◌∷◌, ◌++◌, length, refl, sym, ◌∙◌, ap, subst}
 use Rattle.std.proofs.lemmas.Bool.{true≢false}
 use Rattle.nm_types.specs.declared.messages.Arrival.{Arrival}
 use Rattle.nm_history.specs.declared.events.Happened.{Happened}
@@ -36,9 +36,9 @@ get-requires c = claimed_receipt (seen c.self.inside) c.self.invariant c.args.fr
 pub take_claimed-requires-clause-is_new : goal.take_claimed-requires-clause-is_new
 take_claimed-requires-clause-is_new c =
     let a = c.self.inside in
-    let next : c.len-number.result ≡ length a.receives.items =
-    omega (arith, c.len-number.ensures, c.reserve.ensures.len, a.receives.ok.0) in
-    next_receive (seen a) c.self.invariant c.len-number.result next
+    let next : c.count-number.result ≡ length a.receives.items =
+    c.count-number.ensures ∙ ap (λ (rs : List Receive). length rs) c.reserve.ensures.items in
+    next_receive (seen a) c.self.invariant c.count-number.result next
 
 pub reserve_for-requires : goal.reserve_for-requires
 reserve_for-requires c =
@@ -83,18 +83,18 @@ pub invariant_of-self-2 : goal.invariant_of-self-2
 invariant_of-self-2 c =
     let v = seen c.self.inside in
     let a = c.self.inside in
-    let number = c.len-number.result in
+    let number = c.count-number.result in
     let taken : Option Arrival = Some c.get.result.arrival in
     let next : number ≡ length a.receives.items =
-    omega (arith, c.len-number.ensures, c.reserve.ensures.len, a.receives.ok.0) in
+    c.count-number.ensures ∙ ap (λ (rs : List Receive). length rs) c.reserve.ensures.items in
     let claimed = sym c.is_claimed.ensures.value ∙ c.if-prove.false in
     let there = claimed_message v c.self.invariant c.args.from c.args.n c.get.result c.get.ensures in
     let same = begun_same v (deed.Match number c.args.from c.args.n) c.args.cap taken c.take_claimed.new.self
     c.grant_taken.new.grants.grants
-    c.grant_taken.new.receipts.rows c.push_reserved.new.self.items c.in_ok-take_claimed.ensures.ok
+    c.grant_taken.new.receipts.rows c.push.new.self.items c.in_ok-take_claimed.ensures.ok
     (c.grant_taken.ensures.grants ∙ ap (λ gs. grants_with gs taken) c.reserve_for.ensures.same)
     c.grant_taken.ensures.receipts
-    (c.push_reserved.ensures.items ∙ ap (λ (rs : List Receive). rs ++ c.new.result ∷ []) c.reserve.ensures.items
+    (c.push.ensures ∙ ap (λ (rs : List Receive). rs ++ c.new.result ∷ []) c.reserve.ensures.items
     ∙ ap (λ (r : Receive). a.receives.items ++ r ∷ []) c.new.ensures) in
     subst (λ (v : ReceivingView). ReceivingInvariant v) same
     (kept-begun v c.self.invariant (event.Match number c.args.from c.args.n c.args.cap 0)
@@ -107,27 +107,27 @@ pub returns-clause-started : goal.returns-clause-started
 returns-clause-started c =
     let v = seen c.self.inside in
     let a = c.self.inside in
-    let number = c.len-number.result in
+    let number = c.count-number.result in
     let taken : Option Arrival = Some c.get.result.arrival in
     let s : Started = record { number = number; taken = taken } in
     let begins : ℕ → Happened = event.Match number c.args.from c.args.n c.args.cap in
     let next : number ≡ length a.receives.items =
-    omega (arith, c.len-number.ensures, c.reserve.ensures.len, a.receives.ok.0) in
+    c.count-number.ensures ∙ ap (λ (rs : List Receive). length rs) c.reserve.ensures.items in
     let claimed = sym c.is_claimed.ensures.value ∙ c.if-prove.false in
     let there = claimed_message v c.self.invariant c.args.from c.args.n c.get.result c.get.ensures in
     let grants = c.grant_taken.ensures.grants ∙ ap (λ gs. grants_with gs taken) c.reserve_for.ensures.same in
-    let receives = c.push_reserved.ensures.items
+    let receives = c.push.ensures
     ∙ ap (λ (rs : List Receive). rs ++ c.new.result ∷ []) c.reserve.ensures.items
     ∙ ap (λ (r : Receive). a.receives.items ++ r ∷ []) c.new.ensures in
     let same = begun_same v (deed.Match number c.args.from c.args.n) c.args.cap taken c.take_claimed.new.self
-    c.grant_taken.new.grants.grants c.grant_taken.new.receipts.rows c.push_reserved.new.self.items
+    c.grant_taken.new.grants.grants c.grant_taken.new.receipts.rows c.push.new.self.items
     c.in_ok-take_claimed.ensures.ok grants c.grant_taken.ensures.receipts receives in
     let takeable = match_takeable v c.self.invariant c.args.from c.args.n taken claimed there in
     let v' : ReceivingView = record v {
       deeds = c.take_claimed.new.self;
       grants = c.grant_taken.new.grants.grants;
       receipts = c.grant_taken.new.receipts.rows;
-      receives = c.push_reserved.new.self.items;
+      receives = c.push.new.self.items;
     } in
     subst (λ (w : ReceivingView). StartsOne c.args.cap begins s w v') c.self.view_is
     (record {

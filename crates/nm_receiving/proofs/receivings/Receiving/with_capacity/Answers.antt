@@ -34,7 +34,7 @@ is_empty c =
       streams' = streams_length c.in_ok-new.field-0;
       grants = c.in_ok-new-2.ensures ∙ ap (λ (k : ℕ). let ys : List (List (ℕ × Granted)) = replicate k [] in ys) ranks;
       receipts = c.in_ok-new-3.ensures ∙ ap (λ (k : ℕ). let ys : List (List Receipt) = replicate k [] in ys) ranks;
-      receives = c.in_ok-with_capacity.ensures.items;
+      receives = c.in_ok-with_capacity.ensures;
       drawn = c.in_ok-vec.ensures.items_if_clones_equal (λ y is. is)
           ∙ ap (λ (k : ℕ). let ys : List ℕ = replicate k 0 in ys) ranks;
     }
