@@ -267,22 +267,26 @@ module _ (me ranks : ℕ) (old : SendingView) (tables : TablesAgree me ranks old
       subst (λ (t : ℕ). departure_of old t n ≡ Some (first me ranks old tables letter rest list n is).message) goes
       (ended_there me ranks old tables letter rest list n is)
 
+  pub gone-stays : gone-message.out ≡ false
+  gone-stays = waits_in gone-message (first me ranks old tables letter rest list n is).waiting
+
   pub gone-eager : (h : List Event) → AreSent old h → is_asked (sends h to) n ≡ false
   gone-eager =
       subst (λ (t : ℕ). (h : List Event) → AreSent old h → is_asked (sends h t) n ≡ false) goes
       (front-eager me ranks old tables letter rest list n is)
 
-  module _ (outbox : OutboxView) (rows : List (List Departure)) (staying : ℕ) (d : Departure)
-      (there : departure_of old to n ≡ Some d)
-      (now : rows ≡ with_departure old.departures to n (record d { out = true })) where
-    there' : departure_of old letter.to n ≡ Some d
-    there' = subst (λ (t : ℕ). departure_of old t n ≡ Some d) (sym goes) there
+  module _ (outbox : OutboxView) (rows : List (List Departure)) (staying : ℕ)
+      (now : (d : Departure) → departure_of old to n ≡ Some d
+      → rows ≡ with_departure old.departures to n (record d { out = true })) where
+    abbrev there' : departure_of old letter.to n ≡ Some gone-message
+    there' = ended_there me ranks old tables letter rest list n is
 
-    now' : rows ≡ with_departure old.departures letter.to n (record d { out = true })
-    now' = subst (λ (t : ℕ). rows ≡ with_departure old.departures t n (record d { out = true })) (sym goes) now
+    now' : rows ≡ with_departure old.departures letter.to n (record gone-message { out = true })
+    now' = subst (λ (t : ℕ). rows ≡ with_departure old.departures t n (record gone-message { out = true }))
+        (sym goes) (now gone-message gone-there)
 
     pub gone-counted : 0 < old.staying
-    gone-counted = front-counted me ranks old tables letter rest list n is outbox rows staying d there' now'
+    gone-counted = front-counted me ranks old tables letter rest list n is outbox rows staying gone-message there' now'
 
     pub gone-tables : outbox.me ≡ old.outbox.me → length outbox.popped ≡ length old.outbox.popped
         → outbox.letters ≡ rest → staying + 1 ≡ old.staying → TablesAgree me ranks (record {
@@ -292,7 +296,7 @@ module _ (me ranks : ℕ) (old : SendingView) (tables : TablesAgree me ranks old
           pushed = old.pushed;
           staying = staying;
         })
-    gone-tables = front-tables me ranks old tables letter rest list n is outbox rows staying d there' now'
+    gone-tables = front-tables me ranks old tables letter rest list n is outbox rows staying gone-message there' now'
 
     pub gone-kept : Preserves old (record {
       outbox = outbox;
@@ -309,4 +313,4 @@ module _ (me ranks : ℕ) (old : SendingView) (tables : TablesAgree me ranks old
           pushed = old.pushed;
           staying = staying;
         }) (Out t n ∷ [])) goes
-        (front-kept me ranks old tables letter rest list n is outbox rows staying d there' now')
+        (front-kept me ranks old tables letter rest list n is outbox rows staying gone-message there' now')

@@ -3,6 +3,7 @@ mod ClearLemmas
 mod EndLemmas
 mod EventLemmas
 mod FrontLemmas
+mod GoneLemmas
 mod LeavingLemmas
 pub mod LetterLemmas
 mod MessageLemmas
@@ -17,6 +18,7 @@ mod PlaceLemmas
 mod PopLemmas
 pub mod PutLemmas
 mod RecallLemmas
+mod RecalledLemmas
 mod RestLemmas
 mod RowLemmas
 mod SendLemmas
@@ -25,3 +27,4 @@ mod TableLemmas
 pub mod TurnLemmas
 mod UndoLemmas
 mod WaitingLemmas
+mod WayLemmas

@@ -271,24 +271,3 @@ asked-states me ranks old new tables to n d d' step x s asked states cleared her
         → IsOfferBy how d' (has (cleared_to old to) n || x) (Some s)
     by_how Ask is here = here
     by_how Eager is here = absurd (true≢false (sym is))
-
--- one message at a place
-pub same_departure : {x y : Departure} {o : Option Departure} → o ≡ Some x → o ≡ Some y → x ≡ y
-same_departure {x} {y} a b = some_same (sym a ∙ b) where
-  some_same : Some x ≡ Some y → x ≡ y
-  some_same e = cc
-
--- the table where a message has left
-pub rows_now : (now rows : List (List Departure)) (to n : ℕ) (d left lead : Departure) → now
-    ≡ with_departure rows to n left
-    → left ≡ record d { out = true } → d ≡ lead → now ≡ with_departure rows to n (record lead { out = true })
-rows_now now rows to n d left lead set left_is same =
-    set ∙ ap (λ (x : Departure). with_departure rows to n x)
-    (left_is ∙ ap (λ (x : Departure). record x { out = true }) same)
-
--- the table where something else became of a message
-pub rows_with : (f : Departure → Departure) (now rows : List (List Departure)) (to n : ℕ)
-    (d left lead : Departure)
-    → now ≡ with_departure rows to n left → left ≡ f d → d ≡ lead → now ≡ with_departure rows to n (f lead)
-rows_with f now rows to n d left lead set left_is same =
-    set ∙ ap (λ (x : Departure). with_departure rows to n x) (left_is ∙ ap f same)

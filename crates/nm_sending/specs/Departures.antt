@@ -17,10 +17,11 @@ abbrev pub fresh : How → ℕ → Departure
 fresh how len = record { how = how; len = len; out = false; recalled = false; undone = None }
 
 -- what contracts see of a table: what became of each message, by destination and number, and by
--- destination for how many messages more there is room
+-- destination for how many messages more there is room, and for how many recalls
 pub record TableView : Type 0 where
   pub rows : List (List Departure)
   pub room : List ℕ
+  pub spare : List ℕ
 
 -- the messages of a row
 abbrev pub row_of : List (List Departure) → ℕ → List Departure

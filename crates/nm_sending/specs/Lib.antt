@@ -4,5 +4,6 @@ pub mod Letters
 pub mod Notes
 pub mod Numbers
 pub mod Outboxes
+pub mod Rows
 pub mod Sent
 pub mod Tables

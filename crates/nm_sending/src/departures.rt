@@ -3,6 +3,7 @@
 ghost use Rattle.std.specs.Prelude.{◌≡◌, true, Some};
 ghost use Rattle.nm_history.specs.Sends.{is_ask};
 ghost use Rattle.nm_sending.specs.Departures.{ending_of, fresh, is_over};
+ghost use Rattle.nm_sending.specs.Rows.{with_recalled as with_recalled_lem};
 
 use nm_types::{Answer, How};
 
@@ -74,22 +75,26 @@ impl Departure {
         Departure { out: true, ..self }
     }
 
-    /// The message when its receiver was asked to withdraw it.
-    pub(crate) fn recalled(self) -> Self
-        ensures { result ≡ record self { recalled = true } }
+    /// A message that has left, of no length.
+    pub(crate) fn gone(asked: bool) -> Self
+        ensures way { is_ask result.how ≡ asked }
+        ensures gone { result ≡ record (fresh result.how 0) { out = true } }
     {
-        Departure {
-            recalled: true,
-            ..self
-        }
+        let how = if asked { How::Ask } else { How::Eager };
+        Departure::new(how, 0).left()
     }
 
-    /// The message when the answer to its recall came back.
-    pub(crate) fn answered(self, done: bool) -> Self
-        ensures { result ≡ record self { undone = Some done } }
+    /// The message with its recall, if it was recalled, and with the answer to that, if it came back.
+    pub(crate) fn with_recalled(self, recall: Option<Option<bool>>) -> Self
+        ensures { result ≡ with_recalled_lem self recall }
     {
+        let (recalled, undone) = match recall {
+            Some(undone) => (true, undone),
+            None => (false, None),
+        };
         Departure {
-            undone: Some(done),
+            recalled,
+            undone,
             ..self
         }
     }

@@ -29,6 +29,7 @@ mod departures;
 pub mod laws;
 pub mod outbox;
 mod putting;
+mod rows;
 mod sendings;
 mod tables;
 

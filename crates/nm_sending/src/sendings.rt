@@ -22,11 +22,11 @@ ghost use Rattle.nm_sending.specs.Calls.{AnswersRecall, ClearsMessage, HasRoomFo
 ghost use Rattle.nm_sending.specs.Calls.{PopsNextPiece, RecallsMessage, SameButRoom, SendsMessage};
 ghost use Rattle.nm_sending.specs.Calls.{SentNothing, sent_as};
 ghost use Rattle.nm_sending.specs.Departures.{departures_to, pushed_to};
+ghost use Rattle.nm_sending.specs.Rows.{gone};
 ghost use Rattle.nm_sending.specs.Sent.{AreSent, MayBeAnswered, MayBeCleared, MayBeRecalled};
 ghost use Rattle.nm_sending.specs.Sent.{Puts, only_to};
 
 use crate::MAX_MESSAGES;
-use crate::departures::Departure;
 use crate::outbox::Outbox;
 use crate::putting::{Heading, put_bare, put_message};
 use crate::tables::Table;
@@ -127,6 +127,14 @@ impl Sending {
         self.departures.count(to)
     }
 
+    /// How many messages to a rank are in memory: those from the first on that has not left.
+    pub fn held(&self, to: u8) -> usize
+        requires { to < length self.now.outbox.popped }
+        ensures { gone (departures_to self.now to) + result ≡ length (departures_to self.now to) }
+    {
+        self.departures.held(to)
+    }
+
     /// How many packets to a rank there are to send.
     pub fn waiting_for(&self, to: u8) -> u64
         requires { to < length self.now.outbox.popped }
@@ -217,7 +225,7 @@ impl Sending {
         };
         self.departures.reserve(to)?;
         put_message(&mut self.outbox, &mut self.offers, heading, body, stamp)?;
-        self.departures.push(to, Departure::new(how, len));
+        self.departures.push(to, how, len);
         self.staying += 1;
         Ok(n)
     }
@@ -296,11 +304,11 @@ impl Sending {
         ensures recalled { OnOk result (RecallsMessage to n stamp self.old self.new) }
         ensures err { OnErr result (SameButRoom self.old self.new) }
     {
+        self.departures.reserve_recall(to)?;
         self.outbox.reserve(1)?;
         self.offers.withdraw(to, n)?;
         put_bare(&mut self.outbox, to, stamp, What::Withdraw { n });
-        let departure = self.departures.get(to, n).unwrap();
-        self.departures.set(to, n, departure.recalled());
+        self.departures.recall(to, n);
         Ok(())
     }
 
@@ -313,8 +321,7 @@ impl Sending {
     {
         let is_out = self.offers.cleared(to, n);
         if is_out {
-            let departure = self.departures.get(to, n).unwrap();
-            self.departures.set(to, n, departure.left());
+            self.departures.leave(to, n);
             self.staying -= 1;
         }
         is_out
@@ -327,8 +334,7 @@ impl Sending {
         ensures { AnswersRecall to n done self.old self.new }
     {
         self.offers.withdrawn(to, n, done);
-        let departure = self.departures.get(to, n).unwrap();
-        self.departures.set(to, n, departure.answered(done));
+        self.departures.answer(to, n, done);
     }
 
     /// The rank that the first packet goes to, without the packet, if there is one. Where there is none,
@@ -363,8 +369,7 @@ impl Sending {
         ensures { PopsFirstPacket result self.old self.new }
     {
         let (to, n) = self.outbox.pop_front()?;
-        let departure = self.departures.get(to, n).unwrap();
-        self.departures.set(to, n, departure.left());
+        self.departures.leave(to, n);
         self.staying -= 1;
         Some((to, n))
     }
@@ -402,8 +407,7 @@ impl Sending {
         let (to, _) = self.offers.front().unwrap();
         self.pushed[to as usize] += 1;
         let (to, n) = self.offers.pop_piece()?;
-        let departure = self.departures.get(to, n).unwrap();
-        self.departures.set(to, n, departure.left());
+        self.departures.leave(to, n);
         self.staying -= 1;
         Some((to, n))
     }

@@ -1,18 +1,22 @@
 //! What became of each message that was sent.
 
-ghost use Rattle.std.specs.Prelude.{◌≡◌, ◌<◌, [], ◌∷◌, ◌++◌, length, replicate, slice_get};
-ghost use Rattle.std.specs.Prelude.{slice_index, slice_set};
+ghost use Rattle.std.specs.Prelude.{◌≡◌, ◌+◌, ◌<◌, ◌^◌, [], ◌∷◌, ◌++◌, true, not, length, replicate, Some};
+ghost use Rattle.std.specs.Prelude.{option_map, slice_get, slice_index, slice_set};
 ghost use Rattle.std.specs.Prelude.{IfOk, OnOk};
-ghost use Rattle.nm_sending.specs.Departures.{IsMost, row_of, with_departure};
+ghost use Rattle.nm_sending.specs.Departures.{IsMost, fresh, passes, row_of, with_departure};
+ghost use Rattle.nm_sending.specs.Rows.{gone, stays, unmeasured};
+ghost use Rattle.nm_sending.specs.declared.TheConstants.{MAX_MESSAGES};
+ghost use Rattle.nm_sending.specs.declared.departures.Departure.{Departure};
 
 use crate::departures::Departure;
-use nm_types::Memory;
+use crate::rows::Row;
+use nm_types::{How, Memory};
 use std::alloc::Global;
 use std::marker::Model;
 
 /// What became of each message, by destination and number.
 pub(crate) struct Table {
-    rows: Vec<Vec<Departure>>,
+    rows: Vec<Row>,
     // the most messages that there are to any rank
     most: u64,
 }
@@ -24,18 +28,19 @@ impl Drop for Table {
 }
 
 impl Model for Table {
-    ghost use Rattle.std.specs.Prelude.{◌-◌, map, vec_capacity, vec_len};
+    ghost use Rattle.std.specs.Prelude.{map};
     ghost use Rattle.nm_sending.specs.Departures.{IsMost, TableView};
 
     ghost Value = { TableView };
 
     ghost view = { λ a.
         record {
-          rows = map (λ v. v.items) a.rows.items;
-          room = map (λ v. vec_capacity v - vec_len v) a.rows.items;
+          rows = map (λ row. row.items) a.rows.items;
+          room = map (λ row. row.room) a.rows.items;
+          spare = map (λ row. row.spare) a.rows.items;
         } };
 
-    ghost invariant = { λ a. IsMost (map (λ v. v.items) a.rows.items) a.most };
+    ghost invariant = { λ a. IsMost (map (λ row. row.items) a.rows.items) a.most };
 }
 
 impl Table {
@@ -45,7 +50,7 @@ impl Table {
     {
         let mut rows = Vec::new(alloc);
         for _ in 0..ranks {
-            rows.push(Vec::new(alloc))?;
+            rows.push(Row::new(alloc))?;
         }
         Ok(Table { rows, most: 0 })
     }
@@ -55,7 +60,15 @@ impl Table {
         requires { to < length self.now.rows }
         ensures { result ≡ length (row_of self.now.rows to) }
     {
-        self.rows[to as usize].len() as u64
+        self.rows[to as usize].count()
+    }
+
+    /// How many messages to a rank are in memory: those from the first on that has not left.
+    pub(crate) fn held(&self, to: u8) -> usize
+        requires { to < length self.now.rows }
+        ensures { gone (row_of self.now.rows to) + result ≡ length (row_of self.now.rows to) }
+    {
+        self.rows[to as usize].held()
     }
 
     /// The most messages that there are to any rank.
@@ -65,12 +78,13 @@ impl Table {
         self.most
     }
 
-    /// What became of message `n` to a rank, if it was sent.
+    /// What became of message `n` to a rank, if it was sent. Its length may not be known.
     pub(crate) fn get(&self, to: u8, n: u64) -> Option<Departure>
         requires { to < length self.now.rows }
-        ensures { result ≡ slice_get (row_of self.now.rows to) n }
+        ensures { option_map unmeasured result
+            ≡ option_map unmeasured (slice_get (row_of self.now.rows to) n) }
     {
-        self.rows[to as usize].get(n as usize).copied()
+        self.rows[to as usize].get(n)
     }
 
     /// Makes room for one message more to a rank.
@@ -79,28 +93,61 @@ impl Table {
         ensures rows { self.new.rows ≡ self.old.rows }
         ensures ok { OnOk result (0 < slice_index self.new.room to) }
     {
-        self.rows[to as usize].reserve(1)?;
+        self.rows[to as usize].reserve()?;
+        Ok(())
+    }
+
+    /// Makes room for one recall more from a rank.
+    pub(crate) fn reserve_recall(&mut self, to: u8) -> Result<(), Memory>
+        requires { to < length self.old.rows }
+        ensures rows { self.new.rows ≡ self.old.rows }
+        ensures ok { OnOk result (0 < slice_index self.new.spare to) }
+    {
+        self.rows[to as usize].reserve_recall()?;
         Ok(())
     }
 
     /// Adds the next message to a rank. There is room for it.
-    pub(crate) fn push(&mut self, to: u8, departure: Departure)
+    pub(crate) fn push(&mut self, to: u8, how: How, len: u32)
         requires to { to < length self.old.rows }
         requires room { 0 < slice_index self.old.room to }
+        requires few { length (row_of self.old.rows to) < MAX_MESSAGES }
         ensures { self.new.rows
-            ≡ slice_set self.old.rows to (row_of self.old.rows to ++ departure ∷ []) }
+            ≡ slice_set self.old.rows to (row_of self.old.rows to ++ fresh how len ∷ []) }
     {
         let row = &mut self.rows[to as usize];
-        row.push_reserved(departure);
-        self.most = self.most.max(row.len() as u64);
+        row.push(how, len);
+        self.most = self.most.max(row.count());
     }
 
-    /// Replaces what became of a message.
-    pub(crate) fn set(&mut self, to: u8, n: u64, departure: Departure)
+    /// A message has left.
+    pub(crate) fn leave(&mut self, to: u8, n: u64)
         requires to { to < length self.old.rows }
-        requires n { n < length (row_of self.old.rows to) }
-        ensures { self.new.rows ≡ with_departure self.old.rows to n departure }
+        requires stays { passes stays (slice_get (row_of self.old.rows to) n) ≡ true }
+        ensures { (d : Departure) → slice_get (row_of self.old.rows to) n ≡ Some d →
+            self.new.rows ≡ with_departure self.old.rows to n (record d { out = true }) }
     {
-        self.rows[to as usize][n as usize] = departure;
+        self.rows[to as usize].leave(n);
+    }
+
+    /// The receiver of a message was asked to withdraw it. There is room for that.
+    pub(crate) fn recall(&mut self, to: u8, n: u64)
+        requires to { to < length self.old.rows }
+        requires room { 0 < slice_index self.old.spare to }
+        requires is_new { passes (λ d. not d.recalled) (slice_get (row_of self.old.rows to) n) ≡ true }
+        ensures { (d : Departure) → slice_get (row_of self.old.rows to) n ≡ Some d →
+            self.new.rows ≡ with_departure self.old.rows to n (record d { recalled = true }) }
+    {
+        self.rows[to as usize].recall(n);
+    }
+
+    /// The answer to a message's recall came back.
+    pub(crate) fn answer(&mut self, to: u8, n: u64, done: bool)
+        requires to { to < length self.old.rows }
+        requires recalled { passes (λ d. d.recalled) (slice_get (row_of self.old.rows to) n) ≡ true }
+        ensures { (d : Departure) → slice_get (row_of self.old.rows to) n ≡ Some d →
+            self.new.rows ≡ with_departure self.old.rows to n (record d { undone = Some done }) }
+    {
+        self.rows[to as usize].answer(n, done);
     }
 }

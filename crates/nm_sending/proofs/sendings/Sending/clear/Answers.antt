@@ -1,19 +1,19 @@
 -- A message that was sent by asking is cleared.
 use Rattle.std.proofs.Common.{◌-◌, ◌<◌, length, refl, sym, ◌∙◌, ap}
 use Rattle.std.proofs.Common.{subst, arith}
-use Rattle.std.proofs.Common.{true, false, Option}
+use Rattle.std.proofs.Common.{true, false, not, Option}
 use Rattle.std.specs.Option.{option_map_or}
-use Rattle.std.proofs.lemmas.Option.{slice_get_within}
 use Rattle.nm_rndv.specs.declared.asked.State.{State}
 use Rattle.nm_rndv.specs.Offers.{is_waiting}
 use Rattle.nm_sending.specs.contracts.sendings.Sending.{the_view}
 use Rattle.nm_sending.specs.Calls.{ClearsMessage}
-use Rattle.nm_sending.specs.Departures.{SendingView}
+use Rattle.nm_sending.specs.declared.departures.Departure.{Departure}
+use Rattle.nm_sending.specs.Departures.{SendingView, passes}
+use Rattle.nm_sending.specs.Rows.{stays}
 use Rattle.nm_sending.specs.Sent.{MayBeCleared}
 use Rattle.nm_sending.specs.Tables.{TablesAgree}
 use Rattle.nm_sending.proofs.ClearLemmas.{asks, after-clear, at_once, clear_empty, cleared_view}
 use Rattle.nm_sending.proofs.ClearLemmas.{full-tables, full-kept, empty-tables, empty-kept, empty-counted}
-use Rattle.nm_sending.proofs.TableLemmas.{rows_now, same_departure}
 use Rattle.nm_sending.proofs.sendings.Sending.clear.Goals as goal
 
 pub cleared-is_out-requires-clause-in_range : goal.cleared-is_out-requires-clause-in_range
@@ -30,29 +30,19 @@ cleared-is_out-requires-clause-asked c =
     let ask = asks a.me a.ranks (the_view a) c.self.invariant c.args.to c.args.n may in
     ap (λ (o : Option State). option_map_or is_waiting o false) ask.state
 
-pub get-requires : goal.get-requires
-get-requires c =
+pub leave-requires-clause-to : goal.leave-requires-clause-to
+leave-requires-clause-to c =
     let to = subst (λ (v : SendingView). c.args.to < length v.outbox.popped)
     (sym c.self.view_is) c.requires.to in
     omega (arith, to, c.self.invariant.letters, c.self.invariant.rows)
 
-pub unwrap-departure-requires : goal.unwrap-departure-requires
-unwrap-departure-requires c =
+pub leave-requires-clause-stays : goal.leave-requires-clause-stays
+leave-requires-clause-stays c =
     let a = c.self.inside in
     let may = subst (λ (v : SendingView). MayBeCleared v c.args.to c.args.n)
     (sym c.self.view_is) c.requires.may in
     let ask = asks a.me a.ranks (the_view a) c.self.invariant c.args.to c.args.n may in
-    rw (c.get.ensures, ask.there) refl
-
-pub set-requires-clause-to : goal.set-requires-clause-to
-set-requires-clause-to c =
-    let to = subst (λ (v : SendingView). c.args.to < length v.outbox.popped)
-    (sym c.self.view_is) c.requires.to in
-    omega (arith, to, c.self.invariant.letters, c.self.invariant.rows)
-
-pub set-requires-clause-n : goal.set-requires-clause-n
-set-requires-clause-n c =
-    slice_get_within _ _ c.unwrap-departure.result (sym c.get.ensures ∙ c.unwrap-departure.ensures)
+    ap (λ (o : Option Departure). passes stays o) ask.there ∙ ap not ask.offer.3
 
 pub overflow_sub-self : goal.overflow_sub-self
 overflow_sub-self c =
@@ -65,13 +55,11 @@ overflow_sub-self c =
     let empty = at_once (the_view a) c.args.to c.args.n ask c.cleared-is_out.result
     c.cleared-is_out.ensures.empty
     ∙ c.if-is_out.true in
-    let rows = rows_now c.set.new.self.rows a.departures.rows c.args.to c.args.n c.unwrap-departure.result
-    c.left.result ask.departure c.set.ensures c.left.ensures
-    (same_departure (sym c.get.ensures ∙ c.unwrap-departure.ensures) ask.there) in
+    let rows = c.leave.ensures ask.departure ask.there in
     omega (
       arith,
       empty-counted a.me a.ranks (the_view a) c.self.invariant c.args.to c.args.n
-          (omega (arith, to, c.self.invariant.letters)) ask c.set.new.self.rows (a.staying - 1) empty rows,
+          (omega (arith, to, c.self.invariant.letters)) ask c.leave.new.self.rows (a.staying - 1) empty rows,
     )
 
 pub invariant_of-self : goal.invariant_of-self
@@ -85,15 +73,13 @@ invariant_of-self c =
     let empty = at_once (the_view a) c.args.to c.args.n ask c.cleared-is_out.result
     c.cleared-is_out.ensures.empty
     ∙ c.if-is_out.true in
-    let rows = rows_now c.set.new.self.rows a.departures.rows c.args.to c.args.n c.unwrap-departure.result
-    c.left.result ask.departure c.set.ensures c.left.ensures
-    (same_departure (sym c.get.ensures ∙ c.unwrap-departure.ensures) ask.there) in
+    let rows = c.leave.ensures ask.departure ask.there in
     let more = empty-counted a.me a.ranks (the_view a) c.self.invariant c.args.to c.args.n
-    (omega (arith, to, c.self.invariant.letters)) ask c.set.new.self.rows (a.staying - 1) empty rows in
+    (omega (arith, to, c.self.invariant.letters)) ask c.leave.new.self.rows (a.staying - 1) empty rows in
     cleared_view (λ (v : SendingView). TablesAgree a.me a.ranks v) (the_view a) c.args.to c.args.n
-    c.set.new.self.rows (a.staying - 1) c.cleared-is_out.new.self c.cleared-is_out.ensures.cleared
+    c.leave.new.self.rows (a.staying - 1) c.cleared-is_out.new.self c.cleared-is_out.ensures.cleared
     (empty-tables a.me a.ranks (the_view a) c.self.invariant c.args.to c.args.n
-    (omega (arith, to, c.self.invariant.letters)) ask c.set.new.self.rows (a.staying - 1) empty rows
+    (omega (arith, to, c.self.invariant.letters)) ask c.leave.new.self.rows (a.staying - 1) empty rows
     (omega (arith, more)))
 
 pub invariant_of-self-else-is_out : goal.invariant_of-self-else-is_out
@@ -124,16 +110,14 @@ returns-then-is_out c =
     let empty = at_once (the_view a) c.args.to c.args.n ask c.cleared-is_out.result
     c.cleared-is_out.ensures.empty
     ∙ c.if-is_out.true in
-    let rows = rows_now c.set.new.self.rows a.departures.rows c.args.to c.args.n c.unwrap-departure.result
-    c.left.result ask.departure c.set.ensures c.left.ensures
-    (same_departure (sym c.get.ensures ∙ c.unwrap-departure.ensures) ask.there) in
+    let rows = c.leave.ensures ask.departure ask.there in
     let more = empty-counted a.me a.ranks (the_view a) c.self.invariant c.args.to c.args.n within ask
-    c.set.new.self.rows (a.staying - 1) empty rows in
+    c.leave.new.self.rows (a.staying - 1) empty rows in
     let new = after-clear a.me a.ranks (the_view a) c.self.invariant c.args.to c.args.n within ask
-    c.set.new.self.rows (a.staying - 1) in
+    c.leave.new.self.rows (a.staying - 1) in
     rw c.if-is_out.true
     (cleared_view (λ (v : SendingView). ClearsMessage c.args.to c.args.n true c.args.self.now v) (the_view a)
-    c.args.to c.args.n c.set.new.self.rows (a.staying - 1) c.cleared-is_out.new.self
+    c.args.to c.args.n c.leave.new.self.rows (a.staying - 1) c.cleared-is_out.new.self
     c.cleared-is_out.ensures.cleared
     (subst (λ (v : SendingView). ClearsMessage c.args.to c.args.n true v new) c.self.view_is
     (record {
@@ -141,7 +125,7 @@ returns-then-is_out c =
           ∙ clear_empty a.me a.ranks (the_view a) c.self.invariant c.args.to c.args.n within ask
           a.departures.rows a.staying h was;
       kept = empty-kept a.me a.ranks (the_view a) c.self.invariant c.args.to c.args.n within ask
-          c.set.new.self.rows (a.staying - 1) empty rows;
+          c.leave.new.self.rows (a.staying - 1) empty rows;
       cleared = refl;
       counted = omega (arith, more);
       outbox = refl;

@@ -1,14 +1,14 @@
 -- The first packet goes, and an eager message leaves with its last one.
-use Rattle.std.proofs.Common.{◌-◌, ℕ, Option, Some, None, length, refl, sym, ◌∙◌, ap, subst, arith}
+use Rattle.std.proofs.Common.{◌-◌, ℕ, Option, Some, None, not, length, refl, sym, ◌∙◌, ap, subst, arith}
 use Rattle.std.proofs.lemmas.List.{length-set}
-use Rattle.std.proofs.lemmas.Option.{slice_get_within}
 use Rattle.nm_sending.specs.Outboxes.{OutboxView, Pops}
 use Rattle.nm_sending.specs.contracts.sendings.Sending.{the_view}
 use Rattle.nm_sending.specs.declared.departures.Departure.{Departure}
 use Rattle.nm_sending.specs.Calls.{PopsFirstPacket}
-use Rattle.nm_sending.specs.Departures.{SendingView, with_departure}
+use Rattle.nm_sending.specs.Departures.{SendingView, passes}
+use Rattle.nm_sending.specs.Rows.{stays}
 use Rattle.nm_sending.proofs.FrontLemmas.{ended_is, gone-counted, gone-eager, gone-kept, gone-message, gone-tables}
-use Rattle.nm_sending.proofs.FrontLemmas.{gone-there, last_is, popped_is, tables-stay}
+use Rattle.nm_sending.proofs.FrontLemmas.{gone-stays, gone-there, last_is, popped_is, tables-stay}
 use Rattle.nm_sending.proofs.SentLemmas.{keeps-none, sent-outbox}
 use Rattle.nm_sending.proofs.TableLemmas.{row_there}
 use Rattle.nm_sending.proofs.sendings.Sending.pop_front.Goals as goal
@@ -19,8 +19,8 @@ invariant_of-self c =
     tables-stay a.me a.ranks (the_view a) c.pop_front.new.self c.self.invariant
     (subst (λ (r : Option (ℕ × ℕ)). Pops r a.outbox c.pop_front.new.self) c.in_err-to.was c.pop_front.ensures)
 
-pub get-requires : goal.get-requires
-get-requires c =
+pub leave-requires-clause-to : goal.leave-requires-clause-to
+leave-requires-clause-to c =
     let a = c.self.inside in let p = c.pop_front.ensures in
     let e = ended_is p.letter c.pop_front.result c.in_ok-to.to c.in_ok-to.n p.left c.in_ok-to.was in
     row_there a.departures.rows c.in_ok-to.to c.in_ok-to.n
@@ -29,46 +29,36 @@ get-requires c =
     (gone-there a.me a.ranks (the_view a) c.self.invariant p.letter c.pop_front.new.self.letters p.letters
     c.in_ok-to.to c.in_ok-to.n e.0 e.1)
 
-pub unwrap-departure-requires : goal.unwrap-departure-requires
-unwrap-departure-requires c =
-    let a = c.self.inside in let p = c.pop_front.ensures in
+pub leave-requires-clause-stays : goal.leave-requires-clause-stays
+leave-requires-clause-stays c =
+    let a = c.self.inside in let p = c.pop_front.ensures in let rest = c.pop_front.new.self.letters in
     let e = ended_is p.letter c.pop_front.result c.in_ok-to.to c.in_ok-to.n p.left c.in_ok-to.was in
-    rw (
-      c.get.ensures,
-      gone-there a.me a.ranks (the_view a) c.self.invariant p.letter c.pop_front.new.self.letters p.letters
-          c.in_ok-to.to c.in_ok-to.n e.0 e.1,
-    ) refl
-
-pub set-requires-clause-n : goal.set-requires-clause-n
-set-requires-clause-n c =
-    slice_get_within _ _ c.unwrap-departure.result (sym c.get.ensures ∙ c.unwrap-departure.ensures)
+    ap (λ (o : Option Departure). passes stays o)
+    (gone-there a.me a.ranks (the_view a) c.self.invariant p.letter rest p.letters c.in_ok-to.to c.in_ok-to.n e.0 e.1)
+    ∙ ap not (gone-stays a.me a.ranks (the_view a) c.self.invariant p.letter rest p.letters c.in_ok-to.to
+    c.in_ok-to.n e.0 e.1)
 
 pub overflow_sub-self : goal.overflow_sub-self
 overflow_sub-self c =
     let a = c.self.inside in let p = c.pop_front.ensures in
     let e = ended_is p.letter c.pop_front.result c.in_ok-to.to c.in_ok-to.n p.left c.in_ok-to.was in
-    let rows = c.set.ensures ∙ ap (λ (d : Departure).
-    with_departure a.departures.rows c.in_ok-to.to c.in_ok-to.n d) c.left.ensures in
     omega (
       arith,
       gone-counted a.me a.ranks (the_view a) c.self.invariant p.letter c.pop_front.new.self.letters p.letters
-          c.in_ok-to.to c.in_ok-to.n e.0 e.1 c.pop_front.new.self c.set.new.self.rows (a.staying - 1)
-          c.unwrap-departure.result (sym c.get.ensures ∙ c.unwrap-departure.ensures) rows,
+          c.in_ok-to.to c.in_ok-to.n e.0 e.1 c.pop_front.new.self c.leave.new.self.rows (a.staying - 1)
+          c.leave.ensures,
     )
 
 pub invariant_of-self-2 : goal.invariant_of-self-2
 invariant_of-self-2 c =
     let a = c.self.inside in let p = c.pop_front.ensures in
     let e = ended_is p.letter c.pop_front.result c.in_ok-to.to c.in_ok-to.n p.left c.in_ok-to.was in
-    let rows = c.set.ensures ∙ ap (λ (d : Departure).
-    with_departure a.departures.rows c.in_ok-to.to c.in_ok-to.n d) c.left.ensures in
-    let there = sym c.get.ensures ∙ c.unwrap-departure.ensures in
     let more = gone-counted a.me a.ranks (the_view a) c.self.invariant p.letter c.pop_front.new.self.letters
-    p.letters c.in_ok-to.to c.in_ok-to.n e.0 e.1 c.pop_front.new.self c.set.new.self.rows (a.staying - 1)
-    c.unwrap-departure.result there rows in
+    p.letters c.in_ok-to.to c.in_ok-to.n e.0 e.1 c.pop_front.new.self c.leave.new.self.rows (a.staying - 1)
+    c.leave.ensures in
     gone-tables a.me a.ranks (the_view a) c.self.invariant p.letter c.pop_front.new.self.letters p.letters
-    c.in_ok-to.to c.in_ok-to.n e.0 e.1 c.pop_front.new.self c.set.new.self.rows (a.staying - 1)
-    c.unwrap-departure.result there rows
+    c.in_ok-to.to c.in_ok-to.n e.0 e.1 c.pop_front.new.self c.leave.new.self.rows (a.staying - 1)
+    c.leave.ensures
     (ap (λ (o : OutboxView). o.me) p.outbox)
     (ap (λ (o : OutboxView). length o.popped) p.outbox ∙ length-set _ _ _)
     refl (omega (arith, more))
@@ -96,13 +86,11 @@ returns c =
     let to = c.in_ok-to.to in let n = c.in_ok-to.n in
     let e = ended_is p.letter c.pop_front.result to n p.left c.in_ok-to.was in
     let rest = c.pop_front.new.self.letters in
-    let rows = c.set.ensures ∙ ap (λ (d : Departure). with_departure a.departures.rows to n d) c.left.ensures in
-    let there = sym c.get.ensures ∙ c.unwrap-departure.ensures in
     let more = gone-counted a.me a.ranks old c.self.invariant p.letter rest p.letters to n e.0 e.1
-    c.pop_front.new.self c.set.new.self.rows (a.staying - 1) c.unwrap-departure.result there rows in
+    c.pop_front.new.self c.leave.new.self.rows (a.staying - 1) c.leave.ensures in
     let new : SendingView = record old {
       outbox = c.pop_front.new.self;
-      departures = c.set.new.self.rows;
+      departures = c.leave.new.self.rows;
       staying = a.staying - 1;
     } in
     subst (λ (v : SendingView). PopsFirstPacket (Some (to, n)) v new) c.self.view_is
@@ -112,7 +100,7 @@ returns c =
       popped = popped_is c.pop_front.result old.outbox c.pop_front.new.self p;
       room = p.room;
       kept = gone-kept a.me a.ranks old c.self.invariant p.letter rest p.letters to n e.0 e.1
-          c.pop_front.new.self c.set.new.self.rows (a.staying - 1) c.unwrap-departure.result there rows;
+          c.pop_front.new.self c.leave.new.self.rows (a.staying - 1) c.leave.ensures;
       counted = omega (arith, more);
       offers = refl;
       same = refl;

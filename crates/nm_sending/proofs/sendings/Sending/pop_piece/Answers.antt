@@ -1,19 +1,19 @@
 -- The next piece goes, and a message that was sent by asking leaves with its last one.
 use Rattle.std.specs.Prelude.{IsSome}
-use Rattle.std.proofs.Common.{◌≡◌, ℕ, ◌-◌, ◌<◌, Option, Some, None, refl, sym, ◌∙◌, subst, arith}
-use Rattle.std.proofs.lemmas.Option.{slice_get_within}
+use Rattle.std.proofs.Common.{◌≡◌, ℕ, ◌-◌, ◌<◌, Option, Some, None, not, refl, sym, ◌∙◌, ap, subst, arith}
 use Rattle.nm_rndv.specs.Offers.{next_offered, with_popped}
 use Rattle.nm_rndv.proofs.Results.{is_there}
 use Rattle.nm_sending.specs.contracts.sendings.Sending.{the_view}
 use Rattle.nm_sending.specs.Calls.{PopsNextPiece}
-use Rattle.nm_sending.specs.Departures.{SendingView}
+use Rattle.nm_sending.specs.declared.departures.Departure.{Departure}
+use Rattle.nm_sending.specs.Departures.{SendingView, passes}
+use Rattle.nm_sending.specs.Rows.{stays}
 use Rattle.nm_sending.specs.Tables.{TablesAgree}
 use Rattle.nm_sending.proofs.LeavingLemmas.{turn_next}
 use Rattle.nm_sending.proofs.PopLemmas.{goes_on, last_of, message_to, count_raised, popped_view}
 use Rattle.nm_sending.proofs.PopLemmas.{more-tables, more-kept, last-tables, last-kept, last-counted}
 use Rattle.nm_sending.proofs.PopLemmas.{after, offers_popped, count_pushed}
 use Rattle.nm_sending.proofs.PieceLemmas.{is_leading}
-use Rattle.nm_sending.proofs.TableLemmas.{rows_now, same_departure}
 use Rattle.nm_sending.proofs.sendings.Sending.pop_piece.Goals as goal
 
 pub unwrap-to-requires : goal.unwrap-to-requires
@@ -38,8 +38,8 @@ invariant_of-self c =
     (more-tables a.me a.ranks (the_view a) c.self.invariant goes.to goes.n goes.first goes.lead goes.within
     a.departures.rows a.staying goes.rest goes.more refl refl)
 
-pub get-requires : goal.get-requires
-get-requires c =
+pub leave-requires-clause-to : goal.leave-requires-clause-to
+leave-requires-clause-to c =
     let a = c.self.inside in
     let there = subst (λ (v : SendingView). IsSome (next_offered v.offers)) (sym c.self.view_is) c.requires in
     let last = last_of a.me a.ranks
@@ -47,18 +47,14 @@ get-requires c =
     c.in_ok-to.to c.in_ok-to.n c.in_ok-to.was in
     omega (arith, last.within, c.self.invariant.rows)
 
-pub unwrap-departure-requires : goal.unwrap-departure-requires
-unwrap-departure-requires c =
+pub leave-requires-clause-stays : goal.leave-requires-clause-stays
+leave-requires-clause-stays c =
     let a = c.self.inside in
     let there = subst (λ (v : SendingView). IsSome (next_offered v.offers)) (sym c.self.view_is) c.requires in
     let last = last_of a.me a.ranks
     (the_view a) c.self.invariant there c.pop_piece.result c.pop_piece.ensures.last
     c.in_ok-to.to c.in_ok-to.n c.in_ok-to.was in
-    rw (c.get.ensures, last.lead.there) refl
-
-pub set-requires-clause-n : goal.set-requires-clause-n
-set-requires-clause-n c =
-    slice_get_within _ _ c.unwrap-departure.result (sym c.get.ensures ∙ c.unwrap-departure.ensures)
+    ap (λ (o : Option Departure). passes stays o) last.lead.there ∙ ap not last.lead.offer.3
 
 pub overflow_sub-self : goal.overflow_sub-self
 overflow_sub-self c =
@@ -67,14 +63,11 @@ overflow_sub-self c =
     let last = last_of a.me a.ranks
     (the_view a) c.self.invariant there c.pop_piece.result c.pop_piece.ensures.last
     c.in_ok-to.to c.in_ok-to.n c.in_ok-to.was in
-    let rows = rows_now c.set.new.self.rows a.departures.rows c.in_ok-to.to c.in_ok-to.n
-    c.unwrap-departure.result
-    c.left.result last.lead.departure c.set.ensures c.left.ensures
-    (same_departure (sym c.get.ensures ∙ c.unwrap-departure.ensures) last.lead.there) in
+    let rows = c.leave.ensures last.lead.departure last.lead.there in
     omega (
       arith,
       last-counted a.me a.ranks (the_view a) c.self.invariant c.in_ok-to.to c.in_ok-to.n last.first
-          last.lead last.within c.set.new.self.rows (a.staying - 1) last.none rows,
+          last.lead last.within c.leave.new.self.rows (a.staying - 1) last.none rows,
     )
 
 pub invariant_of-self-2 : goal.invariant_of-self-2
@@ -84,21 +77,18 @@ invariant_of-self-2 c =
     let last = last_of a.me a.ranks
     (the_view a) c.self.invariant there c.pop_piece.result c.pop_piece.ensures.last
     c.in_ok-to.to c.in_ok-to.n c.in_ok-to.was in
-    let rows = rows_now c.set.new.self.rows a.departures.rows c.in_ok-to.to c.in_ok-to.n
-    c.unwrap-departure.result
-    c.left.result last.lead.departure c.set.ensures c.left.ensures
-    (same_departure (sym c.get.ensures ∙ c.unwrap-departure.ensures) last.lead.there) in
+    let rows = c.leave.ensures last.lead.departure last.lead.there in
     let more = last-counted a.me a.ranks (the_view a) c.self.invariant c.in_ok-to.to c.in_ok-to.n last.first
-    last.lead last.within c.set.new.self.rows (a.staying - 1) last.none rows in
+    last.lead last.within c.leave.new.self.rows (a.staying - 1) last.none rows in
     let to = message_to a.offers c.front.result c.unwrap-to.result c.in_ok-to.to c.in_ok-to.n
     c.unwrap-to.ensures c.front.ensures.first last.first in
     popped_view (λ (v : SendingView). TablesAgree a.me a.ranks v) (the_view a) c.in_ok-to.to c.in_ok-to.n
-    c.set.new.self.rows (a.staying - 1) c.pop_piece.new.self _
+    c.leave.new.self.rows (a.staying - 1) c.pop_piece.new.self _
     (is_there (λ m. c.pop_piece.new.self ≡ with_popped a.offers m) last.first c.pop_piece.ensures.popped)
     (count_raised a.pushed.items c.unwrap-to.result.0 c.index_mut.result.now c.in_ok-to.to to
     (omega (arith, to, last.within, c.self.invariant.counts)) c.index_mut.ensures.value)
     (last-tables a.me a.ranks (the_view a) c.self.invariant c.in_ok-to.to c.in_ok-to.n last.first last.lead
-    last.within c.set.new.self.rows (a.staying - 1) last.none rows (omega (arith, more)))
+    last.within c.leave.new.self.rows (a.staying - 1) last.none rows (omega (arith, more)))
 
 pub returns-in_err-to : goal.returns-in_err-to
 returns-in_err-to c =
@@ -138,19 +128,16 @@ returns c =
     let last = last_of a.me a.ranks
     (the_view a) c.self.invariant there c.pop_piece.result c.pop_piece.ensures.last
     c.in_ok-to.to c.in_ok-to.n c.in_ok-to.was in
-    let rows = rows_now c.set.new.self.rows a.departures.rows c.in_ok-to.to c.in_ok-to.n
-    c.unwrap-departure.result
-    c.left.result last.lead.departure c.set.ensures c.left.ensures
-    (same_departure (sym c.get.ensures ∙ c.unwrap-departure.ensures) last.lead.there) in
+    let rows = c.leave.ensures last.lead.departure last.lead.there in
     let more = last-counted a.me a.ranks (the_view a) c.self.invariant c.in_ok-to.to c.in_ok-to.n last.first
-    last.lead last.within c.set.new.self.rows (a.staying - 1) last.none rows in
+    last.lead last.within c.leave.new.self.rows (a.staying - 1) last.none rows in
     let to = message_to a.offers c.front.result c.unwrap-to.result c.in_ok-to.to c.in_ok-to.n
     c.unwrap-to.ensures c.front.ensures.first last.first in
     let new = after a.me a.ranks (the_view a) c.self.invariant c.in_ok-to.to c.in_ok-to.n last.first last.lead
-    last.within c.set.new.self.rows (a.staying - 1) in
+    last.within c.leave.new.self.rows (a.staying - 1) in
     let out : Option (ℕ × ℕ) = Some (c.in_ok-to.to, c.in_ok-to.n) in
     popped_view (λ (v : SendingView). PopsNextPiece out c.args.self.now v) (the_view a)
-    c.in_ok-to.to c.in_ok-to.n c.set.new.self.rows (a.staying - 1) c.pop_piece.new.self _
+    c.in_ok-to.to c.in_ok-to.n c.leave.new.self.rows (a.staying - 1) c.pop_piece.new.self _
     (is_there (λ m. c.pop_piece.new.self ≡ with_popped a.offers m) last.first c.pop_piece.ensures.popped)
     (count_raised a.pushed.items c.unwrap-to.result.0 c.index_mut.result.now c.in_ok-to.to to
     (omega (arith, to, last.within, c.self.invariant.counts)) c.index_mut.ensures.value)
@@ -161,7 +148,7 @@ returns c =
       last = sym c.in_ok-to.was ∙ c.pop_piece.ensures.last;
       to = subst (λ (k : ℕ). c.in_ok-to.to < k) (sym c.self.invariant.letters) last.within;
       kept = last-kept a.me a.ranks (the_view a) c.self.invariant c.in_ok-to.to c.in_ok-to.n last.first last.lead
-          last.within c.set.new.self.rows (a.staying - 1) last.none rows;
+          last.within c.leave.new.self.rows (a.staying - 1) last.none rows;
       in_turn = λ h was. turn_next (the_view a) (the_view a) h h (λ t. refl) was.in_turn c.in_ok-to.to
           c.in_ok-to.n last.first;
       counted = omega (arith, more);

@@ -8,6 +8,7 @@ use Rattle.nm_types.specs.declared.messages.How.{How}
 use Rattle.nm_history.specs.Sends.{Sent, is_ask}
 use Rattle.nm_rndv.specs.Offers.{Offering}
 use Rattle.nm_sending.specs.contracts.sendings.Sending.{the_view}
+use Rattle.nm_sending.specs.declared.TheConstants.{MAX_MESSAGES}
 use Rattle.nm_sending.specs.declared.departures.Departure.{Departure}
 use Rattle.nm_sending.specs.Calls.{HasRoomFor, SendsMessage, event_of, sent_as}
 use Rattle.nm_sending.specs.Departures.{SendingView, fresh, row_of}
@@ -17,15 +18,21 @@ use Rattle.nm_sending.proofs.SendLemmas.{send-tables, send-kept}
 use Rattle.nm_sending.proofs.sendings.Sending.send.Goals as goal
 
 -- the table with the new message
-rows_pushed : (old reserved now : List (List Departure)) (to len : ℕ) (how : How) (body : ℕ) (d : Departure)
-    → reserved ≡ old → now ≡ set reserved to (row_of reserved to ++ d ∷ []) → d ≡ fresh how len → len ≡ body
+rows_pushed : (old reserved now : List (List Departure)) (to len : ℕ) (how : How) (body : ℕ)
+    → reserved ≡ old → now ≡ set reserved to (row_of reserved to ++ fresh how len ∷ []) → len ≡ body
     → now ≡ set old to (row_of old to ++ fresh how body ∷ [])
-rows_pushed old reserved now to len how body d same pushed is many =
-    pushed ∙ ap (λ (rows : List (List Departure)). set rows to (row_of rows to ++ d ∷ [])) same
-    ∙ ap (λ (x : Departure). set old to (row_of old to ++ x ∷ [])) (is ∙ ap (λ (k : ℕ). fresh how k) many)
+rows_pushed old reserved now to len how body same pushed many =
+    pushed ∙ ap (λ (rows : List (List Departure)). set rows to (row_of rows to ++ fresh how len ∷ [])) same
+    ∙ ap (λ (k : ℕ). set old to (row_of old to ++ fresh how k ∷ [])) many
 
 fits : (b : Bool) (len : ℕ) → len ≤ cond b MAX_BODY MAX_EAGER → b ≡ true → len ≤ MAX_BODY
 fits b len short is = subst (λ (x : Bool). len ≤ cond x MAX_BODY MAX_EAGER) is short
+
+pub push-requires-clause-few : goal.push-requires-clause-few
+push-requires-clause-few c =
+    let has = subst (λ (v : SendingView). HasRoomFor v c.args.to) (sym c.self.view_is) c.requires.room in
+    subst (λ (rows : List (List Departure)). length (row_of rows c.args.to) < MAX_MESSAGES)
+    (sym c.reserve.ensures.rows) has.few
 
 pub invariant_of-self-2 : goal.invariant_of-self-2
 invariant_of-self-2 c =
@@ -35,8 +42,7 @@ invariant_of-self-2 c =
     let has = subst (λ (v : SendingView). HasRoomFor v c.args.to) (sym c.self.view_is) c.requires.room in
     let rows = rows_pushed a.departures.rows c.reserve.new.self.rows c.push.new.self.rows c.args.to
     c.len-len.result
-    c.args.how (body_len c.args.body) c.new.result c.reserve.ensures.rows c.push.ensures c.new.ensures
-    c.len-len.ensures in
+    c.args.how (body_len c.args.body) c.reserve.ensures.rows c.push.ensures c.len-len.ensures in
     let put = c.in_ok-put_message.ensures.put 0 in
     subst (λ (o : Offering). TablesAgree a.me a.ranks
     (record {
@@ -61,8 +67,7 @@ returns-clause-sent c =
     let has = subst (λ (v : SendingView). HasRoomFor v c.args.to) (sym c.self.view_is) c.requires.room in
     let rows = rows_pushed a.departures.rows c.reserve.new.self.rows c.push.new.self.rows c.args.to
     c.len-len.result
-    c.args.how (body_len c.args.body) c.new.result c.reserve.ensures.rows c.push.ensures c.new.ensures
-    c.len-len.ensures in
+    c.args.how (body_len c.args.body) c.reserve.ensures.rows c.push.ensures c.len-len.ensures in
     let after : Offering → SendingView = λ o. record {
       outbox = c.put_message.new.outbox;
       offers = o;

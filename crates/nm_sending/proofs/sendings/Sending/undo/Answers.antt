@@ -1,13 +1,12 @@
 -- The answer to a recall comes back.
-use Rattle.std.proofs.Common.{◌<◌, Some, length, refl, sym, ◌∙◌, subst, arith}
-use Rattle.std.proofs.lemmas.Option.{slice_get_within}
+use Rattle.std.proofs.Common.{◌<◌, Option, length, refl, sym, ◌∙◌, ap, subst, arith}
 use Rattle.nm_rndv.specs.Offers.{Offering}
 use Rattle.nm_sending.specs.contracts.sendings.Sending.{the_view}
 use Rattle.nm_sending.specs.Calls.{AnswersRecall}
-use Rattle.nm_sending.specs.Departures.{SendingView}
+use Rattle.nm_sending.specs.declared.departures.Departure.{Departure}
+use Rattle.nm_sending.specs.Departures.{SendingView, passes}
 use Rattle.nm_sending.specs.Sent.{MayBeAnswered}
 use Rattle.nm_sending.specs.Tables.{TablesAgree}
-use Rattle.nm_sending.proofs.TableLemmas.{rows_with, same_departure}
 use Rattle.nm_sending.proofs.UndoLemmas.{is_recall_open, is_open, not_cleared, after-undo}
 use Rattle.nm_sending.proofs.UndoLemmas.{undo-tables, undo-kept}
 use Rattle.nm_sending.proofs.sendings.Sending.undo.Goals as goal
@@ -40,22 +39,18 @@ withdrawn-requires-clause-uncleared c =
     (omega (arith, to, c.self.invariant.letters)) c.args.done
     (is_recall_open (the_view a) c.args.to c.args.n c.args.done may)
 
-pub unwrap-departure-requires : goal.unwrap-departure-requires
-unwrap-departure-requires c =
-    let may = subst (λ (v : SendingView). MayBeAnswered v c.args.to c.args.n c.args.done) (sym c.self.view_is)
-    c.requires.may in
-    rw (c.get.ensures, (is_recall_open (the_view c.self.inside) c.args.to c.args.n c.args.done may).there)
-    refl
-
-pub set-requires-clause-to : goal.set-requires-clause-to
-set-requires-clause-to c =
+pub answer-requires-clause-to : goal.answer-requires-clause-to
+answer-requires-clause-to c =
     let to = subst (λ (v : SendingView). c.args.to < length v.outbox.popped)
     (sym c.self.view_is) c.requires.to in
     omega (arith, to, c.self.invariant.letters, c.self.invariant.rows)
 
-pub set-requires-clause-n : goal.set-requires-clause-n
-set-requires-clause-n c =
-    slice_get_within _ _ c.unwrap-departure.result (sym c.get.ensures ∙ c.unwrap-departure.ensures)
+pub answer-requires-clause-recalled : goal.answer-requires-clause-recalled
+answer-requires-clause-recalled c =
+    let may = subst (λ (v : SendingView). MayBeAnswered v c.args.to c.args.n c.args.done) (sym c.self.view_is)
+    c.requires.may in
+    let open' = is_recall_open (the_view c.self.inside) c.args.to c.args.n c.args.done may in
+    ap (λ (o : Option Departure). passes (λ d. d.recalled) o) open'.there ∙ open'.recalled
 
 pub invariant_of-self : goal.invariant_of-self
 invariant_of-self c =
@@ -65,13 +60,11 @@ invariant_of-self c =
     let may = subst (λ (v : SendingView). MayBeAnswered v c.args.to c.args.n c.args.done) (sym c.self.view_is)
     c.requires.may in
     let open' = is_recall_open (the_view a) c.args.to c.args.n c.args.done may in
-    let rows = rows_with (λ x. record x { undone = Some c.args.done }) c.set.new.self.rows a.departures.rows
-    c.args.to c.args.n c.unwrap-departure.result c.answered.result open'.departure c.set.ensures
-    c.answered.ensures (same_departure (sym c.get.ensures ∙ c.unwrap-departure.ensures) open'.there) in
+    let rows = c.answer.ensures open'.departure open'.there in
     subst (λ (o : Offering). TablesAgree a.me a.ranks
-    (record (the_view a) { offers = o; departures = c.set.new.self.rows })) (sym c.withdrawn.ensures)
+    (record (the_view a) { offers = o; departures = c.answer.new.self.rows })) (sym c.withdrawn.ensures)
     (undo-tables a.me a.ranks (the_view a) c.self.invariant c.args.to c.args.n
-    (omega (arith, to, c.self.invariant.letters)) c.args.done open' c.set.new.self.rows rows)
+    (omega (arith, to, c.self.invariant.letters)) c.args.done open' c.answer.new.self.rows rows)
 
 pub returns : goal.returns
 returns c =
@@ -81,18 +74,16 @@ returns c =
     let may = subst (λ (v : SendingView). MayBeAnswered v c.args.to c.args.n c.args.done) (sym c.self.view_is)
     c.requires.may in
     let open' = is_recall_open (the_view a) c.args.to c.args.n c.args.done may in
-    let rows = rows_with (λ x. record x { undone = Some c.args.done }) c.set.new.self.rows a.departures.rows
-    c.args.to c.args.n c.unwrap-departure.result c.answered.result open'.departure c.set.ensures
-    c.answered.ensures (same_departure (sym c.get.ensures ∙ c.unwrap-departure.ensures) open'.there) in
+    let rows = c.answer.ensures open'.departure open'.there in
     let within : c.args.to < a.ranks = omega (arith, to, c.self.invariant.letters) in
     let new = after-undo a.me a.ranks (the_view a) c.self.invariant c.args.to c.args.n within c.args.done open'
-    c.set.new.self.rows rows in
+    c.answer.new.self.rows rows in
     subst (λ (o : Offering). AnswersRecall c.args.to c.args.n c.args.done c.args.self.now
-    (record (the_view a) { offers = o; departures = c.set.new.self.rows })) (sym c.withdrawn.ensures)
+    (record (the_view a) { offers = o; departures = c.answer.new.self.rows })) (sym c.withdrawn.ensures)
     (subst (λ (v : SendingView). AnswersRecall c.args.to c.args.n c.args.done v new) c.self.view_is
     (record {
       kept = undo-kept a.me a.ranks (the_view a) c.self.invariant c.args.to c.args.n within c.args.done open'
-          c.set.new.self.rows rows;
+          c.answer.new.self.rows rows;
       counted = refl;
       answered = refl;
       outbox = refl;

@@ -1,7 +1,7 @@
 -- A row that holds the same, with room.
-use Rattle.std.proofs.Common.{◌+◌, ◌-◌, ◌<◌, ◌≤◌, List, length, sym, subst, Vec, Global, arith}
-use Rattle.std.specs.Vec.{vec_capacity, vec_len}
+use Rattle.std.proofs.Common.{◌<◌, List, length, sym, subst}
 use Rattle.nm_sending.specs.declared.departures.Departure.{Departure}
+use Rattle.nm_sending.specs.Rows.{RowView}
 use Rattle.nm_sending.specs.Departures.{IsMost, TableView}
 use Rattle.nm_sending.proofs.tables.Table.reserve.Goals as goal
 use Rattle.nm_types.proofs.RowLemmas.{row-same, row-new, row_inside}
@@ -9,34 +9,32 @@ use Rattle.nm_types.proofs.RowLemmas.{row-same, row-new, row_inside}
 pub returns-in_err-reserve-clause-rows : goal.returns-in_err-reserve-clause-rows
 returns-in_err-reserve-clause-rows c =
     rw (← c.self.view_is)
-    (row-same (λ (v : Vec Departure Global). v.items) c.self.inside.rows.items c.args.to
+    (row-same (λ (v : RowView). v.items) c.self.inside.rows.items c.args.to
     c.index_mut.result.now c.reserve.new.self c.index_mut.ensures.value c.reserve.ensures.items)
 
 pub returns-clause-rows : goal.returns-clause-rows
 returns-clause-rows c =
     rw (← c.self.view_is)
-    (row-same (λ (v : Vec Departure Global). v.items) c.self.inside.rows.items c.args.to
+    (row-same (λ (v : RowView). v.items) c.self.inside.rows.items c.args.to
     c.index_mut.result.now c.reserve.new.self c.index_mut.ensures.value c.reserve.ensures.items)
 
 pub returns-clause-ok : goal.returns-clause-ok
 returns-clause-ok c =
-    let inside = row_inside (λ (v : Vec Departure Global). v.items) c.self.inside.rows.items c.args.to
+    let inside = row_inside (λ (v : RowView). v.items) c.self.inside.rows.items c.args.to
     (subst (λ (k : TableView). c.args.to < length k.rows) (sym c.self.view_is) c.requires) in
-    let room : vec_len c.reserve.new.self + 1 ≤ vec_capacity c.reserve.new.self =
-    c.in_ok-reserve.ensures.ok in
-    row-new (λ (v : Vec Departure Global). vec_capacity v - vec_len v) c.self.inside.rows.items
-    c.args.to c.reserve.new.self inside (omega arith)
+    row-new (λ (v : RowView). v.room) c.self.inside.rows.items c.args.to c.reserve.new.self inside
+    c.in_ok-reserve.ensures.ok
 
 pub invariant_of-self : goal.invariant_of-self
 invariant_of-self c =
     subst (λ (l : List (List Departure)). IsMost l c.self.inside.most)
-    (sym (row-same (λ (v : Vec Departure Global). v.items) c.self.inside.rows.items c.args.to
+    (sym (row-same (λ (v : RowView). v.items) c.self.inside.rows.items c.args.to
     c.index_mut.result.now c.reserve.new.self c.index_mut.ensures.value c.reserve.ensures.items))
     c.self.invariant
 
 pub invariant_of-self-2 : goal.invariant_of-self-2
 invariant_of-self-2 c =
     subst (λ (l : List (List Departure)). IsMost l c.self.inside.most)
-    (sym (row-same (λ (v : Vec Departure Global). v.items) c.self.inside.rows.items c.args.to
+    (sym (row-same (λ (v : RowView). v.items) c.self.inside.rows.items c.args.to
     c.index_mut.result.now c.reserve.new.self c.index_mut.ensures.value c.reserve.ensures.items))
     c.self.invariant

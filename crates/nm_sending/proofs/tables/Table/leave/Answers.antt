@@ -1,0 +1,25 @@
+-- One message of a row changes.
+use Rattle.std.proofs.Common.{◌<◌, length, sym, subst, true}
+use Rattle.nm_sending.specs.Departures.{TableView}
+use Rattle.nm_sending.specs.Rows.{stays}
+use Rattle.nm_sending.proofs.RowLemmas.{most-changed, passes_at, rows-changed}
+use Rattle.nm_sending.proofs.tables.Table.leave.Goals as goal
+
+pub leave-requires : goal.leave-requires
+leave-requires c =
+    let to = subst (λ (k : TableView). c.args.to < length k.rows) (sym c.self.view_is) c.requires.to in
+    passes_at c.self.inside.rows.items c.args.to c.args.n c.index_mut.result.now c.index_mut.result.now to
+    c.index_mut.ensures.value stays (rw (← c.self.view_is) at c.requires.stays)
+
+pub returns : goal.returns
+returns c =
+    let to = subst (λ (k : TableView). c.args.to < length k.rows) (sym c.self.view_is) c.requires.to in
+    rw (← c.self.view_is) (rows-changed c.self.inside.rows.items c.args.to c.args.n c.index_mut.result.now
+    c.leave.new.self to c.index_mut.ensures.value (λ d. record d { out = true }) c.leave.ensures)
+
+pub invariant_of-self : goal.invariant_of-self
+invariant_of-self c =
+    let to = subst (λ (k : TableView). c.args.to < length k.rows) (sym c.self.view_is) c.requires.to in
+    most-changed c.self.inside.rows.items c.args.to c.args.n c.index_mut.result.now c.leave.new.self to
+    c.index_mut.ensures.value (λ d. record d { out = true }) c.leave.ensures stays c.self.inside.most
+    (rw (← c.self.view_is) at c.requires.stays) c.self.invariant

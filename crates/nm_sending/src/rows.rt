@@ -1,0 +1,212 @@
+//! What became of each message to one rank.
+
+ghost use Rattle.std.specs.Prelude.{◌≡◌, ◌+◌, ◌<◌, ◌≤◌, ◌^◌, [], ◌∷◌, ◌++◌, true, length, not, List, Some};
+ghost use Rattle.std.specs.Prelude.{slice_get, slice_set, option_map, nat_eq, vec_capacity, vec_len, IsSome, OnOk};
+ghost use Rattle.std.specs.Map.{lookup, set_value};
+ghost use Rattle.nm_history.specs.Sends.{is_ask};
+ghost use Rattle.nm_sending.specs.Departures.{fresh, passes};
+ghost use Rattle.nm_sending.specs.declared.departures.Departure.{Departure};
+ghost use Rattle.nm_sending.specs.Rows.{AreTurns, asked_by, gone, stays, unmeasured};
+
+use crate::departures::Departure;
+use indexmap::IndexMap;
+use nm_kept::Kept;
+use nm_types::{How, Memory};
+use std::alloc::Global;
+use std::marker::Model;
+use std::mem;
+
+/// What became of each message to one rank, by number. Memory holds those from the first on that has not left,
+/// each that was recalled, and at which numbers the way of sending turned.
+pub(crate) struct Row {
+    // without their recalls
+    sent: Kept<Departure>,
+    // the answer of each recall that came back
+    recalls: IndexMap<u64, Option<bool>>,
+    // each number whose message was sent another way than the one before it; the first, if it was asked for
+    turns: Vec<u64>,
+    // whether the last message was sent by asking
+    asks: bool,
+}
+
+impl Drop for Row {
+    fn drop(self) {
+        let Row {
+            sent: _,
+            recalls: _,
+            turns: _,
+            asks: _,
+        } = self;
+    }
+}
+
+impl Model for Row {
+    ghost use Rattle.std.specs.Prelude.{◌-◌, length, min, vec_capacity, vec_len};
+    ghost use Rattle.indexmap.specs.IndexMap.{spare as room_in};
+    ghost use Rattle.nm_sending.specs.Rows.{RowKeeps, RowView, all_recalled};
+
+    ghost Value = { RowView };
+
+    ghost view = { λ a. record {
+      items = all_recalled a.recalls.entries 0 a.sent.items;
+      room = min (a.sent.places - length a.sent.items) (vec_capacity a.turns - vec_len a.turns);
+      spare = room_in a.recalls;
+    } };
+
+    ghost invariant = { λ a. RowKeeps a.sent a.recalls.entries a.turns.items a.asks };
+}
+
+/// Whether message `n` was sent by asking, by the turns.
+fn is_asked_by(turns: &[u64], n: u64) -> bool
+    ensures { result ≡ asked_by turns.now n }
+{
+    let mut asked = false;
+    for turn in turns {
+        if *turn <= n {
+            asked = !asked;
+        }
+    }
+    asked
+}
+
+/// Notes which way the next message is sent, which has this number.
+fn note_way(turns: &mut Vec<u64>, asks: &mut bool, n: u64, is_asked: bool)
+    requires room { vec_len turns.old < vec_capacity turns.old }
+    ensures { (ds : List Departure) (d : Departure) → length ds ≡ n → is_ask d.how ≡ is_asked →
+        AreTurns turns.old.items asks.old ds → AreTurns turns.new.items asks.new (ds ++ d ∷ []) }
+{
+    if is_asked == *asks {
+        return;
+    }
+    turns.push_reserved(n);
+    *asks = is_asked;
+}
+
+/// Lets go the messages at the front that have left.
+#[inline(always)]
+fn let_go(sent: &mut Kept<Departure>)
+    requires { sent.old.forgotten ≤ gone sent.old.items }
+    ensures same { sent.new.items ≡ sent.old.items }
+    ensures first { sent.new.forgotten ≡ gone sent.old.items }
+{
+    for _gone in 0..sent.held() {
+        match sent.first() {
+            Some(departure) if departure.out => {}
+            _ => return,
+        }
+        sent.forget_first();
+    }
+}
+
+/// Sets the answer of a recall.
+fn set_answer(recalls: &mut IndexMap<u64, Option<bool>>, n: u64, answer: Option<bool>)
+    requires { IsSome (lookup (nat_eq n) recalls.old.entries) }
+    ensures { recalls.new.entries ≡ set_value (nat_eq n) recalls.old.entries answer }
+{
+    let _before = mem::replace(recalls.get_mut(&n).unwrap(), answer);
+}
+
+impl Row {
+    /// No messages.
+    pub(crate) fn new(alloc: Global) -> Row
+        ensures { result.items ≡ [] }
+    {
+        Row {
+            sent: Kept::new(alloc),
+            recalls: IndexMap::new(alloc),
+            turns: Vec::new(alloc),
+            asks: false,
+        }
+    }
+
+    /// How many messages there are.
+    pub(crate) fn count(&self) -> u64
+        ensures { result ≡ length self.now.items }
+    {
+        self.sent.len()
+    }
+
+    /// How many messages are in memory: those from the first on that has not left.
+    pub(crate) fn held(&self) -> usize
+        ensures { gone self.now.items + result ≡ length self.now.items }
+    {
+        self.sent.held()
+    }
+
+    /// Makes room for one message more.
+    pub(crate) fn reserve(&mut self) -> Result<(), Memory>
+        ensures items { self.new.items ≡ self.old.items }
+        ensures ok { OnOk result (0 < self.new.room) }
+    {
+        self.sent.reserve(1)?;
+        self.turns.reserve(1)?;
+        Ok(())
+    }
+
+    /// Makes room for one recall more.
+    pub(crate) fn reserve_recall(&mut self) -> Result<(), Memory>
+        ensures items { self.new.items ≡ self.old.items }
+        ensures ok { OnOk result (0 < self.new.spare) }
+    {
+        self.recalls.reserve(1)?;
+        Ok(())
+    }
+
+    /// Adds the next message. There is room for it.
+    pub(crate) fn push(&mut self, how: How, len: u32)
+        requires room { 0 < self.old.room }
+        requires few { length self.old.items + 1 < 2 ^ 64 }
+        ensures { self.new.items ≡ self.old.items ++ fresh how len ∷ [] }
+    {
+        let departure = Departure::new(how, len);
+        let n = self.sent.len();
+        note_way(&mut self.turns, &mut self.asks, n, departure.is_asked());
+        self.sent.push_reserved(departure);
+    }
+
+    /// What became of message `n`, if it was sent. Where it was let go its length is not known.
+    pub(crate) fn get(&self, n: u64) -> Option<Departure>
+        ensures { option_map unmeasured result ≡ option_map unmeasured (slice_get self.now.items n) }
+    {
+        if n >= self.sent.len() {
+            return None;
+        }
+        let recall = self.recalls.get(&n).copied();
+        Some(match self.sent.get(n) {
+            Some(departure) => departure.with_recalled(recall),
+            None => Departure::gone(is_asked_by(&self.turns, n)).with_recalled(recall),
+        })
+    }
+
+    /// A message has left.
+    pub(crate) fn leave(&mut self, n: u64)
+        requires { passes stays (slice_get self.old.items n) ≡ true }
+        ensures { (d : Departure) → slice_get self.old.items n ≡ Some d →
+            self.new.items ≡ slice_set self.old.items n (record d { out = true }) }
+    {
+        let departure = *self.sent.get(n).unwrap();
+        self.sent.set(n, departure.left());
+        let_go(&mut self.sent);
+    }
+
+    /// The receiver of a message was asked to withdraw it. There is room for that.
+    pub(crate) fn recall(&mut self, n: u64)
+        requires room { 0 < self.old.spare }
+        requires is_new { passes (λ d. not d.recalled) (slice_get self.old.items n) ≡ true }
+        ensures { (d : Departure) → slice_get self.old.items n ≡ Some d →
+            self.new.items ≡ slice_set self.old.items n (record d { recalled = true }) }
+    {
+        let Ok(_before) = self.recalls.insert(n, None) else {
+            unreachable!()
+        };
+    }
+
+    /// The answer to a message's recall came back.
+    pub(crate) fn answer(&mut self, n: u64, done: bool)
+        requires { passes (λ d. d.recalled) (slice_get self.old.items n) ≡ true }
+        ensures { (d : Departure) → slice_get self.old.items n ≡ Some d →
+            self.new.items ≡ slice_set self.old.items n (record d { undone = Some done }) }
+    {
+        set_answer(&mut self.recalls, n, Some(done));
+    }
+}
