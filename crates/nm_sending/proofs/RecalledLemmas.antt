@@ -12,7 +12,7 @@ use Rattle.nm_kept.proofs.EntryLemmas.{insert_new, lookup-more}
 use Rattle.nm_types.proofs.NumberLemmas.{eq_false, eq_less, eq_true, same_number}
 use Rattle.nm_sending.specs.declared.departures.Departure.{Departure}
 use Rattle.nm_sending.specs.Departures.{passes}
-use Rattle.nm_sending.specs.Rows.{all_recalled, gone, stays, with_recalled}
+use Rattle.nm_sending.specs.Rows.{all_recalled, gone, with_recalled}
 
 module _ (recalls : List (ℕ × Option Bool)) where
   pub length-all : (n : ℕ) (ds : List Departure) → length (all_recalled recalls n ds) ≡ length ds

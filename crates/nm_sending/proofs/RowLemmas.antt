@@ -1,5 +1,5 @@
 -- A list of rows, seen by what each holds.
-use Rattle.std.proofs.Common.{◌≡◌, ℕ, ◌<◌, Option, Some, true, Bool, List, [], length, map, get_or}
+use Rattle.std.proofs.Common.{◌≡◌, ℕ, ◌<◌, Some, true, Bool, List, [], length, map, get_or}
 use Rattle.std.proofs.Common.{sym, subst, ◌∙◌, ap}
 use Rattle.std.specs.List.{slice_get}
 use Rattle.std.proofs.Math.ListN.{set}

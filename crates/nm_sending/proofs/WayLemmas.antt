@@ -1,6 +1,6 @@
 -- Which messages were sent by asking, by the turns from one way of sending to the other.
-use Rattle.std.proofs.Common.{◌≡◌, ℕ, zero, suc, ◌+◌, ◌<◌, ◌≤◌, ◌==◌, Bool, true, false, not, cond, List, [], ◌∷◌}
-use Rattle.std.proofs.Common.{◌++◌, length, Option, Some, refl, sym, ap, subst, ◌∙◌, arith, sum_by, count_by, length-append}
+use Rattle.std.proofs.Common.{◌≡◌, ℕ, suc, ◌+◌, ◌<◌, ◌≤◌, ◌==◌, Bool, true, false, not, cond, List, [], ◌∷◌}
+use Rattle.std.proofs.Common.{◌++◌, length, Option, Some, refl, sym, ap, subst, ◌∙◌, arith, count_by, length-append}
 use Rattle.std.proofs.Common.{true≢false}
 use Rattle.std.proofs.Math.Bool.{beq}
 use Rattle.std.specs.Prelude.{nat_le}
@@ -115,7 +115,6 @@ module _ (turns : List ℕ) (asks : Bool) (ds : List Departure) (are : AreTurns 
         (λ n lt. asked_push turns (length ds) n
         ∙ ap (λ b. cond b (not (asked_by turns n)) (asked_by turns n)) (le_false (length ds) n lt));
   }
-
 
 -- a message changes, but not its way
 pub turns-set : (turns : List ℕ) (asks : Bool) (ds : List Departure) → AreTurns turns asks ds → (n : ℕ)

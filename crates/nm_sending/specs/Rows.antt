@@ -1,6 +1,6 @@
 -- What memory holds of the messages to one rank. Each keeps whether it was sent by asking and what became of
 -- it, for tests and results of its send (MPI 3.1, 3.7.3) and for a recall of it (3.8.4).
-use Rattle.std.specs.Prelude.{◌≡◌, ℕ, zero, suc, ◌+◌, ◌<◌, ◌^◌, Bool, true, false, not, Option, Some, None}
+use Rattle.std.specs.Prelude.{◌≡◌, ℕ, zero, suc, ◌+◌, ◌<◌, ◌^◌, Bool, true, false, not, Option}
 use Rattle.std.specs.Prelude.{List, [], ◌∷◌, length, count_by, is_some, nat_eq, nat_le, option_and_then}
 use Rattle.std.specs.List.{AllByRecursion, prefix_len, slice_get}
 use Rattle.std.specs.Map.{lookup}

@@ -98,6 +98,17 @@ fn let_go(sent: &mut Kept<Departure>)
     }
 }
 
+/// The recall of message `n`, if there is one. Where there are none it is not looked up.
+#[inline(always)]
+fn recall_of(recalls: &IndexMap<u64, Option<bool>>, n: u64) -> Option<Option<bool>>
+    ensures { result ≡ lookup (nat_eq n) recalls.now.entries }
+{
+    if recalls.is_empty() {
+        return None;
+    }
+    recalls.get(&n).copied()
+}
+
 /// Sets the answer of a recall.
 fn set_answer(recalls: &mut IndexMap<u64, Option<bool>>, n: u64, answer: Option<bool>)
     requires { IsSome (lookup (nat_eq n) recalls.old.entries) }
@@ -171,7 +182,7 @@ impl Row {
         if n >= self.sent.len() {
             return None;
         }
-        let recall = self.recalls.get(&n).copied();
+        let recall = recall_of(&self.recalls, n);
         Some(match self.sent.get(n) {
             Some(departure) => departure.with_recalled(recall),
             None => Departure::gone(is_asked_by(&self.turns, n)).with_recalled(recall),

@@ -1,7 +1,5 @@
-use Rattle.std.proofs.Common.{◌≡◌, ◌+◌, ◌<◌, ◌≤◌, ◌∙◌, None, Some, Option, ap, length, sym, arith}
-use Rattle.std.specs.List.{slice_get}
+use Rattle.std.proofs.Common.{◌∙◌, ap, sym, arith}
 use Rattle.std.specs.Option.{option_copied}
-use Rattle.nm_sending.specs.Rows.{gone}
 use Rattle.nm_sending.proofs.GoneLemmas.{gone-few, goes-on, none-there, stays-behind}
 use Rattle.nm_sending.proofs.rows.let_go.Goals as goal
 

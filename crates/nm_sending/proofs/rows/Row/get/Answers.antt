@@ -1,6 +1,6 @@
-use Rattle.std.proofs.Common.{◌≡◌, ◌<◌, ◌≤◌, ◌∙◌, ap, arith, length, List, ℕ, nat_eq, None, Option, Some, Bool, sym, true≢false}
+use Rattle.std.proofs.Common.{◌≡◌, ◌<◌, ◌≤◌, ◌∙◌, ap, arith, length, List, ℕ, nat_eq, Option, Some, Bool, sym, true≢false}
 use Rattle.std.specs.Map.{lookup}
-use Rattle.std.specs.Option.{option_copied, option_map}
+use Rattle.std.specs.Option.{option_map}
 use Rattle.std.proofs.lemmas.Option.{slice_get_past}
 use Rattle.nm_history.specs.Sends.{is_ask}
 use Rattle.nm_sending.specs.declared.departures.Departure.{Departure}
@@ -22,11 +22,9 @@ pub returns-in-Some : goal.returns-in-Some
 returns-in-Some c =
     let a = c.self.inside in
     let b = c.in-Some.departure.now in
-    let recall : c.copied-recall.result ≡ lookup (nat_eq c.args.n) a.recalls.entries =
-    c.copied-recall.ensures ∙ c.get.ensures.value in
     rw (← c.self.view_is)
     (ap (λ (x : Departure). Some (unmeasured x)) c.with_recalled.ensures
-    ∙ ap (λ (r : Option (Option Bool)). Some (unmeasured (with_recalled b r))) recall
+    ∙ ap (λ (r : Option (Option Bool)). Some (unmeasured (with_recalled b r))) c.recall_of-recall.ensures
     ∙ sym (ap (option_map unmeasured)
     (get-at a.recalls.entries a.sent.items c.args.n b c.in-Some.ensures.item)))
 
@@ -38,8 +36,6 @@ returns-in-None c =
     let behind : a.sent.forgotten ≤ c.args.n → ⊥ = λ h. true≢false (sym (c.in-None.ensures.held.1
     (record { behind = h; within = within }))) in
     let low : c.args.n < gone a.sent.items = omega (arith, c.self.invariant.first, behind) in
-    let recall : c.copied-recall.result ≡ lookup (nat_eq c.args.n) a.recalls.entries =
-    c.copied-recall.ensures ∙ c.get.ensures.value in
     let way : is_ask c.gone.result.how ≡ is_ask (at.0).how =
     c.gone.ensures.way ∙ c.is_asked_by.ensures
     ∙ ap (λ (turns : List ℕ). asked_by turns c.args.n) c.deref.ensures.value
@@ -47,7 +43,7 @@ returns-in-None c =
     ∙ ap (λ (o : Option Departure). passes (λ d. is_ask d.how) o) at.1 in
     rw (← c.self.view_is)
     (ap (λ (x : Departure). Some (unmeasured x)) c.with_recalled-in-None.ensures
-    ∙ ap (λ (r : Option (Option Bool)). Some (unmeasured (with_recalled c.gone.result r))) recall
+    ∙ ap (λ (r : Option (Option Bool)). Some (unmeasured (with_recalled c.gone.result r))) c.recall_of-recall.ensures
     ∙ ap (λ (x : Departure). Some x)
     (gone-told a.sent.items c.args.n at.0 c.gone.result at.1 low c.gone.ensures.gone way
     (lookup (nat_eq c.args.n) a.recalls.entries))

@@ -1,11 +1,11 @@
 use Rattle.std.specs.Prelude.{IfSome}
-use Rattle.std.proofs.Common.{◌≡◌, ◌+◌, ◌<◌, ◌≤◌, ◌^◌, ◌∙◌, ℕ, List, Some, Option, ap, length, sym, subst, true, arith, refl}
+use Rattle.std.proofs.Common.{◌≡◌, ◌<◌, ◌≤◌, ◌^◌, ◌∙◌, ℕ, List, Some, Option, ap, length, sym, subst, true, arith, refl}
 use Rattle.std.specs.List.{slice_get}
 use Rattle.std.proofs.Math.ListN.{set}
 use Rattle.std.proofs.lemmas.List.{length-set}
 use Rattle.nm_kept.specs.Keeping.{Keeping}
 use Rattle.nm_sending.specs.declared.departures.Departure.{Departure}
-use Rattle.nm_sending.specs.Rows.{AreTurns, all_recalled, gone, stays}
+use Rattle.nm_sending.specs.Rows.{AreTurns, all_recalled, gone}
 use Rattle.nm_sending.proofs.GoneLemmas.{gone-set, stays-held}
 use Rattle.nm_sending.proofs.RecalledLemmas.{leave-all}
 use Rattle.nm_sending.proofs.WayLemmas.{turns-set}

@@ -1,6 +1,5 @@
-use Rattle.std.proofs.Common.{◌≡◌, ◌+◌, ◌<◌, ◌^◌, ◌++◌, ◌∷◌, [], ◌∙◌, ap, arith, length, length-append, List, nat_eq}
+use Rattle.std.proofs.Common.{◌≡◌, ◌+◌, ◌<◌, ◌^◌, ◌++◌, ◌∷◌, [], ◌∙◌, ap, arith, length, length-append}
 use Rattle.std.proofs.Common.{None, Option, Bool, subst, sym}
-use Rattle.std.specs.Map.{lookup}
 use Rattle.nm_kept.specs.Keeping.{Keeping}
 use Rattle.nm_sending.specs.declared.departures.Departure.{Departure}
 use Rattle.nm_sending.specs.Rows.{RowKeeps, RowView, all_recalled, with_recalled}

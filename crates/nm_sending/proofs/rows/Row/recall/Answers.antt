@@ -1,7 +1,5 @@
-use Rattle.std.proofs.Common.{◌≡◌, List, None, Option, Bool, ◌∙◌, ap, nat_eq, cond, Some, refl, true, not, ℕ}
-use Rattle.std.specs.List.{slice_get}
+use Rattle.std.proofs.Common.{◌≡◌, None, ◌∙◌, ap, nat_eq, cond, Some, refl, not, ℕ}
 use Rattle.std.specs.Map.{lookup}
-use Rattle.nm_sending.specs.Departures.{passes}
 use Rattle.nm_sending.proofs.RecalledLemmas.{known-more, passing, recalled-all, step-new, unrecalled-at, within-all}
 use Rattle.nm_sending.proofs.rows.Row.recall.Goals as goal
 

@@ -1,6 +1,6 @@
 -- By what became of the message.
 use Rattle.std.specs.Prelude.{option_and_then, option_map}
-use Rattle.std.proofs.Common.{◌≡◌, Some, sym, ◌∙◌, ap, subst, Option}
+use Rattle.std.proofs.Common.{◌≡◌, sym, ◌∙◌, ap, subst, Option}
 use Rattle.nm_sending.specs.declared.departures.Departure.{Departure}
 use Rattle.nm_sending.specs.Departures.{SendingView, departure_of, ending_of}
 use Rattle.nm_sending.specs.Rows.{unmeasured}

@@ -1,5 +1,5 @@
 -- By what became of the message.
-use Rattle.std.proofs.Common.{◌≡◌, Some, sym, ◌∙◌, ap, refl, subst, Option}
+use Rattle.std.proofs.Common.{◌≡◌, sym, ◌∙◌, ap, refl, subst, Option}
 use Rattle.std.specs.Prelude.{option_map}
 use Rattle.nm_sending.specs.declared.departures.Departure.{Departure}
 use Rattle.nm_sending.specs.Departures.{SendingView, departure_of, passes, is_over}

@@ -1,5 +1,5 @@
 -- One message of a row changes.
-use Rattle.std.proofs.Common.{◌<◌, Some, length, sym, subst, true}
+use Rattle.std.proofs.Common.{◌<◌, Some, length, sym, subst}
 use Rattle.nm_sending.specs.Departures.{TableView}
 use Rattle.nm_sending.proofs.RowLemmas.{most-changed, passes_at, rows-changed}
 use Rattle.nm_sending.proofs.tables.Table.answer.Goals as goal
