@@ -20,5 +20,6 @@ pub invariant_of-self : goal.invariant_of-self
 invariant_of-self c =
     let to = subst (λ (k : TableView). c.args.to < length k.rows) (sym c.self.view_is) c.requires.to in
     most-changed c.self.inside.rows.items c.args.to c.args.n c.index_mut.result.now c.answer.new.self to
-    c.index_mut.ensures.value (λ d. record d { undone = Some c.args.done }) c.answer.ensures (λ d. d.recalled) c.self.inside.most
+    c.index_mut.ensures.value (λ d. record d { undone = Some c.args.done }) c.answer.ensures (λ d. d.recalled)
+    c.self.inside.most
     (rw (← c.self.view_is) at c.requires.recalled) c.self.invariant

@@ -20,5 +20,6 @@ pub invariant_of-self : goal.invariant_of-self
 invariant_of-self c =
     let to = subst (λ (k : TableView). c.args.to < length k.rows) (sym c.self.view_is) c.requires.to in
     most-changed c.self.inside.rows.items c.args.to c.args.n c.index_mut.result.now c.recall.new.self to
-    c.index_mut.ensures.value (λ d. record d { recalled = true }) c.recall.ensures (λ d. not d.recalled) c.self.inside.most
+    c.index_mut.ensures.value (λ d. record d { recalled = true }) c.recall.ensures (λ d. not d.recalled)
+    c.self.inside.most
     (rw (← c.self.view_is) at c.requires.is_new) c.self.invariant
