@@ -21,6 +21,7 @@ ghost use Rattle.nm_process.specs.Starts.{IsPending, StandsStill, answer_for as 
 
 use crate::{Handle, Process, Step};
 use indexmap::IndexMap;
+use nm_rank::journal::Recorder;
 use nm_rank::{CancelFault, Cancelled, FinishFault, Rank, Req};
 use nm_types::{Answer, Arrival, Body, Memory, Peer, Seen, TagPick};
 
@@ -54,8 +55,8 @@ fn message_of_handle(handles: &IndexMap<u16, Handle>, m: u16) -> Option<Handle>
 }
 
 /// Starts a send of an equal body.
-fn send_copy(
-    rank: &mut Rank,
+fn send_copy<H: Recorder>(
+    rank: &mut Rank<H>,
     to: u8,
     tag: u16,
     ctx: u8,
@@ -75,7 +76,7 @@ fn send_copy(
     rank.isend(to, tag, ctx, body, sync, line)
 }
 
-impl Process {
+impl<H: Recorder> Process<H> {
     // Starts a send, if its name is free.
     pub(crate) fn send(
         &mut self,

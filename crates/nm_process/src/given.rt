@@ -4,15 +4,12 @@ ghost use Rattle.std.specs.Prelude.{◌≡◌, ◌+◌, ◌<◌, ◌++◌, ◌�
 ghost use Rattle.std.specs.Option.{option_or};
 ghost use Rattle.std.specs.Prelude.{IfSome, IsSome, MatchOption, OnOk, option_map, option_to_list, slice_get};
 ghost use Rattle.nm_types.specs.Limits.{is_in_range};
-ghost use Rattle.nm_process.specs.LastAnswer.{last_answer as last_answer_lem};
 ghost use Rattle.nm_process.specs.Playing.{AllInRange, HasPlayed, IsCounted, NeverRuns, gives_on, shown_by};
 
 use crate::programs::Program;
 use crate::ranges::in_range;
 use crate::sources::Source;
 use nm_ghost::Trace;
-use nm_history::{Event, Happened};
-use nm_rank::Rank;
 use nm_types::{Answer, Command, Memory};
 use std::marker::Model;
 
@@ -88,21 +85,6 @@ pub struct Played<P> {
     pub next: Option<Command>,
     /// A command that never ran, since it is out of range or there was no line for it.
     pub stray: Option<Command>,
-}
-
-// The answer of the last event, if that is an answer.
-fn last_answer(rank: &Rank) -> Option<&Answer>
-    ensures { option_map (λ a. a.now) result ≡ last_answer_lem rank.now.events }
-{
-    match rank.history().as_slice().last() {
-        Some(
-            Event {
-                stamp: _,
-                what: Happened::Ran { line: _, answer },
-            },
-        ) => Some(answer),
-        _ => None,
-    }
 }
 
 // Whether a command may run after so many.
@@ -223,10 +205,7 @@ impl<P: Program> Source for Given<P> {
         Some((self.at + 2, command))
     }
 
-    fn pass(&mut self, rank: &Rank) -> Result<(), Memory> {
-        let Some(answer) = last_answer(rank) else {
-            unreachable!()
-        };
+    fn pass(&mut self, answer: &Answer) -> Result<(), Memory> {
         let told = self.told.then(answer);
         let command = match self.program.next(Some(answer)) {
             Ok(command) => command,

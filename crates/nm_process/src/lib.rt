@@ -3,7 +3,8 @@
 //! A `Process` has the core of its rank (`nm_rank`), the names of its requests, and the handles of its
 //! claimed messages. It runs a command when it is told to, and passes the packets and pieces of other
 //! ranks to its rank; whoever runs it carries these between ranks. MPI 3.1, sections 3.2 and 3.4 (sends
-//! and receives), 3.7 (requests) and 3.8 (probes and cancels).
+//! and receives), 3.7 (requests) and 3.8 (probes and cancels). What records its history is a parameter
+//! (`nm_rank::journal::Recorder`), a `History` where none is named.
 //!
 //! A `Source` gives a rank its commands, one after another: a `Scripted` those of a rank of a script, a `Given`
 //! those of a `Program`, which is told each answer.

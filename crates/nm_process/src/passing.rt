@@ -1,32 +1,49 @@
 //! The calls that pass to the rank.
 
-ghost use Rattle.std.specs.Prelude.{◌≡◌, ◌<◌, ℕ, List, length, IsSome, OnErr, OnOk};
+ghost use Rattle.std.specs.Prelude.{◌≡◌, ◌<◌, ℕ, List, length, IsSome, OnErr, OnOk, option_map};
 ghost use Rattle.nm_types.specs.Commands.{Numbered};
 ghost use Rattle.nm_types.specs.Sizes.{Sizes};
 ghost use Rattle.nm_rndv.specs.Offers.{next_offered};
 ghost use Rattle.nm_rank.specs.Calls.{TakesPacket, TakesPiece};
 ghost use Rattle.nm_rank.specs.Pops.{PopsPacket, PopsPiece};
 ghost use Rattle.nm_rank.specs.Ranks.{IsFresh, count_of};
+ghost use Rattle.nm_process.specs.LastAnswer.{last_answer as last_answer_lem};
 ghost use Rattle.nm_process.specs.Starts.{KeepsAllBut};
 ghost use Rattle.nm_process.specs.Work.{IsWorking};
 
 use crate::Process;
-use nm_history::History;
+use nm_history::{Event, Happened};
 use nm_rank::Rank;
-use nm_types::{Memory, Packet, Piece};
+use nm_rank::journal::Recorder;
+use nm_types::{Answer, Memory, Packet, Piece};
 
-impl Process {
+impl<H: Recorder> Process<H> {
     /// Its rank, which tells whether it can go on, what happened, and what is to be sent, pushed and
     /// pulled.
-    pub fn rank(&self) -> &Rank
+    pub fn rank(&self) -> &Rank<H>
         ensures { result.now ≡ self.now.rank }
     {
         &self.rank
     }
 
+    /// The answer of the last event, if that is an answer.
+    pub fn last_answer(&self) -> Option<&Answer>
+        ensures { option_map (λ a. a.now) result ≡ last_answer_lem self.now.rank.events }
+    {
+        match self.rank.history().last() {
+            Some(
+                Event {
+                    stamp: _,
+                    what: Happened::Ran { line: _, answer },
+                },
+            ) => Some(answer),
+            _ => None,
+        }
+    }
+
     /// What happened, oldest first, when the process is used no more.
-    pub fn into_history(self) -> History
-        ensures events { result.events ≡ self.rank.events }
+    pub fn into_history(self) -> H
+        ensures events { H.events result ≡ self.rank.events }
     {
         let (history, _) = self.into_parts();
         history

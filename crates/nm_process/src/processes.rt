@@ -19,15 +19,16 @@ use crate::names::RequestNames;
 use crate::{Handle, Step};
 use indexmap::IndexMap;
 use nm_history::History;
+use nm_rank::journal::Recorder;
 use nm_rank::{NoSuch, Rank, State};
 use nm_types::{Command, Memory, Shape};
 use std::alloc::Global;
 use std::marker::Model;
 
-/// A process of a run.
-pub struct Process {
+/// A process of a run. What records its history is a parameter of it.
+pub struct Process<H: Recorder = History> {
     pub(crate) me: u8,
-    pub(crate) rank: Rank,
+    pub(crate) rank: Rank<H>,
     // by name, also of requests that have ended
     pub(crate) requests: RequestNames,
     // by name of a handle
@@ -36,7 +37,7 @@ pub struct Process {
     at: u64,
 }
 
-impl Drop for Process {
+impl<H: Recorder> Drop for Process<H> {
     fn drop(self) {
         let Process {
             me: _,
@@ -71,7 +72,7 @@ impl Model for Leavings {
     ghost view = { λ left. tt };
 }
 
-impl Model for Process {
+impl<H: Recorder> Model for Process<H> {
     ghost use Rattle.std.specs.Prelude.{◌≡◌};
     ghost use Rattle.nm_process.specs.Names.{AreHeld, AreGiven};
     ghost use Rattle.nm_process.specs.Processes.{ProcessView};
@@ -92,10 +93,10 @@ impl Model for Process {
         × (p.me ≡ p.rank.me) };
 }
 
-impl Process {
+impl<H: Recorder> Process<H> {
     /// What happened, oldest first, and what the process kept beside it, when it is used no more.
-    pub fn into_parts(self) -> (History, Leavings)
-        ensures events { result.0.events ≡ self.rank.events }
+    pub fn into_parts(self) -> (H, Leavings)
+        ensures events { H.events result.0 ≡ self.rank.events }
     {
         let Process {
             me: _,
@@ -115,7 +116,7 @@ impl Process {
 
     /// A process of which no command ran, in a run of these sizes. It has room for as many names and
     /// requests as if every other of so many commands started one, and for three events of each command.
-    pub fn new(alloc: Global, shape: Shape, me: u8, commands: usize) -> Result<Process, Memory>
+    pub fn new(alloc: Global, shape: Shape, me: u8, commands: usize) -> Result<Self, Memory>
         requires rank { me < shape.ranks }
         ensures new { IfOk result (λ p. IsNew shape me p.rank) }
         ensures at { IfOk result (λ p. p.at ≡ 0) }

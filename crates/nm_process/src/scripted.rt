@@ -1,13 +1,12 @@
 //! The commands of a rank of a script, one after another.
 
 ghost use Rattle.std.specs.Prelude.{◌≡◌, ◌+◌, ◌<◌, ◌++◌, ℕ, None, true, List};
-ghost use Rattle.std.specs.Prelude.{IfSome, IsSome, MatchOption, OnOk, option_map, option_to_list, slice_get};
+ghost use Rattle.std.specs.Prelude.{[], ◌∷◌, IfSome, IsSome, MatchOption, OnOk, option_map, slice_get};
 ghost use Rattle.nm_process.specs.Lines.{AreLines};
 ghost use Rattle.nm_process.specs.Places.{ArePlaces, gives_lines, place_at as place_at_lem, shown};
 
 use crate::sources::Source;
-use nm_rank::Rank;
-use nm_types::{Command, Line, Memory};
+use nm_types::{Answer, Command, Line, Memory};
 use std::marker::Model;
 
 /// Where the commands of a rank stand in a script, and which of them is next.
@@ -97,7 +96,7 @@ impl<'a> Source for Scripted<'a> {
         Some((self.next as u64 + 2, &line.command))
     }
 
-    fn pass(&mut self, _rank: &Rank) -> Result<(), Memory> {
+    fn pass(&mut self, _answer: &Answer) -> Result<(), Memory> {
         self.at += 1;
         self.next = place_at(&self.own, self.lines, self.at);
         Ok(())

@@ -1,15 +1,13 @@
 //! What gives a rank its commands.
 
 ghost use Rattle.std.specs.Prelude.{◌≡◌, ◌+◌, ◌<◌, ◌++◌, ℕ, None, true, List};
-ghost use Rattle.std.specs.Prelude.{IfSome, IsSome, MatchOption, OnOk, option_map, option_to_list, slice_get};
+ghost use Rattle.std.specs.Prelude.{[], ◌∷◌, IfSome, IsSome, MatchOption, OnOk, option_map, slice_get};
 ghost use Rattle.nm_types.specs.Commands.{Numbered};
 ghost use Rattle.nm_types.specs.Limits.{is_in_range};
-ghost use Rattle.nm_process.specs.LastAnswer.{last_answer};
 ghost use Rattle.nm_process.specs.Sources.{GivesSome, PassedOn, SourceView};
 ghost use Rattle.nm_process.specs.Work.{IsNext};
 
-use nm_rank::Rank;
-use nm_types::{Command, Memory};
+use nm_types::{Answer, Command, Memory};
 
 /// What gives a rank its commands, one after another, each with a line of its own. The lines rise.
 pub trait Source: Drop {
@@ -34,11 +32,9 @@ pub trait Source: Drop {
             MatchOption result (slice_get commands (shows self.now).at ≡ None)
             (λ c. IsNext commands (shows self.now).at (last + 1) c.0 c.1.now) };
 
-    /// Goes on to the command after the next one, which this rank ran. Its answer is the last event of the
-    /// rank.
-    fn pass(&mut self, rank: &Rank) -> Result<(), Memory>
+    /// Goes on to the command after the next one, which ran and was answered so.
+    fn pass(&mut self, answer: &Answer) -> Result<(), Memory>
         requires next { IsSome (shows self.old).next }
-        requires answered { IsSome (last_answer rank.now.events) }
         ensures counted { OnOk result (((shows self.new).at ≡ (shows self.old).at + 1)
             × ((shows self.new).ranks ≡ (shows self.old).ranks)) }
         ensures some { OnOk result (GivesSome (gives self.new)) }
@@ -47,6 +43,6 @@ pub trait Source: Drop {
             PassedOn (gives self.old) commands (shows self.old).at last) }
         ensures begun { OnOk result ((shows self.new).begun ≡ (shows self.old).begun) }
         ensures told { OnOk result ((shows self.new).told
-            ≡ option_map (λ answers. answers ++ option_to_list (last_answer rank.now.events))
+            ≡ option_map (λ answers. answers ++ answer.now ∷ [])
             (shows self.old).told) };
 }

@@ -123,15 +123,15 @@ one_more_given h (x ∷ more) line one some =
     ∙ ap (λ (o : Option Answer). option_to_list o) (sym last))
 
 -- a source that was told one more
-pub told_more : (o p : Option (List Answer)) (last : Option Answer) (old new : List Answer) →
-    p ≡ option_map (λ (xs : List Answer). xs ++ option_to_list last) o → IfSome o (λ xs. xs ≡ old) →
-    new ≡ old ++ option_to_list last → IfSome p (λ xs. xs ≡ new)
-told_more None p last old new is told more = subst (λ (q : Option (List Answer)). IfSome q (λ xs. xs ≡ new)) (sym is) tt
-told_more (Some as') p last old new is told more =
+pub told_more : (o p : Option (List Answer)) (x : Answer) (old new : List Answer) →
+    p ≡ option_map (λ (xs : List Answer). xs ++ x ∷ []) o → IfSome o (λ xs. xs ≡ old) → new ≡ old ++ x ∷ [] →
+    IfSome p (λ xs. xs ≡ new)
+told_more None p x old new is told more = subst (λ (q : Option (List Answer)). IfSome q (λ xs. xs ≡ new)) (sym is) tt
+told_more (Some as') p x old new is told more =
     subst (λ (q : Option (List Answer)). IfSome q (λ xs. xs ≡ new)) (sym is)
-    (ap (λ (xs : List Answer). xs ++ option_to_list last) told ∙ sym more)
+    (ap (λ (xs : List Answer). xs ++ x ∷ []) told ∙ sym more)
 
-pub hears_more : (o p : Option (List Answer)) (last : Option Answer) →
-    p ≡ option_map (λ (xs : List Answer). xs ++ option_to_list last) o → is_some p ≡ is_some o
-hears_more None p last is = ap is_some is
-hears_more (Some as') p last is = ap is_some is
+pub hears_more : (o p : Option (List Answer)) (x : Answer) → p ≡ option_map (λ (xs : List Answer). xs ++ x ∷ []) o →
+    is_some p ≡ is_some o
+hears_more None p x is = ap is_some is
+hears_more (Some as') p x is = ap is_some is

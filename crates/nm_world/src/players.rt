@@ -99,7 +99,10 @@ impl<S: Source> Player<S> {
         };
         match self.actor.process.run(command, line)? {
             Step::Ran => {
-                self.source.pass(self.actor.process.rank())?;
+                let Some(answer) = self.actor.process.last_answer() else {
+                    unreachable!()
+                };
+                self.source.pass(answer)?;
                 self.actor.places.count(0);
                 Ok(true)
             }

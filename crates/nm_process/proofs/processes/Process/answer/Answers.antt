@@ -7,7 +7,7 @@ use Rattle.nm_process.proofs.HeldLemmas.{all_held, held_after}
 use Rattle.nm_process.proofs.processes.Process.answer.Goals as goal
 
 pub invariant_of-self-2 : goal.invariant_of-self-2
-invariant_of-self-2 c =
+invariant_of-self-2 g c =
     let p = c.self.inside in
     let i = c.self.invariant in
     let records = c.in_ok-ran.ensures.records in (

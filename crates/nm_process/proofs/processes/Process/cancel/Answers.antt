@@ -18,7 +18,7 @@ use Rattle.nm_process.proofs.StartLemmas.{cancel_leaves, cancel_short, on_ok}
 use Rattle.nm_process.proofs.processes.Process.cancel.Goals as goal
 
 pub invariant_of-self : goal.invariant_of-self
-invariant_of-self c =
+invariant_of-self g c =
     let p = c.self.inside in
     let i = c.self.invariant in
     let v = p.rank in
@@ -32,7 +32,7 @@ invariant_of-self c =
     )
 
 pub answer-requires-in-Ok : goal.answer-requires-in-Ok
-answer-requires-in-Ok c =
+answer-requires-in-Ok g c =
     let v = c.self.inside.rank in
     let is = c.in-Ok.ensures.cancels in
     let happened = is.happened (λ s. []) in
@@ -48,7 +48,7 @@ answer-requires-in-Ok c =
     }
 
 pub returns-in-Ok-clause-tried : goal.returns-in-Ok-clause-tried
-returns-in-Ok-clause-tried c =
+returns-in-Ok-clause-tried g c =
     let p = c.self.inside in
     let v = p.rank in
     let w = c.cancel.new.self in
@@ -79,7 +79,7 @@ returns-in-Ok-clause-tried c =
     }))) c.answer-in-Ok.ensures.answered
 
 pub returns-in-Err-NoSuch-clause-tried : goal.returns-in-Err-NoSuch-clause-tried
-returns-in-Err-NoSuch-clause-tried c =
+returns-in-Err-NoSuch-clause-tried g c =
     let p = c.self.inside in
     let q = c.args.q in
     let b = c.answer-in-Err-NoSuch.new.self in

@@ -11,7 +11,7 @@ use Rattle.nm_process.proofs.HeldLemmas.{all_held, claimed_held, first_unheld, h
 use Rattle.nm_process.proofs.processes.Process.claim.Goals as goal
 
 pub invariant_of-self-in_err-insert : goal.invariant_of-self-in_err-insert
-invariant_of-self-in_err-insert c =
+invariant_of-self-in_err-insert h c =
     let p = c.self.inside in
     let i = c.self.invariant in
     let v = p.rank in
@@ -30,7 +30,7 @@ invariant_of-self-in_err-insert c =
     )
 
 pub invariant_of-self-2 : goal.invariant_of-self-2
-invariant_of-self-2 c =
+invariant_of-self-2 h c =
     let p = c.self.inside in
     let i = c.self.invariant in
     let v = p.rank in

@@ -45,7 +45,7 @@ on_err (Ok x) f holds = tt
 on_err (Err e) f holds = f holds
 
 pub invariant_of-self : goal.invariant_of-self
-invariant_of-self c =
+invariant_of-self g c =
     let p = c.self.inside in
     let i = c.self.invariant in
     let is : lookup (nat_eq c.args.q) p.requests ≡ Some c.in-Some.request =
@@ -58,7 +58,7 @@ invariant_of-self c =
     )
 
 pub returns-clause-ends : goal.returns-clause-ends
-returns-clause-ends c =
+returns-clause-ends g c =
     let p = c.self.inside in
     let w = c.finish.new.self in
     let q = c.args.q in
@@ -89,7 +89,7 @@ returns-clause-ends c =
     })) c.finish.ensures.finishes
 
 pub returns-clause-null : goal.returns-clause-null
-returns-clause-null c none =
+returns-clause-null g c none =
     let p = c.self.inside in
     let is : lookup (nat_eq c.args.q) p.requests ≡ Some c.in-Some.request =
     sym c.get.ensures ∙ c.in-Some.is in
@@ -106,7 +106,7 @@ pending v request r None is late gone complete = let other = gone refl in cc
 pending v request r (Some k) is late gone complete = (k, is, complete.1 late)
 
 pub returns-clause-pending : goal.returns-clause-pending
-returns-clause-pending c late =
+returns-clause-pending g c late =
     let p = c.self.inside in
     let q = c.args.q in
     let request = c.in-Some.request in
@@ -126,7 +126,7 @@ returns-clause-pending c late =
     })
 
 pub returns-clause-still : goal.returns-clause-still
-returns-clause-still c =
+returns-clause-still g c =
     let p = c.self.inside in
     let a : ProcessView = record {
       rank = p.rank;

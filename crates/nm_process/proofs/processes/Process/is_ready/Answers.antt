@@ -52,7 +52,7 @@ of_name v q r b is so = sym (ap (λ (o : Option Request). option_map_or (is_comp
     (named_by v.rank.requests v.names q (Some r) is) ∙ so)
 
 pub returns-in-Ok-Ready : goal.returns-in-Ok-Ready
-returns-in-Ok-Ready c =
+returns-in-Ok-Ready g c =
     let p = c.self.inside in
     let request = c.in-Some.request in
     let a : ProcessView = record {
@@ -68,7 +68,7 @@ returns-in-Ok-Ready c =
     (c.in-Ok-Ready.is ∙ ap (λ f. Ok f) c.in-Ok-Ready.field-0-is)))
 
 pub returns-in-Ok-Pending : goal.returns-in-Ok-Pending
-returns-in-Ok-Pending c =
+returns-in-Ok-Pending g c =
     let p = c.self.inside in
     let request = c.in-Some.request in
     let a : ProcessView = record {
@@ -84,7 +84,7 @@ returns-in-Ok-Pending c =
     (c.in-Ok-Pending.is ∙ ap (λ f. Ok f) c.in-Ok-Pending.field-0-is)))
 
 pub returns-in-Err : goal.returns-in-Err
-returns-in-Err c =
+returns-in-Err g c =
     let p = c.self.inside in
     let request = c.in-Some.request in
     let a : ProcessView = record {

@@ -18,7 +18,7 @@ live r e None say gone told = ap is_ok (gone refl)
 live r e (Some k) say gone told = ap is_ok told
 
 pub returns-in-Some : goal.returns-in-Some
-returns-in-Some c =
+returns-in-Some g c =
     let p = c.self.inside in
     let a : ProcessView = record {
       rank = p.rank;

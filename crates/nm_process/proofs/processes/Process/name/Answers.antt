@@ -8,7 +8,7 @@ use Rattle.nm_process.proofs.NameLemmas.{given_named}
 use Rattle.nm_process.proofs.processes.Process.name.Goals as goal
 
 pub invariant_of-self-2 : goal.invariant_of-self-2
-invariant_of-self-2 c =
+invariant_of-self-2 g c =
     let p = c.self.inside in
     let i = c.self.invariant in (
       given_named p.rank.requests p.requests c.insert.new.self c.args.q c.args.request i.0

@@ -12,7 +12,7 @@ use Rattle.nm_process.proofs.PacketLemmas.{outs_of_packets, packets_hold_at}
 use Rattle.nm_process.proofs.processes.Process.pop_front.Goals as goal
 
 pub invariant_of-self : goal.invariant_of-self
-invariant_of-self c =
+invariant_of-self g c =
     let p = c.self.inside in
     let i = c.self.invariant in
     let v = p.rank in
@@ -25,7 +25,7 @@ invariant_of-self c =
     )
 
 pub returns-clause-work : goal.returns-clause-work
-returns-clause-work c shape commands bound some work =
+returns-clause-work g c shape commands bound some work =
     let p = c.self.inside in
     let v = p.rank in
     let w = c.pop_front.new.self in

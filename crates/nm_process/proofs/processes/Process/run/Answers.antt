@@ -12,7 +12,7 @@ use Rattle.nm_process.proofs.StepLemmas.{ran}
 use Rattle.nm_process.proofs.processes.Process.run.Goals as goal
 
 pub returns-clause-same : goal.returns-clause-same
-returns-clause-same c =
+returns-clause-same g c =
     let same = tried_run c.args.self.now c.run_command.new.self c.args.command.now c.args.line c.in_ok-step.step
     c.in_ok-step.ensures.tried in (
       ap (λ (v : ProcessView). v.rank.me) c.self-2.view_is ∙ same.0,
@@ -20,7 +20,7 @@ returns-clause-same c =
     )
 
 pub returns-clause-work : goal.returns-clause-work
-returns-clause-work c took shape commands bound work next =
+returns-clause-work g c took shape commands bound work next =
     let a = c.args.self.now in
     let x = c.args.command.now in
     let line = c.args.line in
@@ -34,7 +34,7 @@ returns-clause-work c took shape commands bound work next =
     c.history.ensures.right (subst (λ (k : ℕ). HasTried a (record v { at = k }) x line Took) at tried)
 
 pub returns-clause-answered : goal.returns-clause-answered
-returns-clause-answered c took =
+returns-clause-answered g c took =
     let a = c.args.self.now in
     let x = c.args.command.now in
     subst (λ (v : ProcessView). IsSome (last_answer v.rank.events)) (sym c.self-2.view_is)

@@ -9,7 +9,7 @@ use Rattle.nm_process.proofs.StartLemmas.{ok_step}
 use Rattle.nm_process.proofs.processes.Process.run_command.Goals as goal
 
 pub returns-in-Send-clause-tried : goal.returns-in-Send-clause-tried
-returns-in-Send-clause-tried c =
+returns-in-Send-clause-tried g c =
     let a = c.args.self.now in
     let b = c.send.new.self in
     let s = c.in-Send in

@@ -13,7 +13,7 @@ use Rattle.nm_process.proofs.StartLemmas.{keeps_handles, none_found, on_ok, star
 use Rattle.nm_process.proofs.processes.Process.send.Goals as goal
 
 pub invariant_of-self-2 : goal.invariant_of-self-2
-invariant_of-self-2 c =
+invariant_of-self-2 h c =
     let p = c.self.inside in
     let i = c.self.invariant in
     let bodies : Sent → List ℕ = λ s. bytes_of c.args.body.now in
@@ -26,26 +26,26 @@ invariant_of-self-2 c =
     )
 
 pub name-requires-clause-older : goal.name-requires-clause-older
-name-requires-clause-older c =
+name-requires-clause-older h c =
     let starts = c.in_ok-request.ensures.starts.started (λ s. bytes_of c.args.body.now) refl in
     new_older c.self.inside.rank.requests c.send_copy.new.rank.requests c.in_ok-request.request _
     starts.request c.self.inside.requests c.self.invariant.0
 
 pub name-requires-clause-unnamed : goal.name-requires-clause-unnamed
-name-requires-clause-unnamed c =
+name-requires-clause-unnamed h c =
     let starts = c.in_ok-request.ensures.starts.started (λ s. bytes_of c.args.body.now) refl in
     new_unnamed c.self.inside.rank.requests c.send_copy.new.rank.requests c.in_ok-request.request _
     starts.request c.self.inside.requests c.self.invariant.0
 
 pub answer-requires-2 : goal.answer-requires-2
-answer-requires-2 c =
+answer-requires-2 h c =
     let starts = c.in_ok-request.ensures.starts.started (λ s. bytes_of c.args.body.now) refl in
     let same = ap (λ (v : ProcessView). v.rank.clock) c.self.view_is in
     let clock = ap (λ v. v.clock) c.in_ok-name.ensures.same.0 in
     record { in_time = omega (arith, starts.happened.clock, c.requires.fresh.clock, same, clock) }
 
 pub returns-clause-tried : goal.returns-clause-tried
-returns-clause-tried c =
+returns-clause-tried h c =
     let p = c.self.inside in
     let g = c.args in
     let a : ProcessView = record {

@@ -12,7 +12,7 @@ use Rattle.nm_process.proofs.PacketLemmas.{packet_of_packets, packets_hold_at}
 use Rattle.nm_process.proofs.processes.Process.take_packet.Goals as goal
 
 pub invariant_of-self-2 : goal.invariant_of-self-2
-invariant_of-self-2 c =
+invariant_of-self-2 g c =
     let p = c.self.inside in
     let i = c.self.invariant in
     let v = p.rank in
@@ -26,7 +26,7 @@ invariant_of-self-2 c =
     )
 
 pub returns-clause-work : goal.returns-clause-work
-returns-clause-work c shape commands bound some work =
+returns-clause-work g c shape commands bound some work =
     let p = c.self.inside in
     let v = p.rank in
     let w = c.take_packet.new.self in

@@ -11,7 +11,7 @@ use Rattle.nm_process.proofs.PacketLemmas.{piece_of_packets, packets_hold_at}
 use Rattle.nm_process.proofs.processes.Process.take_piece.Goals as goal
 
 pub invariant_of-self-2 : goal.invariant_of-self-2
-invariant_of-self-2 c =
+invariant_of-self-2 g c =
     let p = c.self.inside in
     let i = c.self.invariant in
     let v = p.rank in
@@ -25,7 +25,7 @@ invariant_of-self-2 c =
     )
 
 pub returns-clause-work : goal.returns-clause-work
-returns-clause-work c shape commands bound some work =
+returns-clause-work g c shape commands bound some work =
     let p = c.self.inside in
     let v = p.rank in
     let w = c.take_piece.new.self in

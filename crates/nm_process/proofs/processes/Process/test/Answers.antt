@@ -7,7 +7,7 @@ use Rattle.nm_process.proofs.StartLemmas.{on_ok}
 use Rattle.nm_process.proofs.processes.Process.test.Goals as goal
 
 pub returns-in-Ok-clause-tried : goal.returns-in-Ok-clause-tried
-returns-in-Ok-clause-tried c =
+returns-in-Ok-clause-tried g c =
     on_ok c.answer.result
     (λ answered. inr (inl (record {
       mid = c.end.new.self;
@@ -18,7 +18,7 @@ returns-in-Ok-clause-tried c =
     c.answer.ensures.answered
 
 pub returns-in-Err-NoSuch-clause-tried : goal.returns-in-Err-NoSuch-clause-tried
-returns-in-Err-NoSuch-clause-tried c =
+returns-in-Err-NoSuch-clause-tried g c =
     on_ok c.answer-in-Err-NoSuch.result
     (λ answered. inl (record {
       free = c.end.ensures.null (c.in-Err-NoSuch.is ∙ ap (λ f. Err f) c.in-Err-NoSuch.field-0-is);
@@ -28,7 +28,7 @@ returns-in-Err-NoSuch-clause-tried c =
     c.answer-in-Err-NoSuch.ensures.answered
 
 pub returns-in-Err-NotComplete-clause-tried : goal.returns-in-Err-NotComplete-clause-tried
-returns-in-Err-NotComplete-clause-tried c =
+returns-in-Err-NotComplete-clause-tried g c =
     on_ok c.answer-in-Err-NotComplete.result
     (λ answered. inr (inr (record {
       pending = c.end.ensures.pending (c.in-Err-NotComplete.is

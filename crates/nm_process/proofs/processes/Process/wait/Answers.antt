@@ -8,7 +8,7 @@ use Rattle.nm_process.proofs.StartLemmas.{ok_step}
 use Rattle.nm_process.proofs.processes.Process.wait.Goals as goal
 
 pub returns-in-Ok-clause-tried : goal.returns-in-Ok-clause-tried
-returns-in-Ok-clause-tried c =
+returns-in-Ok-clause-tried g c =
     let a = c.args.self.now in
     let b = c.answer.new.self in
     ok_step (HasTriedWait a b c.args.q c.args.line) c.answer.result step_is.Ran
@@ -21,7 +21,7 @@ returns-in-Ok-clause-tried c =
     }))
 
 pub returns-in-Err-NoSuch-clause-tried : goal.returns-in-Err-NoSuch-clause-tried
-returns-in-Err-NoSuch-clause-tried c =
+returns-in-Err-NoSuch-clause-tried g c =
     let a = c.args.self.now in
     let b = c.answer-in-Err-NoSuch.new.self in
     ok_step (HasTriedWait a b c.args.q c.args.line) c.answer-in-Err-NoSuch.result step_is.Ran
@@ -33,7 +33,7 @@ returns-in-Err-NoSuch-clause-tried c =
     }))
 
 pub returns-in-Err-NotComplete-clause-tried : goal.returns-in-Err-NotComplete-clause-tried
-returns-in-Err-NotComplete-clause-tried c = (
+returns-in-Err-NotComplete-clause-tried g c = (
   c.end.ensures.pending (c.in-Err-NotComplete.is ∙ ap (λ f. Err f) c.in-Err-NotComplete.field-0-is),
   c.in-Err-NotComplete.ensures.still,
 )

@@ -37,11 +37,8 @@ run-requires-clause-in_range g c =
 pub run-requires-clause-counted : goal.run-requires-clause-counted
 run-requires-clause-counted g c = subst (λ (k : ℕ). k < c.in-Some.line) c.requires.1.at c.in-Some.ensures.counted
 
-pub pass-requires : goal.pass-requires
-pass-requires g c = record {
-  next = subst (λ (o : Option Command). IsSome o) c.in-Some.ensures.shown refl;
-  answered = rw c.rank-in-Ran.ensures (c.in_ok-run.ensures.answered c.in-Ran.is);
-}
+pub pass-requires-clause-next : goal.pass-requires-clause-next
+pass-requires-clause-next g c = subst (λ (o : Option Command). IsSome o) c.in-Some.ensures.shown refl
 
 pub returns-in_default : goal.returns-in_default
 returns-in_default g c =
@@ -180,8 +177,8 @@ returns-in_ok-pass-in-Ran g c =
           };
           at = omega (arith, at, was, counts);
           ranks = passed.counted.1 ∙ s.ranks ∙ sym (ap (λ z. z.ranks) sizes);
-          told = told_more _ _ _ (answers_given a.process.rank.events) (answers_given v.rank.events) passed.told s.told
-              (rw c.rank-in-Ran.ensures more);
+          told = told_more _ _ c.in-Some-2.answer.now (answers_given a.process.rank.events) (answers_given v.rank.events) passed.told s.told
+              (more ∙ ap (λ (o : Option Answer). answers_given a.process.rank.events ++ option_to_list o) (sym c.last_answer.ensures));
           stands = stands;
         };
         seat = seat_is a v a.port.rank refl sizes;
