@@ -1,20 +1,21 @@
 -- A run of programs, one for each rank: each process executes its own code, and they communicate by calls of MPI
 -- (MPI 3.1, 2.7).
-use Rattle.std.specs.Prelude.{◌≡◌, ℕ, ◌+◌, Option, Some, List, [], ◌∷◌, ◌++◌, option_map, unwrap_or}
+use Rattle.std.specs.Prelude.{◌≡◌, ℕ, ◌+◌, Bool, Option, Some, List, [], ◌∷◌, ◌++◌, option_map, unwrap_or}
 use Rattle.std.specs.List.{AllByRecursion, slice_get}
+use Rattle.nm_types.specs.declared.answers.Account.{Account}
 use Rattle.nm_types.specs.declared.answers.Answer.{Answer}
 use Rattle.nm_types.specs.declared.packets.Packet.{Packet}
 use Rattle.nm_types.specs.declared.scripts.Command.{Command}
 use Rattle.nm_types.specs.Commands.{Numbered}
 use Rattle.nm_types.specs.Sizes.{Sizes}
-use Rattle.nm_history.specs.Quiescence.{Ended}
+use Rattle.nm_history.specs.Quiescence.{Ended, Packets}
 use Rattle.nm_history.specs.Totals.{answers_given}
 use Rattle.nm_cells.specs.declared.closed.Closed.{Closed}
 use Rattle.nm_copyring.specs.declared.close.RingAccount.{RingAccount}
 use Rattle.nm_report.specs.declared.records.RunRecord.{RunRecord}
-use Rattle.nm_report.specs.Ends.{ends_of}
+use Rattle.nm_report.specs.Ends.{are_done, ends_of, packets_of}
 use Rattle.nm_process.specs.Playing.{AllInRange, HasPlayed, IsCounted, NeverRuns, all_numbered}
-use Rattle.nm_world.specs.Runs.{IsWholeBy}
+use Rattle.nm_world.specs.Runs.{IsWholeOf}
 use Rattle.nm_programs.specs.declared.running.Finished.{Finished}
 use Rattle.nm_programs.specs.declared.stops.Stop.{Stop}
 use Rattle.nm_programs.specs.declared.stops.Stop.TheVariants.{Memory, Range}
@@ -42,14 +43,31 @@ abbrev pub commands_in : List (List Command) → ℕ → List Numbered
 commands_in given i = all_numbered 2 (unwrap_or (slice_get given i) [])
 
 -- The programs ran so: each was told the answers of its rank and gave the rank's commands, which are in range,
--- and the record tells a lawful run of these that is at rest, whose packets and pieces the closed ports carried.
-pub record HasRun {P : Type 0} (says : P → Option Answer → Option Command → P → Type 0) (shape : Sizes)
-    (programs : List P) (left : List (Finished P)) (run : RunRecord) (cells : Closed Packet) (rings : RingAccount)
-    : Type 0 where
+-- and these ends of the ranks are of a lawful run of these that is at rest, whose packets and pieces the closed ports
+-- carried.
+pub record HasRunTo {P : Type 0} (says : P → Option Answer → Option Command → P → Type 0) (shape : Sizes)
+    (programs : List P) (left : List (Finished P)) (ends : List Ended) (packets : List Packets) (account : Account)
+    (cells : Closed Packet) (rings : RingAccount) : Type 0 where
   pub given : List (List Command)
-  pub each : AreProgramsOf says programs given (ends_of run.ranks) left
+  pub each : AreProgramsOf says programs given ends left
   pub in_range : AllByRecursion (AllInRange shape.ranks) given
-  pub whole : IsWholeBy shape (commands_in given) run cells rings
+  pub whole : IsWholeOf shape (commands_in given) ends packets account cells rings
+
+-- so they ran, and the record tells it
+abbrev pub HasRun :
+    {P : Type 0} → (P → Option Answer → Option Command → P → Type 0) → Sizes → List P → List (Finished P) → RunRecord →
+    Closed Packet → RingAccount → Type 0
+HasRun says shape programs left run cells rings =
+    HasRunTo says shape programs left (ends_of run.ranks) (packets_of run.pairs) run.cells cells rings
+
+-- So they ran, with histories that no memory keeps; and all are at their ends, or not.
+pub record HasRunUnrecorded {P : Type 0} (says : P → Option Answer → Option Command → P → Type 0) (shape : Sizes)
+    (programs : List P) (left : List (Finished P)) (done : Bool) (account : Account) (cells : Closed Packet)
+    (rings : RingAccount) : Type 0 where
+  pub ends : List Ended
+  pub packets : List Packets
+  pub ran : HasRunTo says shape programs left ends packets account cells rings
+  pub done_is : done ≡ are_done ends
 
 -- The program of this rank was told some answers and gave this command, which never runs.
 pub record GaveStray {P : Type 0} (says : P → Option Answer → Option Command → P → Type 0) (ranks : ℕ)

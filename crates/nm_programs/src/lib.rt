@@ -14,6 +14,8 @@
 //! - With these commands the record tells a run by MPI's rules that is at rest, and what went from rank to rank
 //!   is what its histories call for (the same clause). All cells are home (`home`), and `done` tells whether all
 //!   programs are at their ends (`done`).
+//! - So it is where the histories exist in proofs alone, and memory keeps the last event of each rank
+//!   (`run_unrecorded`: `run`).
 //! - A command that is out of range never runs: the run has no outcome, and the error tells the rank and the
 //!   command (`stopped`).
 //! - A call makes the command that it names, and a number is read back from its body (`bodies`).
@@ -27,5 +29,5 @@ mod running;
 mod stops;
 
 pub use nm_process::Program;
-pub use running::{Finished, Outcome, run_programs};
+pub use running::{Finished, Outcome, Unrecorded, run_programs, run_unrecorded};
 pub use stops::Stop;

@@ -1,9 +1,9 @@
 //! A run of programs.
 
-ghost use Rattle.std.specs.Prelude.{◌≡◌, ◌<◌, ◌≤◌, [], ◌∷◌, ◌++◌, ℕ, IfErr, IfOk, List, length};
+ghost use Rattle.std.specs.Prelude.{◌≡◌, ◌*◌, ◌<◌, ◌≤◌, [], ◌∷◌, ◌++◌, ℕ, IfErr, IfOk, List, length};
 ghost use Rattle.std.specs.List.{All, AllZip};
 ghost use Rattle.nm_process.specs.Playing.{gives_on, shown_by};
-ghost use Rattle.nm_programs.specs.HasRun.{HasRun, IsStopped};
+ghost use Rattle.nm_programs.specs.HasRun.{HasRun, HasRunUnrecorded, IsStopped};
 ghost use Rattle.nm_programs.specs.Turns.{BeginsWith, IsLeft, IsStray};
 ghost use Rattle.nm_report.specs.Cells.{AllCellsFree};
 ghost use Rattle.nm_report.specs.Ends.{are_done, ends_of};
@@ -12,9 +12,10 @@ ghost use Rattle.nm_world.specs.Players.{BeginsAt};
 use crate::stops::Stop;
 use nm_outside::Gate;
 use nm_process::{Given, Played, Program};
+use nm_rank::journal::Erased;
 use nm_report::RunRecord;
-use nm_types::{Command, Memory, Shape};
-use nm_world::{Left, Ways, run_sources};
+use nm_types::{Account, Command, Memory, Shape};
+use nm_world::{Left, Rested, Ways, run_sources, run_to_rest};
 use std::alloc::Global;
 use std::sync::Wait;
 use std::thread::Threads;
@@ -35,6 +36,19 @@ pub struct Outcome<P> {
     pub ranks: Vec<Finished<P>>,
     /// What happened at each rank. Its k-th command, from 0, has line k + 2.
     pub record: RunRecord,
+    /// What the closed ways between ranks keep.
+    pub ways: Ways,
+}
+
+/// What became of a run of programs of which no history is kept.
+#[derive(Drop)]
+pub struct Unrecorded<P> {
+    /// What became of each program, by rank.
+    pub ranks: Vec<Finished<P>>,
+    /// Whether every program is at its end.
+    pub done: bool,
+    /// The account of the cells.
+    pub cells: Account,
     /// What the closed ways between ranks keep.
     pub ways: Ways,
 }
@@ -120,6 +134,41 @@ pub fn run_programs<R: Threads + Wait + Sync, P: Program + Send, G: Gate + Sync>
     Ok(Outcome {
         ranks: finished,
         record,
+        ways,
+    })
+}
+
+/// The same of programs that run long: their histories exist in proofs alone, and memory keeps the last event of
+/// each rank.
+pub fn run_unrecorded<R: Threads + Wait + Sync, P: Program + Send, G: Gate + Sync>(
+    rt: &R,
+    alloc: Global,
+    shape: Shape,
+    programs: Vec<P>,
+    gate: &G,
+) -> Result<Unrecorded<P>, Stop>
+    requires many { length programs.items ≡ shape.ranks }
+    ensures run { IfOk result (λ x.
+        HasRunUnrecorded P.says shape programs.items x.ranks.items x.done x.cells x.ways.cells x.ways.rings) }
+    ensures all { IfOk result (λ x. x.cells.total ≡ shape.ranks * shape.cells) }
+    ensures home { IfOk result (λ x. x.cells.home ≡ x.cells.total) }
+    ensures stopped { IfErr result (IsStopped P.says shape.ranks programs.items) }
+{
+    let begun = begin(alloc, shape.ranks(), programs)?;
+    let left = run_to_rest::<R, Given<P>, Erased, G>(rt, alloc, shape, begun, gate)?;
+    let Rested {
+        sources,
+        ranks: _,
+        pairs: _,
+        cells,
+        done,
+        ways,
+    } = left;
+    let ranks = finish(alloc, sources)?;
+    Ok(Unrecorded {
+        ranks,
+        done,
+        cells,
         ways,
     })
 }

@@ -22,16 +22,16 @@ use Rattle.nm_cells.specs.declared.port.Port.{Port}
 use Rattle.nm_cells.specs.ClosedLists.{sent_list}
 use Rattle.nm_cells.specs.Ports.{knows, sent_by}
 use Rattle.nm_copyring.specs.declared.close.RingAccount.{RingAccount}
-use Rattle.nm_report.specs.declared.accounts.RankAccount.{RankAccount}
 use Rattle.nm_report.specs.declared.pairs.PairCount.{PairCount}
 use Rattle.nm_report.specs.Ends as report
-use Rattle.nm_report.specs.Ends.{are_done, ends_of}
+use Rattle.nm_report.specs.Ends.{are_done}
 use Rattle.nm_process.specs.Processes.{ProcessView}
 use Rattle.nm_world.specs.declared.actors.Actor.{Actor}
 use Rattle.nm_process.specs.Sources.{SourceView}
 use Rattle.nm_world.specs.declared.players.Player.{Player}
+use Rattle.nm_world.specs.declared.records.RankEnd.{RankEnd}
 use Rattle.nm_world.specs.Players.{IsAtWork}
-use Rattle.nm_world.specs.Records.{AreAtWork, AreKnown, counts_of, counts_to, ended_from, ended_of}
+use Rattle.nm_world.specs.Records.{AreAtWork, AreKnown, counts_of, counts_to, ended_from, ended_of, ends_by}
 use Rattle.nm_world.specs.Parcels.{packet_of}
 use Rattle.nm_world.specs.Rest.{HasRun, IsCarried, IsClosed}
 use Rattle.nm_types.proofs.ListLemmas.{get_map}
@@ -98,47 +98,48 @@ map_next g ps ps' xs xs' a all split pushed so_far =
     ap (λ l. l ++ map g xs') pushed ∙ append_assoc ps (g a ∷ []) (map g xs')
     ∙ ap (λ l. ps ++ map g l) (sym split) ∙ so_far
 
-pub packets_next : {S : Type 0} (n : ℕ) (pairs pairs' : List PairCount) (xs xs' : List (Player S)) (x : Player S)
+pub packets_next : {S H : Type 0} (n : ℕ) (pairs pairs' : List PairCount) (xs xs' : List (Player S H)) (x : Player S H)
     (all : List Packets) → xs ≡ x ∷ xs' →
     report.packets_of pairs' ≡ report.packets_of pairs ++ counts_to n x.actor.port →
     report.packets_of pairs ++ counts_of n xs ≡ all → report.packets_of pairs' ++ counts_of n xs' ≡ all
-packets_next {S} n pairs pairs' xs xs' x all split counted so_far =
+packets_next {S} {H} n pairs pairs' xs xs' x all split counted so_far =
     ap (λ (ps : List Packets). ps ++ counts_of n xs') counted
     ∙ append_assoc (report.packets_of pairs) (counts_to n x.actor.port) (counts_of n xs')
-    ∙ ap (λ (ys : List (Player S)). report.packets_of pairs ++ counts_of n ys) (sym split) ∙ so_far
+    ∙ ap (λ (ys : List (Player S H)). report.packets_of pairs ++ counts_of n ys) (sym split) ∙ so_far
 
-pub ends_next : {S B : Type 0} (shows : S → SourceView B) (gives : S → List Numbered → ℕ → Type 0)
-    (commands : ℕ → List Numbered) (k m : ℕ) (ends ends' : List Ended) (xs xs' : List (Player S)) (x : Player S)
+pub ends_next : {S B H : Type 0} (shows : S → SourceView B) (gives : S → List Numbered → ℕ → Type 0)
+    (commands : ℕ → List Numbered) (k m : ℕ) (ends ends' : List Ended) (xs xs' : List (Player S H)) (x : Player S H)
     (all : List Ended) → xs ≡ x ∷ xs' → m ≡ k + 1 →
     (IsAtWork shows gives x (commands k) → ends' ≡ ends ++ ended_of (commands k) x.actor.process ∷ []) →
     AreAtWork shows gives commands k xs → ends ++ ended_from commands k xs ≡ all →
     AreAtWork shows gives commands m xs' × (ends' ++ ended_from commands m xs' ≡ all)
-ends_next {S} shows gives commands k m ends ends' xs xs' x all split more one work so_far =
-    let works = subst (λ (ys : List (Player S)). AreAtWork shows gives commands k ys) split work in
+ends_next {S} {B} {H} shows gives commands k m ends ends' xs xs' x all split more one work so_far =
+    let works = subst (λ (ys : List (Player S H)). AreAtWork shows gives commands k ys) split work in
     subst (λ (n : ℕ). AreAtWork shows gives commands n xs' × (ends' ++ ended_from commands n xs' ≡ all)) (sym more) (
       works.1,
       ap (λ (es : List Ended). es ++ ended_from commands (k + 1) xs') (one works.0)
           ∙ append_assoc ends (ended_of (commands k) x.actor.process ∷ []) (ended_from commands (k + 1) xs')
-          ∙ ap (λ (ys : List (Player S)). ends ++ ended_from commands k ys) (sym split) ∙ so_far,
+          ∙ ap (λ (ys : List (Player S H)). ends ++ ended_from commands k ys) (sym split) ∙ so_far,
     )
 
 -- the ports of the first of them, and of the others
-pub known_next : {S : Type 0} (n : ℕ) (xs : List (Player S)) (x : Player S) (xs' : List (Player S)) → xs ≡ x ∷ xs' →
+pub known_next : {S H : Type 0} (n : ℕ) (xs : List (Player S H)) (x : Player S H) (xs' : List (Player S H)) →
+    xs ≡ x ∷ xs' →
     AreKnown n xs → ((knows x.actor.port).ranks ≡ n) × AreKnown n xs'
-known_next {S} n xs x xs' split known =
-    let is = subst (λ (ys : List (Player S)). AreKnown n ys) split known in
+known_next {S} {H} n xs x xs' split known =
+    let is = subst (λ (ys : List (Player S H)). AreKnown n ys) split known in
     (is 0 x refl, λ k y at. is (suc k) y at)
 
-pub done_next : (ranks ranks' : List RankAccount) (r : RankAccount) (done none : Bool) →
-    done ≡ are_done (ends_of ranks) →
-    ranks' ≡ ranks ++ r ∷ [] → is_some r.waits ≡ not none → (done && none) ≡ are_done (ends_of ranks')
-done_next ranks ranks' r done none before pushed waits =
+pub done_next : {H : Type 0} (events : H → List Event) (ranks ranks' : List (RankEnd H)) (r : RankEnd H)
+    (done none : Bool) → done ≡ are_done (ends_by events ranks) →
+    ranks' ≡ ranks ++ r ∷ [] → is_some r.waits ≡ not none → (done && none) ≡ are_done (ends_by events ranks')
+done_next {H} events ranks ranks' r done none before pushed waits =
     ap (λ (b : Bool). b && none) before
-    ∙ ap (λ (b : Bool). are_done (ends_of ranks) && b)
+    ∙ ap (λ (b : Bool). are_done (ends_by events ranks) && b)
     (sym (none_is r.waits none waits) ∙ sym (and_true_right (is_none r.waits)))
-    ∙ sym (list_all-append (λ (e : Ended). is_none e.waits) (ends_of ranks) (ends_of (r ∷ [])))
+    ∙ sym (list_all-append (λ (e : Ended). is_none e.waits) (ends_by events ranks) (ends_by events (r ∷ [])))
     ∙ ap (λ (es : List Ended). are_done es) (sym (map-append _ ranks (r ∷ [])))
-    ∙ ap (λ (rs : List RankAccount). are_done (ends_of rs)) (sym pushed)
+    ∙ ap (λ (rs : List (RankEnd H)). are_done (ends_by events rs)) (sym pushed)
 
 -- the ends are those of the players
 stands_waits : (commands : List Numbered) (h : List Event) (o : Option Numbered) (w : Option ℕ) →
@@ -155,9 +156,9 @@ end_is commands v e at events stands =
     ∙ ap (λ (k : ℕ). option_map (λ (c : Numbered). c.line) (slice_get commands k)) at in
     λ i. record { at = at i; waits = waits i; events = events i }
 
-ends_same : {S : Type 0} (commands : ℕ → List Numbered) (k : ℕ) (players : List (Player S)) (ends : List Ended) →
+ends_same : {S H : Type 0} (commands : ℕ → List Numbered) (k : ℕ) (players : List (Player S H)) (ends : List Ended) →
     length ends ≡ length players →
-    ((i m : ℕ) (x : Player S) → m ≡ k + i → slice_get players i ≡ Some x →
+    ((i m : ℕ) (x : Player S H) → m ≡ k + i → slice_get players i ≡ Some x →
     IfSome (slice_get ends i) (λ e. e ≡ ended_of (commands m) x.actor.process)) →
     ends ≡ ended_from commands k players
 ends_same commands k [] [] many each = refl
@@ -186,9 +187,9 @@ row_is commands n i p h own each =
     (λ to. record { from = i; to = to; count = length (outgoing (sent_body (commands i)) h to) })
     (λ j low. λ k. record { from = own k; to = j; count = each j (omega (arith, low)) k }))
 
-pub counts_same : {S : Type 0} (commands : ℕ → List Numbered) (n k : ℕ) (players : List (Player S))
+pub counts_same : {S H : Type 0} (commands : ℕ → List Numbered) (n k : ℕ) (players : List (Player S H))
     (ends : List Ended) → length ends ≡ length players →
-    ((i m : ℕ) (x : Player S) (e : Ended) → m ≡ k + i → slice_get players i ≡ Some x → slice_get ends i ≡ Some e →
+    ((i m : ℕ) (x : Player S H) (e : Ended) → m ≡ k + i → slice_get players i ≡ Some x → slice_get ends i ≡ Some e →
     (x.actor.port.rank ≡ m)
     × ((j : ℕ) → j < n → sent_by x.actor.port j ≡ length (outgoing (sent_body (commands m)) e.events j))) →
     counts_of n players ≡ packets_by_rank_by commands (range_with_len 0 n) k ends
@@ -206,15 +207,15 @@ some_there : {A : Type 0} (o : Option A) (P : A → Type 0) (x : A) → o ≡ So
 some_there o P x is holds = subst (λ p. IfSome p P) is holds
 
 -- the players of a run were told of
-pub told_run : {S : Type 0} (shape : Sizes) (commands : ℕ → List Numbered) (players : List (Player S))
-    (actors : List Actor) (c : Closed Packet) (q : RingAccount) (ends : List Ended) (ranks : List RankAccount)
-    (pairs : List PairCount) → actors ≡ map (λ (x : Player S). x.actor) players →
-    ((i : ℕ) (x : Player S) → slice_get players i ≡ Some x → x.actor.port.rank ≡ i) → length players ≡ shape.ranks →
-    IsClosed shape.ranks (map (λ (a : Actor). a.port) actors) c → HasRun shape commands actors c q ends →
-    ends_of ranks ≡ ended_from commands 0 players →
+pub told_run : {S H : Type 0} (shape : Sizes) (commands : ℕ → List Numbered) (players : List (Player S H))
+    (actors : List (Actor H)) (c : Closed Packet) (q : RingAccount) (ends told_of : List Ended)
+    (pairs : List PairCount) → actors ≡ map (λ (x : Player S H). x.actor) players →
+    ((i : ℕ) (x : Player S H) → slice_get players i ≡ Some x → x.actor.port.rank ≡ i) → length players ≡ shape.ranks →
+    IsClosed shape.ranks (map (λ (a : Actor H). a.port) actors) c → HasRun shape commands actors c q ends →
+    told_of ≡ ended_from commands 0 players →
     report.packets_of pairs ≡ counts_of shape.ranks players →
-    IsRunBy shape commands (ends_of ranks) (report.packets_of pairs) × (ends ≡ ends_of ranks)
-told_run {S} shape commands players actors c q ends ranks pairs are own many closed run told counted = (
+    IsRunBy shape commands told_of (report.packets_of pairs) × (ends ≡ told_of)
+told_run {S} {H} shape commands players actors c q ends told_of pairs are own many closed run told counted = (
   subst (λ (es : List Ended). IsRunBy shape commands es (report.packets_of pairs)) all
       (subst (λ (ps : List Packets). IsRunBy shape commands ends ps) (sym packets) run.run),
   all,
@@ -222,22 +223,22 @@ told_run {S} shape commands players actors c q ends ranks pairs are own many clo
   long : length ends ≡ length players
   long = run.run.one_each ∙ sym many
 
-  actor_at : (i : ℕ) (x : Player S) → slice_get players i ≡ Some x → slice_get actors i ≡ Some x.actor
-  actor_at i x at = ap (λ (as' : List Actor). slice_get as' i) are
-      ∙ get_map (λ (x : Player S). x.actor) players i x at
+  actor_at : (i : ℕ) (x : Player S H) → slice_get players i ≡ Some x → slice_get actors i ≡ Some x.actor
+  actor_at i x at = ap (λ (as' : List (Actor H)). slice_get as' i) are
+      ∙ get_map (λ (x : Player S H). x.actor) players i x at
 
   same : ends ≡ ended_from commands 0 players
   same = ends_same commands 0 players ends long (λ i m x is at.
       let here : i ≡ m = omega (arith, is) in
       subst (λ (k : ℕ). IfSome (slice_get ends i) (λ e. e ≡ ended_of (commands k) x.actor.process)) here
       (by i x.actor (slice_get ends i) (run.are i x.actor (actor_at i x at)))) where
-        by : (i : ℕ) (a : Actor) → (o : Option Ended) →
+        by : (i : ℕ) (a : Actor H) → (o : Option Ended) →
             IfSome o (λ e. (e.at ≡ a.process.at) × (e.events ≡ a.process.rank.events) × StandsAt (commands i) e) →
             IfSome o (λ e. e ≡ ended_of (commands i) a.process)
         by i a None is = tt
         by i a (Some e) is = end_is (commands i) a.process e is.0 is.1 is.2
 
-  all : ends ≡ ends_of ranks
+  all : ends ≡ told_of
   all = same ∙ sym told
 
   packets : report.packets_of pairs ≡ packets_of_by commands ends
@@ -248,7 +249,7 @@ told_run {S} shape commands players actors c q ends ranks pairs are own many clo
       let rank = own i x at in (
         rank ∙ sym here,
         λ j within. sym (closed.counts i j x.actor.port
-            (get_map (λ (a : Actor). a.port) actors i x.actor (actor_at i x at)) within).0
+            (get_map (λ (a : Actor H). a.port) actors i x.actor (actor_at i x at)) within).0
             ∙ sym (length-map (sent_list c i j) packet_of)
             ∙ sym (called_length i 0 _ _ (some_there (slice_get ends i) (IsCarried (commands i) c q i j) e to
             (run.carried i j within)).packets)

@@ -25,11 +25,11 @@ use Rattle.nm_types.specs.declared.packets.Packet.{Packet}
 new_lane_at : (n k i : ℕ) → i < n → ring_rule.lane (ring_rule.newcomer n k) i ≡ ring_rule.new_lane
 new_lane_at n k i within = get_or-replicate n i ring_rule.new_lane ring_rule.new_lane within
 
-pub new_stands : (shape : Sizes) (commands : List Numbered) (last : ℕ) (f : Fabric Packet) (r : Rings)
+pub new_stands : {H : Type 0} (shape : Sizes) (commands : List Numbered) (last : ℕ) (f : Fabric Packet) (r : Rings)
     (v : ProcessView) (port : Port Packet) (rp : RingPort) → r.ranks ≡ shape.ranks →
     IsNew f port port.rank → ring.IsNew r rp port.rank → v.rank.sizes ≡ shape →
     IsWorking shape commands (last + 1) v → IsOf shape commands port.rank v.rank no_past →
-    ActorInvariant commands last (record { process = v; port = port; ring = rp; places = tt })
+    ActorInvariant {H = H} commands last (record { process = v; port = port; ring = rp; places = tt })
 new_stands shape commands last f r v port rp rings new fresh sizes work stands =
     stands_of shape commands last (record { process = v; port = port; ring = rp; places = tt }) no_past sizes
     (record {
@@ -47,11 +47,11 @@ new_stands shape commands last f r v port rp rings new fresh sizes work stands =
     })
 
 -- and so it has its ports
-pub new_ports : (shape : Sizes) (f : Fabric Packet) (r : Rings) (v : ProcessView) (port : Port Packet)
+pub new_ports : {H : Type 0} (shape : Sizes) (f : Fabric Packet) (r : Rings) (v : ProcessView) (port : Port Packet)
     (rp : RingPort) → f.ranks ≡ shape.ranks → r.ranks ≡ shape.ranks → IsNew f port port.rank →
     ring.IsNew r rp port.rank → v.rank.sizes ≡ shape →
-    StandsSome (record { process = v; port = port; ring = rp; places = tt }) →
-    HasPorts f r (record { process = v; port = port; ring = rp; places = tt })
+    StandsSome {H = H} (record { process = v; port = port; ring = rp; places = tt }) →
+    HasPorts {H = H} f r (record { process = v; port = port; ring = rp; places = tt })
 new_ports shape f r v port rp cells rings new fresh sizes some =
     let same = ap (λ (s : Sizes). s.ranks) sizes in
     record {

@@ -72,12 +72,12 @@ is_less x y is = grind (arith, nat_tests)
 isnt_less : (x y : ℕ) → false ≡ nat_lt x y → y ≤ x
 isnt_less x y is = grind (arith, nat_tests)
 
-pub events_up : (a b : Actor) → Grows a b → length a.process.rank.events ≤ length b.process.rank.events
+pub events_up : {H : Type 0} → (a b : Actor H) → Grows a b → length a.process.rank.events ≤ length b.process.rank.events
 events_up a b up =
     let e = ap length up.events.1 ∙ length-append a.process.rank.events up.events.0 in omega (arith, e)
 
 -- the five parts of what was done
-module _ (n : ℕ) (a b : Actor) (up : Grows a b) where
+module _ {H : Type 0} (n : ℕ) (a b : Actor H) (up : Grows a b) where
   up_sent : total n (λ j. sent_by a.port j) ≤ total n (λ j. sent_by b.port j)
   up_sent = sum_up n _ _ up.port.sent
 
@@ -117,7 +117,7 @@ module _ (n : ℕ) (a b : Actor) (up : Grows a b) where
         let z = sum_more n j _ _ (λ k. (up.ring k).pulled) low more in omega (arith, v, w, x, y, z)
 
 -- nothing was done
-pub did_none : (n : ℕ) (a b : Actor) → length b.process.rank.events ≡ length a.process.rank.events →
+pub did_none : {H : Type 0} → (n : ℕ) (a b : Actor H) → length b.process.rank.events ≡ length a.process.rank.events →
     ((j : ℕ) → sent_by b.port j ≡ sent_by a.port j) → taken_by b.port ≡ taken_by a.port →
     ((j : ℕ) → ((lane (ring.knows b.ring) j).pushed ≡ (lane (ring.knows a.ring) j).pushed)
     × ((lane (ring.knows b.ring) j).pulled ≡ (lane (ring.knows a.ring) j).pulled)) → false ≡ did n a b
@@ -130,7 +130,7 @@ did_none n a b h s t rings =
     (λ j. ap length (rings j).1) in
     less_false (done_by n a) (done_by n b) (omega (arith, h, w, x, y, z))
 
-pub did_same : (n : ℕ) (a : Actor) → false ≡ did n a a
+pub did_same : {H : Type 0} → (n : ℕ) (a : Actor H) → false ≡ did n a a
 did_same n a = less_false (done_by n a) (done_by n a) refl
 
 -- from one to the next
@@ -143,13 +143,14 @@ or_less x y z false false up to p_is q_is =
     let one = isnt_less x y p_is in let two = isnt_less y z q_is in
     less_false x z (omega (arith, one, two, up, to))
 
-pub did_on : (n : ℕ) (a b c : Actor) (p q : Bool) → Grows a b → Grows b c → p ≡ did n a b → q ≡ did n b c →
+pub did_on : {H : Type 0} → (n : ℕ) (a b c : Actor H) (p q : Bool) → Grows a b → Grows b c → p ≡ did n a b →
+    q ≡ did n b c →
     (p || q) ≡ did n a c
 did_on n a b c p q one two = or_less (done_by n a) (done_by n b) (done_by n c) p q (done_up n a b one)
     (done_up n b c two)
 
 -- one step more of a loop that tells whether something was done
-pub kept_and : (n : ℕ) (f : Fabric Packet) (r : Rings) (a b c : Actor) (p q : Bool) →
+pub kept_and : {H : Type 0} → (n : ℕ) (f : Fabric Packet) (r : Rings) (a b c : Actor H) (p q : Bool) →
     Continues f r a b → Continues f r b c → p ≡ did n a b → q ≡ did n b c →
     Continues f r a c × ((p || q) ≡ did n a c)
 kept_and n f r a b c p q one two before then =
@@ -164,8 +165,10 @@ or_one true q one = refl
 or_one false q one = sym one
 
 -- a command that ran
-pub ran_on : (n : ℕ) {commands : List Numbered} {last : ℕ} (a b : Actor) (s : ActorInvariant commands last a) →
-    {sizes : Sizes} {given : List Numbered} {i : ℕ} → GoesOn sizes given i b.process.rank s.past → b.port ≡ a.port → b.ring ≡ a.ring →
+pub ran_on : {H : Type 0} →
+    (n : ℕ) {commands : List Numbered} {last : ℕ} (a b : Actor H) (s : ActorInvariant commands last a) →
+    {sizes : Sizes} {given : List Numbered} {i : ℕ} → GoesOn sizes given i b.process.rank s.past → b.port ≡ a.port →
+    b.ring ≡ a.ring →
     Grows a b × Grew n a b
 ran_on n a b s on port ring =
     let was = s.is.stands.logged.events in
@@ -185,11 +188,12 @@ ran_on n a b s on port ring =
     )
 
 -- lists of players
-done_append : {S : Type 0} (n : ℕ) (xs ys : List (Player S)) → done_of n (xs ++ ys) ≡ done_of n xs + done_of n ys
+done_append : {S H : Type 0} (n : ℕ) (xs ys : List (Player S H)) → done_of n (xs ++ ys) ≡ done_of n xs + done_of n ys
 done_append n [] ys = omega arith
 done_append n (x ∷ xs) ys = let rest = done_append n xs ys in omega (arith, rest)
 
-pub all_up : {S B : Type 0} (n : ℕ) (shows : S → SourceView B) (gives : S → List Numbered → ℕ → Type 0) (f : Fabric Packet) (r : Rings) (xs ys : List (Player S)) →
+pub all_up : {S B H : Type 0} (n : ℕ) (shows : S → SourceView B) (gives : S → List Numbered → ℕ → Type 0)
+    (f : Fabric Packet) (r : Rings) (xs ys : List (Player S H)) →
     AllPlayOn shows gives f r xs ys → done_of n xs ≤ done_of n ys
 all_up n shows gives f r [] [] kept = omega arith
 all_up n shows gives f r [] (y ∷ ys) kept = absurd kept
@@ -209,7 +213,8 @@ or_sum x y x' y' false false up to p_is q_is =
     less_false (x + y) (x' + y') (omega (arith, one, two, up, to))
 
 -- both halves
-pub did_halves : {S B : Type 0} (n : ℕ) (shows : S → SourceView B) (gives : S → List Numbered → ℕ → Type 0) (f : Fabric Packet) (r : Rings) (xs ys xs' ys' : List (Player S)) (p q : Bool) →
+pub did_halves : {S B H : Type 0} (n : ℕ) (shows : S → SourceView B) (gives : S → List Numbered → ℕ → Type 0)
+    (f : Fabric Packet) (r : Rings) (xs ys xs' ys' : List (Player S H)) (p q : Bool) →
     AllPlayOn shows gives f r xs xs' → AllPlayOn shows gives f r ys ys' → p ≡ did_any n xs xs' → q ≡ did_any n ys ys' →
     (p || q) ≡ did_any n (xs ++ ys) (xs' ++ ys')
 did_halves n shows gives f r xs ys xs' ys' p q one two p_is q_is =
@@ -219,35 +224,36 @@ did_halves n shows gives f r xs ys xs' ys' p q one two p_is q_is =
     (all_up n shows gives f r ys ys' two) p_is q_is))
 
 -- from one to the next, of many
-pub did_any_on : {S B : Type 0} (n : ℕ) (shows : S → SourceView B) (gives : S → List Numbered → ℕ → Type 0) (f : Fabric Packet) (r : Rings) (xs ys zs : List (Player S)) (p q : Bool) →
+pub did_any_on : {S B H : Type 0} (n : ℕ) (shows : S → SourceView B) (gives : S → List Numbered → ℕ → Type 0)
+    (f : Fabric Packet) (r : Rings) (xs ys zs : List (Player S H)) (p q : Bool) →
     AllPlayOn shows gives f r xs ys → AllPlayOn shows gives f r ys zs → p ≡ did_any n xs ys → q ≡ did_any n ys zs →
     (p || q) ≡ did_any n xs zs
 did_any_on n shows gives f r xs ys zs p q one two = or_less (done_of n xs) (done_of n ys) (done_of n zs) p q
     (all_up n shows gives f r xs ys one) (all_up n shows gives f r ys zs two)
 
-pub did_sole : {S : Type 0} (n : ℕ) (x y : Player S) → did n x.actor y.actor ≡ did_any n (x ∷ []) (y ∷ [])
+pub did_sole : {S H : Type 0} (n : ℕ) (x y : Player S H) → did n x.actor y.actor ≡ did_any n (x ∷ []) (y ∷ [])
 did_sole n x y =
     let one : done_by n x.actor + 0 ≡ done_by n x.actor = omega arith in
     let two : done_by n y.actor + 0 ≡ done_by n y.actor = omega arith in
     sym (ap (λ (k : ℕ). nat_lt k (done_by n y.actor + 0)) one ∙ ap (λ (k : ℕ). nat_lt (done_by n x.actor) k) two)
 
 -- what was done is what grew
-abbrev long : Actor → ℕ
+abbrev long : {H : Type 0} → Actor H → ℕ
 long a = length a.process.rank.events
 
-abbrev sents : ℕ → Actor → ℕ
+abbrev sents : {H : Type 0} → ℕ → Actor H → ℕ
 sents n a = total n (λ j. sent_by a.port j)
 
-abbrev takes : ℕ → Actor → ℕ
+abbrev takes : {H : Type 0} → ℕ → Actor H → ℕ
 takes n a = total n (λ j. taken_by a.port j)
 
-abbrev pushes : ℕ → Actor → ℕ
+abbrev pushes : {H : Type 0} → ℕ → Actor H → ℕ
 pushes n a = total n (λ j. length (ring.pushed_to a.ring j))
 
-abbrev pulls : ℕ → Actor → ℕ
+abbrev pulls : {H : Type 0} → ℕ → Actor H → ℕ
 pulls n a = total n (λ j. length (ring.pulled_from a.ring j))
 
-grew_of : (n : ℕ) (a b : Actor) → done_by n a < done_by n b → Grew n a b
+grew_of : {H : Type 0} → (n : ℕ) (a b : Actor H) → done_by n a < done_by n b → Grew n a b
 grew_of n a b more = by_events (dec_le (suc (long a)) (long b)) where
   by_pulled : long b ≤ long a → sents n b ≤ sents n a → takes n b ≤ takes n a → pushes n b ≤ pushes n a → Grew n a b
   by_pulled v w x y =
@@ -275,19 +281,20 @@ grew_of n a b more = by_events (dec_le (suc (long a)) (long b)) where
   by_events (yes h) = events h
   by_events (no h) = by_sent (omega (arith, h)) (dec_le (suc (sents n a)) (sents n b))
 
-pub did_iff : (n : ℕ) (a b : Actor) → Grows a b → (did n a b ≡ true) ↔ Grew n a b
+pub did_iff : {H : Type 0} → (n : ℕ) (a b : Actor H) → Grows a b → (did n a b ≡ true) ↔ Grew n a b
 did_iff n a b up = (
   λ is. grew_of n a b (is_less (done_by n a) (done_by n b) (sym is)),
   λ grew. sym (did_more n a b up grew),
 )
 
 -- and of many
-some_grew : {S B : Type 0} (n : ℕ) (shows : S → SourceView B) (gives : S → List Numbered → ℕ → Type 0) (f : Fabric Packet) (r : Rings) (xs ys : List (Player S)) → AllPlayOn shows gives f r xs ys →
+some_grew : {S B H : Type 0} (n : ℕ) (shows : S → SourceView B) (gives : S → List Numbered → ℕ → Type 0)
+    (f : Fabric Packet) (r : Rings) (xs ys : List (Player S H)) → AllPlayOn shows gives f r xs ys →
     done_of n xs < done_of n ys → SomeGrew n xs ys
 some_grew n shows gives f r [] [] kept more = absurd (omega (arith, more))
 some_grew n shows gives f r [] (y ∷ ys) kept more = absurd kept
 some_grew n shows gives f r (x ∷ xs) [] kept more = absurd kept
-some_grew {S} n shows gives f r (x ∷ xs) (y ∷ ys) kept more =
+some_grew {S} {B} {H} n shows gives f r (x ∷ xs) (y ∷ ys) kept more =
     by (some_grew n shows gives f r xs ys kept.1) (dec_le (suc (done_by n x.actor)) (done_by n y.actor)) where
       by : (done_of n xs < done_of n ys → SomeGrew n xs ys) → Dec (suc (done_by n x.actor) ≤ done_by n y.actor) →
           SomeGrew n (x ∷ xs) (y ∷ ys)
@@ -308,24 +315,26 @@ some_grew {S} n shows gives f r (x ∷ xs) (y ∷ ys) kept more =
         grew = one.grew;
       }
 
-some_did : {S B : Type 0} (n : ℕ) (shows : S → SourceView B) (gives : S → List Numbered → ℕ → Type 0) (f : Fabric Packet) (r : Rings) (xs ys : List (Player S)) (k : ℕ) (a b : Player S) →
+some_did : {S B H : Type 0} (n : ℕ) (shows : S → SourceView B) (gives : S → List Numbered → ℕ → Type 0)
+    (f : Fabric Packet) (r : Rings) (xs ys : List (Player S H)) (k : ℕ) (a b : Player S H) →
     AllPlayOn shows gives f r xs ys → slice_get xs k ≡ Some a → slice_get ys k ≡ Some b → Grew n a.actor b.actor →
     done_of n xs < done_of n ys
 some_did n shows gives f r [] [] k a b kept was is grew = cc
 some_did n shows gives f r [] (y ∷ ys) k a b kept was is grew = absurd kept
 some_did n shows gives f r (x ∷ xs) [] k a b kept was is grew = absurd kept
-some_did {S} n shows gives f r (x ∷ xs) (y ∷ ys) zero a b kept was is grew =
-    let here : Grew n x.actor y.actor = subst (λ (z : Player S). Grew n z.actor y.actor) (one (sym was))
-    (subst (λ (z : Player S). Grew n a.actor z.actor) (one (sym is)) grew) in
+some_did {S} {B} {H} n shows gives f r (x ∷ xs) (y ∷ ys) zero a b kept was is grew =
+    let here : Grew n x.actor y.actor = subst (λ (z : Player S H). Grew n z.actor y.actor) (one (sym was))
+    (subst (λ (z : Player S H). Grew n a.actor z.actor) (one (sym is)) grew) in
     let less = is_less (done_by n x.actor) (done_by n y.actor) (did_more n x.actor y.actor kept.0.grows here) in
     let rest = all_up n shows gives f r xs ys kept.1 in omega (arith, less, rest) where
-      one : {u v : Player S} → Some u ≡ Some v → u ≡ v
+      one : {u v : Player S H} → Some u ≡ Some v → u ≡ v
       one e = cc
 some_did n shows gives f r (x ∷ xs) (y ∷ ys) (suc k) a b kept was is grew =
     let rest = some_did n shows gives f r xs ys k a b kept.1 was is grew in
     let up = done_up n x.actor y.actor kept.0.grows in omega (arith, rest, up)
 
-pub did_any_iff : {S B : Type 0} (n : ℕ) (shows : S → SourceView B) (gives : S → List Numbered → ℕ → Type 0) (f : Fabric Packet) (r : Rings) (xs ys : List (Player S)) →
+pub did_any_iff : {S B H : Type 0} (n : ℕ) (shows : S → SourceView B) (gives : S → List Numbered → ℕ → Type 0)
+    (f : Fabric Packet) (r : Rings) (xs ys : List (Player S H)) →
     AllPlayOn shows gives f r xs ys → (did_any n xs ys ≡ true) ↔ SomeGrew n xs ys
 did_any_iff n shows gives f r xs ys kept = (
   λ is. some_grew n shows gives f r xs ys kept (is_less (done_of n xs) (done_of n ys) (sym is)),
@@ -334,8 +343,8 @@ did_any_iff n shows gives f r xs ys kept = (
 )
 
 -- of a call that tells whether something was done
-pub grew_where_moved : {E : Type 0} {S B : Type 0} (result : Result Bool E) (n : ℕ) (shows : S → SourceView B)
-    (gives : S → List Numbered → ℕ → Type 0) (f : Fabric Packet) (r : Rings) (x y : Player S) →
+pub grew_where_moved : {E : Type 0} {S B H : Type 0} (result : Result Bool E) (n : ℕ) (shows : S → SourceView B)
+    (gives : S → List Numbered → ℕ → Type 0) (f : Fabric Packet) (r : Rings) (x y : Player S H) →
     IfOk result (λ _. PlaysOn shows gives f r x y) → IfOk result (λ moved. moved ≡ did n x.actor y.actor) →
     IfOk result (λ moved. (moved ≡ true) ↔ Grew n x.actor y.actor)
 grew_where_moved (Err e) n shows gives f r x y kept moved = tt
@@ -344,8 +353,8 @@ grew_where_moved (Ok m) n shows gives f r x y kept moved = (
   λ grew. moved ∙ (did_iff n x.actor y.actor kept.grows).1 grew,
 )
 
-pub some_grew_where_moved : {E : Type 0} {S B : Type 0} (result : Result Bool E) (n : ℕ) (shows : S → SourceView B)
-    (gives : S → List Numbered → ℕ → Type 0) (f : Fabric Packet) (r : Rings) (xs ys : List (Player S)) →
+pub some_grew_where_moved : {E : Type 0} {S B H : Type 0} (result : Result Bool E) (n : ℕ) (shows : S → SourceView B)
+    (gives : S → List Numbered → ℕ → Type 0) (f : Fabric Packet) (r : Rings) (xs ys : List (Player S H)) →
     IfOk result (λ _. AllPlayOn shows gives f r xs ys) → IfOk result (λ moved. moved ≡ did_any n xs ys) →
     IfOk result (λ moved. (moved ≡ true) ↔ SomeGrew n xs ys)
 some_grew_where_moved (Err e) n shows gives f r xs ys kept moved = tt

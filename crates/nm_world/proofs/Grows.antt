@@ -137,7 +137,7 @@ lane_kept e e' g j k low same is =
           (sym (get_or-set_other e.lanes j k (g (lane e j)) new_lane ne)) (refl, refl)
 
 -- actors
-pub grows_same : (a : Actor) → Grows a a
+pub grows_same : {H : Type 0} → (a : Actor H) → Grows a a
 grows_same a = record {
   events = ([], sym (append-nil a.process.rank.events));
   port = port_same a.port;
@@ -152,7 +152,7 @@ lane_on x y z one two = record {
   empty = let p = one.empty in let q = two.empty in omega (arith, p, q);
 }
 
-pub grows_on : (a b c : Actor) → Grows a b → Grows b c → Grows a c
+pub grows_on : {H : Type 0} → (a b c : Actor H) → Grows a b → Grows b c → Grows a c
 grows_on a b c one two = record {
   events = (
     one.events.0 ++ two.events.0,
@@ -163,7 +163,7 @@ grows_on a b c one two = record {
   ring = λ k. lane_on _ _ _ (one.ring k) (two.ring k);
 }
 
-pub kept_on : (f : Fabric Packet) (r : Rings) (a b c : Actor) → Continues f r a b → Continues f r b c →
+pub kept_on : {H : Type 0} → (f : Fabric Packet) (r : Rings) (a b c : Actor H) → Continues f r a b → Continues f r b c →
     Continues f r a c
 kept_on f r a b c one two = record {
   ports = two.ports;
@@ -172,5 +172,5 @@ kept_on f r a b c one two = record {
   grows = grows_on a b c one.grows two.grows;
 }
 
-pub kept_same : (f : Fabric Packet) (r : Rings) (a : Actor) → HasPorts f r a → Continues f r a a
+pub kept_same : {H : Type 0} → (f : Fabric Packet) (r : Rings) (a : Actor H) → HasPorts f r a → Continues f r a a
 kept_same f r a p = record { ports = p; stands = λ commands last at. at; seat = refl; grows = grows_same a }

@@ -104,7 +104,8 @@ queue_within b p p' q' q up missed on =
     ⊎_elim (λ h. inl (rose_within _ _ _ _ (up.queues b).head h (on.queues b).head))
     (λ h. inr (rose_within _ _ _ _ (up.queues b).link h (on.queues b).link)) missed
 
-pub none_within : (n : ℕ) (p p' q' q : Port Packet) → PortGrows p p' → GaveNone n p' q' → PortGrows q' q → GaveNone n p q
+pub none_within : (n : ℕ) (p p' q' q : Port Packet) → PortGrows p p' → GaveNone n p' q' → PortGrows q' q →
+    GaveNone n p q
 none_within n p p' q' q up none on = record {
   boxes = λ i low. rose_within _ _ _ _ (up.missed i) (none.boxes i low) (on.missed i);
   queue = queue_within receive_queue p p' q' q up none.queue on;
@@ -137,7 +138,8 @@ came_back p q l len same low miss =
           (miss_rose free_queue (tried (is_short len) l.to e) (knows q) miss);
     }
 
-pub back_within : (a a' b' b : Actor) → PortGrows a.port a'.port → a'.process ≡ a.process → FirstNotSent a' b' →
+pub back_within : {H : Type 0} → (a a' b' b : Actor H) → PortGrows a.port a'.port → a'.process ≡ a.process →
+    FirstNotSent a' b' →
     PortGrows b'.port b.port → FirstNotSent a b
 back_within a a' b' b up same back on =
     by (slice_get a.process.rank.sending.outbox.letters 0)
@@ -165,7 +167,7 @@ lane_empty e e' j low is =
     ∙ ap (λ (l : Lane). l.empty) (get_or-set_same e.lanes j (one_empty (lane e j)) new_lane low) in
     omega (arith, one)
 
-pub piece_back : (a b : Actor) (to : ℕ) (piece : Piece) →
+pub piece_back : {H : Type 0} → (a b : Actor H) (to : ℕ) (piece : Piece) →
     Some (offered (to, piece)) ≡ next_offered a.process.rank.sending.offers →
     to < length (ring.knows a.ring).lanes → ring.knows b.ring ≡ with_lane one_full to (ring.knows a.ring) →
     NextNotPushed a b
@@ -174,7 +176,7 @@ piece_back a b to piece next low full =
     (lane_full (ring.knows a.ring) (ring.knows b.ring) to low full)
 
 -- where a piece goes to this rank, its place was found full
-pub place_full : (a b : Actor) (to : ℕ) →
+pub place_full : {H : Type 0} → (a b : Actor H) (to : ℕ) →
     Some to ≡ option_map (λ x. x.to) (next_offered a.process.rank.sending.offers) →
     to < length (ring.knows a.ring).lanes → ring.knows b.ring ≡ with_lane one_full to (ring.knows a.ring) →
     NextNotPushed a b
@@ -189,7 +191,8 @@ place_full a b to goes low full = by (next_offered a.process.rank.sending.offers
       (lane_full (ring.knows a.ring) (ring.knows b.ring) to low full)
 
 -- and where it goes to none, there is none
-pub none_back : (a : Actor) → None ≡ option_map (λ x. x.to) (next_offered a.process.rank.sending.offers) →
+pub none_back : {H : Type 0} → (a : Actor H) →
+    None ≡ option_map (λ x. x.to) (next_offered a.process.rank.sending.offers) →
     NextNotPushed a a
 none_back a goes = by (next_offered a.process.rank.sending.offers) goes where
   clash : (k : ℕ) → None ≡ Some k → ⊥
@@ -200,11 +203,12 @@ none_back a goes = by (next_offered a.process.rank.sending.offers) goes where
   by None is = tt
   by (Some x) is = absurd (clash x.to is)
 
-pub no_piece : (a b : Actor) (sender : ℕ) → sender < length (ring.knows a.ring).lanes →
+pub no_piece : {H : Type 0} → (a b : Actor H) (sender : ℕ) → sender < length (ring.knows a.ring).lanes →
     ring.knows b.ring ≡ with_lane one_empty sender (ring.knows a.ring) → NoPiece a b sender
 no_piece a b sender low empty due = lane_empty (ring.knows a.ring) (ring.knows b.ring) sender low empty
 
-pub piece_within : (a a' b' b : Actor) → RingGrows a.ring a'.ring → a'.process ≡ a.process → NextNotPushed a' b' →
+pub piece_within : {H : Type 0} → (a a' b' b : Actor H) → RingGrows a.ring a'.ring → a'.process ≡ a.process →
+    NextNotPushed a' b' →
     RingGrows b'.ring b.ring → NextNotPushed a b
 piece_within a a' b' b up same back on =
     by (next_offered a.process.rank.sending.offers)
@@ -215,14 +219,14 @@ piece_within a a' b' b up same back on =
       by None back = tt
       by (Some o) back = let x = (up o.to).full in let y = (on o.to).full in omega (arith, x, back, y)
 
-pub pieces_within : (a a' b' b : Actor) (i : ℕ) → RingGrows a.ring a'.ring → a'.process ≡ a.process →
+pub pieces_within : {H : Type 0} → (a a' b' b : Actor H) (i : ℕ) → RingGrows a.ring a'.ring → a'.process ≡ a.process →
     NoPiece a' b' i → RingGrows b'.ring b.ring → NoPiece a b i
 pieces_within a a' b' b i up same none on due =
     let rose = none (subst (λ (v : ProcessView). IsDue v.rank i) (sym same) due) in
     let x = (up i).empty in let y = (on i).empty in omega (arith, x, rose, y)
 
 -- what was idle from a later moment on was so from the first
-pub idle_before : (a b c : Actor) → Grows a b → b.process ≡ a.process → Idle b c → Idle a c
+pub idle_before : {H : Type 0} → (a b c : Actor H) → Grows a b → b.process ≡ a.process → Idle b c → Idle a c
 idle_before a b c up same idle = record {
   process = idle.process ∙ same;
   polled = none_within a.process.rank.sizes.ranks a.port b.port c.port c.port up.port
@@ -233,25 +237,26 @@ idle_before a b c up same idle = record {
       (idle.pieces i (subst (λ (v : ProcessView). i < v.rank.sizes.ranks) (sym same) low)) (ring_same c.ring);
 }
 
-pub stepped_on : (p q : Bool) (a b c : Actor) → Stepped p a b → Stepped q b c → Stepped (p || q) a c
+pub stepped_on : {H : Type 0} → (p q : Bool) (a b c : Actor H) → Stepped p a b → Stepped q b c → Stepped (p || q) a c
 stepped_on p q a b c one two = record {
   at = two.at ∙ one.at;
   still = λ none. let both = neither p q none in two.still both.1 ∙ one.still both.0;
   worn = λ worn. let same = one.worn worn in
-      two.worn (λ fresh. worn (subst (λ (x : Actor). IsFresh x.process.rank) same fresh)) ∙ same;
+      two.worn (λ fresh. worn (subst (λ (x : Actor _). IsFresh x.process.rank) same fresh)) ∙ same;
 }
 
 -- nothing was done
-pub stepped_none : (a : Actor) → Stepped false a a
+pub stepped_none : {H : Type 0} → (a : Actor H) → Stepped false a a
 stepped_none a = record { at = refl; still = λ none. refl; worn = λ worn. refl }
 
 -- a step of a rank that is not worn
-pub stepped_fresh : (p : Bool) (a b : Actor) → IsFresh a.process.rank → b.process.at ≡ a.process.at →
+pub stepped_fresh : {H : Type 0} → (p : Bool) (a b : Actor H) → IsFresh a.process.rank → b.process.at ≡ a.process.at →
     (p ≡ false → b.process ≡ a.process) → Stepped p a b
 stepped_fresh p a b fresh at still = record { at = at; still = still; worn = λ worn. absurd (worn fresh) }
 
 -- pieces of one rank more
-pub more_none : (a b d : Actor) (sender i : ℕ) → Grows a b → Grows b d → b.process ≡ a.process → i < sender + 1 →
+pub more_none : {H : Type 0} → (a b d : Actor H) (sender i : ℕ) → Grows a b → Grows b d → b.process ≡ a.process →
+    i < sender + 1 →
     (i < sender → NoPiece a b i) → NoPiece b d sender → NoPiece a d i
 more_none a b d sender i one two same low before last = by (ℕ_discrete i sender) where
   by : Dec (i ≡ sender) → NoPiece a d i
@@ -260,7 +265,7 @@ more_none a b d sender i one two same low before last = by (ℕ_discrete i sende
   by (no ne) = pieces_within a a b d i (ring_same a.ring) refl (before (omega (arith, low, ne))) two.ring
 
 -- what was idle up to an earlier moment is so up to a later one
-pub idle_after : (a b c : Actor) → Idle a b → Grows b c → c.process ≡ b.process → Idle a c
+pub idle_after : {H : Type 0} → (a b c : Actor H) → Idle a b → Grows b c → c.process ≡ b.process → Idle a c
 idle_after a b c idle up same = record {
   process = same ∙ idle.process;
   polled = none_within a.process.rank.sizes.ranks a.port a.port b.port c.port (port_same a.port) idle.polled up.port;

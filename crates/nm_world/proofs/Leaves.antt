@@ -68,14 +68,14 @@ left_pieces to j p l = by (to == j) where
   by true = refl
   by false = refl
 
-pub send_on : SendCarries → (commands : List Numbered) (last : ℕ) (a : Actor) (v : ProcessView)
+pub send_on : {H : Type 0} → SendCarries → (commands : List Numbered) (last : ℕ) (a : Actor H) (v : ProcessView)
     (port : Port Packet) (way : Path) (fits : Bool) (to : ℕ) (p : Packet) (events : List Event)
     (s : ActorInvariant commands last a) → port.rank ≡ a.port.rank → SameTaken a.port port →
     SendsBy way fits to (parcel_of p) a.port port → p.seq ≡ sent_by a.port to →
     IsWorking a.process.rank.sizes commands (last + 1) v →
     IsOf a.process.rank.sizes commands a.port.rank v.rank
     (with_moment (with_packet_left s.past (to, p)) (record { cause = Acted; events = events })) →
-    ActorInvariant commands last (record { process = v; port = port; ring = a.ring; places = tt })
+    ActorInvariant {H = H} commands last (record { process = v; port = port; ring = a.ring; places = tt })
 send_on law commands last a v port way fits to p events s rank same sends number work on =
     let m : LogEntry = record { cause = Acted; events = events } in
     let now = with_moment (with_packet_left s.past (to, p)) m in
@@ -106,13 +106,13 @@ piece_packets j piece l = by (piece.0 == j) where
   by true = refl
   by false = refl
 
-pub push_on : (commands : List Numbered) (last : ℕ) (a : Actor) (v : ProcessView)
+pub push_on : {H : Type 0} → (commands : List Numbered) (last : ℕ) (a : Actor H) (v : ProcessView)
     (port : RingPort) (to : ℕ) (q : Piece) (events : List Event) (s : ActorInvariant commands last a) →
     to < length (ring.knows a.ring).lanes → Pushes to q a.ring port →
     IsWorking a.process.rank.sizes commands (last + 1) v →
     IsOf a.process.rank.sizes commands a.port.rank v.rank
     (with_moment (with_piece_left s.past (to, q)) (record { cause = Acted; events = events })) →
-    ActorInvariant commands last (record { process = v; port = a.port; ring = port; places = tt })
+    ActorInvariant {H = H} commands last (record { process = v; port = a.port; ring = port; places = tt })
 push_on commands last a v port to q events s within knew work on =
     let m : LogEntry = record { cause = Acted; events = events } in
     let now = with_moment (with_piece_left s.past (to, q)) m in

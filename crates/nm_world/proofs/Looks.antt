@@ -122,11 +122,11 @@ looks_ran commands a b one answers run =
     ∙ sym (ap (λ (o : Option Numbered). cond (option_map_or (λ c. is_look c.command) o false) 1 0) run.next.next))
 
 -- one step of a loop that takes packets, and its last one
-pub ranks_same : (f : Fabric Packet) (r : Rings) (a b : Actor) → Continues f r a b →
+pub ranks_same : {H : Type 0} → (f : Fabric Packet) (r : Rings) (a b : Actor H) → Continues f r a b →
     b.process.rank.sizes.ranks ≡ a.process.rank.sizes.ranks
 ranks_same f r a b kept = ap (λ (s : Seat). s.sizes.ranks) kept.seat
 
-pub polled_by_step : (here : Environment) (a b d : Actor) (q : Bool) →
+pub polled_by_step : {H : Type 0} → (here : Environment) (a b d : Actor H) (q : Bool) →
     Continues here.fabric here.rings a b → q ≡ true → Moves here q b d →
     PolledUnlessWorn b.process.rank.sizes.ranks 1 b d → Polled a.process.rank.sizes.ranks 1 a.port d.port
 polled_by_step here a b d q kept is moves = ⊎_elim
@@ -136,7 +136,7 @@ polled_by_step here a b d q kept is moves = ⊎_elim
     (λ worn. absurd (clash (sym is ∙ moves.moved ∙ ap (did here.fabric.ranks b) worn.1
     ∙ sym (did_same here.fabric.ranks b))))
 
-pub polled_last : (here : Environment) (k : ℕ) (a b d : Actor) → HasLooped here k a b →
+pub polled_last : {H : Type 0} → (here : Environment) (k : ℕ) (a b d : Actor H) → HasLooped here k a b →
     (0 < k → Polled a.process.rank.sizes.ranks 1 a.port b.port) → Grows b d →
     PolledUnlessWorn b.process.rank.sizes.ranks 1 b d → PolledUnlessWorn a.process.rank.sizes.ranks 1 a d
 polled_last here k a b d looped before up = ⊎_elim
@@ -150,24 +150,25 @@ polled_last here k a b d looped before up = ⊎_elim
           up.port)
       by worn (no none) =
           let same = looped.first (omega (arith, none)) in
-          inr (subst (λ (x : Actor). ¬ IsFresh x.process.rank) same worn.0, worn.1 ∙ same)
+          inr (subst (λ (x : Actor _). ¬ IsFresh x.process.rank) same worn.0, worn.1 ∙ same)
 
 -- the looks of an actor that ran no command
-pub looks_kept : (commands : List Numbered) (last : ℕ) (f : Fabric Packet) (r : Rings) (a b : Actor) →
+pub looks_kept : {H : Type 0} → (commands : List Numbered) (last : ℕ) (f : Fabric Packet) (r : Rings) (a b : Actor H) →
     ActorInvariant commands last a → Continues f r a b → b.process.at ≡ a.process.at →
     looks_in commands b.process.rank.events ≡ looks_in commands a.process.rank.events
 looks_kept commands last f r a b s on at =
     looks_same commands a.process.at b.process.at a.process.rank.events b.process.rank.events s.is.work.answers
     (on.stands commands last s).is.work.answers at
 
-looks_front : (commands : List Numbered) (a b : Actor) (g : Grows a b) →
+looks_front : {H : Type 0} → (commands : List Numbered) (a b : Actor H) (g : Grows a b) →
     looks_in commands b.process.rank.events
     ≡ looks_in commands a.process.rank.events + looks_in commands g.events.0
 looks_front commands a b g =
     ap (looks_in commands) g.events.1 ∙ looks_more commands a.process.rank.events g.events.0
 
 -- before a command that did not run
-pub looked_last : (commands : List Numbered) (last : ℕ) (f : Fabric Packet) (r : Rings) (a b c : Actor) →
+pub looked_last : {H : Type 0} →
+    (commands : List Numbered) (last : ℕ) (f : Fabric Packet) (r : Rings) (a b c : Actor H) →
     ActorInvariant commands last b → Continues f r b c → c.process.at ≡ b.process.at → PolledBefore commands a b →
     PolledBefore commands a c
 looked_last commands last f r a b c s two at before looks is =
@@ -176,7 +177,8 @@ looked_last commands last f r a b c s two at before looks is =
     (before looks (sym same ∙ is)) two.grows.port
 
 -- before one that ran, where the actor stood at m and at d
-pub looked_more : (commands : List Numbered) (last : ℕ) (f : Fabric Packet) (r : Rings) (a b m d : Actor) →
+pub looked_more : {H : Type 0} →
+    (commands : List Numbered) (last : ℕ) (f : Fabric Packet) (r : Rings) (a b m d : Actor H) →
     Grows a b → b.process.rank.sizes.ranks ≡ a.process.rank.sizes.ranks →
     ActorInvariant commands last b → Continues f r b m → Grows m d → m.process.at ≡ b.process.at →
     Answers commands d.process.at d.process.rank.events → PolledBefore commands a b →
@@ -198,10 +200,10 @@ looked_more commands last f r a b m d one ranks s two three at answers before lo
     (polled_on n so_far next a.port b.port m.port (before so_far first)
     (subst (λ (k : ℕ). Polled k next b.port m.port) ranks polled) two.grows.port)
     three.port))
-    (λ worn. absurd (worn.0 (subst (λ (x : Actor). IsFresh x.process.rank) worn.1 fresh))) looked
+    (λ worn. absurd (worn.0 (subst (λ (x : Actor _). IsFresh x.process.rank) worn.1 fresh))) looked
 
 -- at the start
-pub looked_none : (commands : List Numbered) (a : Actor) → PolledBefore commands a a
+pub looked_none : {H : Type 0} → (commands : List Numbered) (a : Actor H) → PolledBefore commands a a
 looked_none commands a looks is =
     let none : 0 ≡ looks = omega (arith, is) in
     subst (λ (k : ℕ). Polled a.process.rank.sizes.ranks k a.port a.port) none

@@ -12,7 +12,7 @@ use Rattle.nm_world.proofs.Moves.{moves_none, moves_on}
 use Rattle.nm_types.proofs.TruthLemmas.{or_right}
 
 -- after k steps that moved something
-pub record HasLooped (here : Environment) (k : ℕ) (a b : Actor) : Type 0 where
+pub record HasLooped {H : Type 0} (here : Environment) (k : ℕ) (a b : Actor H) : Type 0 where
   pub moves : Moves here (nat_lt 0 k) a b
   pub first : k ≡ 0 → b ≡ a
 
@@ -22,11 +22,11 @@ some_more k = grind (arith, nat_tests)
 pub is_first : (k : ℕ) → nat_lt 0 k ≡ false → k ≡ 0
 is_first k none = let low : k ≤ 0 = grind (arith, nat_tests) in omega (arith, low)
 
-module _ (here : Environment) (a : Actor) where
+module _ {H : Type 0} (here : Environment) (a : Actor H) where
   pub loop_none : HasPorts here.fabric here.rings a → HasLooped here 0 a a
   loop_none s = record { moves = moves_none here a s; first = λ e. refl }
 
-  pub loop_more : (k : ℕ) (b c : Actor) (q : Bool) → q ≡ true → HasLooped here k a b → Moves here q b c →
+  pub loop_more : (k : ℕ) (b c : Actor H) (q : Bool) → q ≡ true → HasLooped here k a b → Moves here q b c →
       HasLooped here (k + 1) a c
   loop_more k b c q is before moves = record {
     moves = subst (λ (p : Bool). Moves here p a c) (or_right (nat_lt 0 k) q is ∙ sym (some_more k))
@@ -35,11 +35,11 @@ module _ (here : Environment) (a : Actor) where
   }
 
   -- with a last step that moved nothing
-  pub record HasEnded (k : ℕ) (b c : Actor) : Type 0 where
+  pub record HasEnded (k : ℕ) (b c : Actor H) : Type 0 where
     pub moves : Moves here (nat_lt 0 k) a c
     pub sole : nat_lt 0 k ≡ false → b ≡ a
 
-  pub loop_last : (k : ℕ) (b c : Actor) (q : Bool) → q ≡ false → HasLooped here k a b → Moves here q b c →
+  pub loop_last : (k : ℕ) (b c : Actor H) (q : Bool) → q ≡ false → HasLooped here k a b → Moves here q b c →
       HasEnded k b c
   loop_last k b c q none before moves = record {
     moves = subst (λ (p : Bool). Moves here p a c) (sym (or_none (nat_lt 0 k) q none))
@@ -73,12 +73,14 @@ or_swap false false true = refl
 or_swap false false false = refl
 
 -- a worn rank stays as it is
-pub stays_worn : (a b m : Actor) → (¬ IsFresh a.process.rank → b ≡ a) → (¬ IsFresh b.process.rank → m ≡ b) →
+pub stays_worn : {H : Type 0} → (a b m : Actor H) → (¬ IsFresh a.process.rank → b ≡ a) →
+    (¬ IsFresh b.process.rank → m ≡ b) →
     ¬ IsFresh a.process.rank → m ≡ a
 stays_worn a b m one two worn =
-    two (subst (λ (x : Actor). ¬ IsFresh x.process.rank) (sym (one worn)) worn) ∙ one worn
+    two (subst (λ (x : Actor _). ¬ IsFresh x.process.rank) (sym (one worn)) worn) ∙ one worn
 
-pub none_ran : (a b m : Actor) → (¬ IsFresh a.process.rank → b ≡ a) → (¬ IsFresh b.process.rank → m ≡ b) →
+pub none_ran : {H : Type 0} → (a b m : Actor H) → (¬ IsFresh a.process.rank → b ≡ a) →
+    (¬ IsFresh b.process.rank → m ≡ b) →
     ¬ IsFresh a.process.rank → IsFresh m.process.rank → ⊥
 none_ran a b m one two worn fresh =
-    worn (subst (λ (x : Actor). IsFresh x.process.rank) (stays_worn a b m one two worn) fresh)
+    worn (subst (λ (x : Actor _). IsFresh x.process.rank) (stays_worn a b m one two worn) fresh)

@@ -16,15 +16,15 @@ use Rattle.nm_world.proofs.Grows.{grows_same, kept_on, kept_same, lane_kept, por
 use Rattle.nm_world.proofs.Steps.{continues_by}
 use Rattle.nm_world.proofs.Idle.{stepped_fresh, stepped_none, stepped_on}
 
-module _ (here : Environment) where
-  pub moves_none : (a : Actor) → HasPorts here.fabric here.rings a → Moves here false a a
+module _ {H : Type 0} (here : Environment) where
+  pub moves_none : (a : Actor H) → HasPorts here.fabric here.rings a → Moves here false a a
   moves_none a s = record {
     kept = kept_same here.fabric here.rings a s;
     moved = did_same here.fabric.ranks a;
     stepped = stepped_none a;
   }
 
-  pub moves_on : (p q : Bool) (a b c : Actor) → Moves here p a b → Moves here q b c → Moves here (p || q) a c
+  pub moves_on : (p q : Bool) (a b c : Actor H) → Moves here p a b → Moves here q b c → Moves here (p || q) a c
   moves_on p q a b c one two = record {
     kept = kept_on here.fabric here.rings a b c one.kept two.kept;
     moved = did_on here.fabric.ranks a b c p q one.kept.grows two.kept.grows one.moved two.moved;
@@ -32,7 +32,7 @@ module _ (here : Environment) where
   }
 
   -- a ring port that knows of as many pieces as before, of a rank that is not worn
-  still : (a : Actor) (q : RingPort) → IsFresh a.process.rank →
+  still : (a : Actor H) (q : RingPort) → IsFresh a.process.rank →
       (s : HasPorts here.fabric here.rings a) →
       KeepsRingPort here.rings a.ring q → ((k : ℕ) → LaneGrows (lane (ring.knows a.ring) k) (lane (ring.knows q) k)) →
       ((k : ℕ) → ((lane (ring.knows q) k).pushed ≡ (lane (ring.knows a.ring) k).pushed)
@@ -60,7 +60,7 @@ module _ (here : Environment) where
   }
 
   -- one that found its next place full or empty
-  pub port_missed : (a : Actor) (q : RingPort) (g : Lane → Lane) (j : ℕ) → IsFresh a.process.rank →
+  pub port_missed : (a : Actor H) (q : RingPort) (g : Lane → Lane) (j : ℕ) → IsFresh a.process.rank →
       HasPorts here.fabric here.rings a → KeepsRingPort here.rings a.ring q →
       j < length (ring.knows a.ring).lanes → ((l : Lane) → LaneGrows l (g l)) →
       ((l : Lane) → ((g l).pushed ≡ l.pushed) × ((g l).pulled ≡ l.pulled)) →
@@ -69,7 +69,7 @@ module _ (here : Environment) where
       (λ k. lane_kept (ring.knows a.ring) (ring.knows q) g j k low same knew)
 
   -- one that loaded a flag and learnt nothing
-  pub port_looked : (a : Actor) (q : RingPort) → IsFresh a.process.rank →
+  pub port_looked : (a : Actor H) (q : RingPort) → IsFresh a.process.rank →
       HasPorts here.fabric here.rings a → KeepsRingPort here.rings a.ring q →
       ring.knows q ≡ ring.knows a.ring → Moves here false a (record a { ring = q })
   port_looked a q fresh s keeps knew = still a q fresh s keeps

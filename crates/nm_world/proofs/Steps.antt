@@ -44,19 +44,20 @@ use Rattle.nm_world.specs.Actors.{ActorInvariant, Continues, Grows, HasPorts, Is
 use Rattle.nm_types.proofs.NumberLemmas.{same_number, differ}
 use Rattle.nm_channels.proofs.Pulling.{pulled-push}
 
-pub stands_of : (shape : Sizes) (commands : List Numbered) (last : ℕ) (a : Actor) (past : GhostHistory) →
+pub stands_of : {H : Type 0} →
+    (shape : Sizes) (commands : List Numbered) (last : ℕ) (a : Actor H) (past : GhostHistory) →
     a.process.rank.sizes ≡ shape → IsActor shape commands last a past → ActorInvariant commands last a
 stands_of shape commands last a past same is =
     record { past = past; is = subst (λ (s : Sizes). IsActor s commands last a past) (sym same) is }
 
 -- whose actor it is
-pub seat_is : (a : Actor) (v : ProcessView) (rank : ℕ) → rank ≡ a.port.rank →
+pub seat_is : {H : Type 0} → (a : Actor H) (v : ProcessView) (rank : ℕ) → rank ≡ a.port.rank →
     v.rank.sizes ≡ a.process.rank.sizes → ◌≡◌ {A = Seat} (record { rank = rank; sizes = v.rank.sizes }) (seat_of a)
 seat_is a v rank one two = ap (λ (k : ℕ). record { rank = k; sizes = v.rank.sizes }) one
     ∙ ap (λ (s : Sizes). record { rank = a.port.rank; sizes = s }) two
 
 -- an actor whose ports go on, at whatever commands it stands
-pub continues_by : (f : Fabric Packet) (r : Rings) (a b : Actor) (p : HasPorts f r a) → Owns f b.port →
+pub continues_by : {H : Type 0} → (f : Fabric Packet) (r : Rings) (a b : Actor H) (p : HasPorts f r a) → Owns f b.port →
     ring.Owns r b.ring → b.ring.rank ≡ b.port.rank → b.port.hands ≡ 0 → HoldsTheRest b.port → seat_of b ≡ seat_of a →
     Grows a b →
     ((commands : List Numbered) (last : ℕ) → ActorInvariant commands last a → ActorInvariant commands last b) →
@@ -83,11 +84,11 @@ continues_by f r a b p cells rings rank hands rest seat grows stands =
     }
 
 -- one whose port to the fabric goes on
-pub port_goes_on : (f : Fabric Packet) (r : Rings) (a : Actor) (v : ProcessView) (port : Port Packet)
+pub port_goes_on : {H : Type 0} → (f : Fabric Packet) (r : Rings) (a : Actor H) (v : ProcessView) (port : Port Packet)
     (p : HasPorts f r a) {idle : Type 0} → KeepsPort f idle a.port port → HoldsTheRest port →
     v.rank.sizes ≡ a.process.rank.sizes → Grows a (record { process = v; port = port; ring = a.ring; places = tt }) →
     ((commands : List Numbered) (last : ℕ) → ActorInvariant commands last a →
-    ActorInvariant commands last (record { process = v; port = port; ring = a.ring; places = tt })) →
+    ActorInvariant {H = H} commands last (record { process = v; port = port; ring = a.ring; places = tt })) →
     Continues f r a (record { process = v; port = port; ring = a.ring; places = tt })
 port_goes_on f r a v port p keeps rest sizes grows stands =
     let few = keeps.few in
@@ -96,11 +97,11 @@ port_goes_on f r a v port p keeps rest sizes grows stands =
     (p.rank ∙ sym keeps.rank) (omega (arith, few, none)) rest (seat_is a v port.rank keeps.rank sizes) grows stands
 
 -- one whose port to the rings goes on
-pub ring_goes_on : (f : Fabric Packet) (r : Rings) (a : Actor) (v : ProcessView) (port : RingPort)
+pub ring_goes_on : {H : Type 0} → (f : Fabric Packet) (r : Rings) (a : Actor H) (v : ProcessView) (port : RingPort)
     (p : HasPorts f r a) → KeepsRingPort r a.ring port → v.rank.sizes ≡ a.process.rank.sizes →
     Grows a (record { process = v; port = a.port; ring = port; places = tt }) →
     ((commands : List Numbered) (last : ℕ) → ActorInvariant commands last a →
-    ActorInvariant commands last (record { process = v; port = a.port; ring = port; places = tt })) →
+    ActorInvariant {H = H} commands last (record { process = v; port = a.port; ring = port; places = tt })) →
     Continues f r a (record { process = v; port = a.port; ring = port; places = tt })
 ring_goes_on f r a v port p keeps sizes grows stands =
     continues_by f r a (record { process = v; port = a.port; ring = port; places = tt }) p p.cells keeps.owns
@@ -115,7 +116,8 @@ pub record SameGot (e e' : Entry Packet) : Type 0 where
   pub box : e'.got_box ≡ e.got_box
   pub cell : e'.got ≡ e.got
 
-pub sent_same : (e e' : Entry Packet) (to : ℕ) (ps : List Packet) → SameSent e e' → HasSent packet_of e to ps → HasSent packet_of e' to ps
+pub sent_same : (e e' : Entry Packet) (to : ℕ) (ps : List Packet) → SameSent e e' → HasSent packet_of e to ps →
+    HasSent packet_of e' to ps
 sent_same e e' to ps same is =
     record { listed = rw (same.box, same.cell) is.listed; many = rw (same.box, same.cell) is.many }
 
@@ -170,7 +172,7 @@ none_got e e' miss =
     let two = missed_got receive_queue (with_all_missed e) e' miss in record { box = two.box; cell = two.cell }
 
 -- a port that passed nothing on and sent nothing
-pub nothing_carried : (commands : List Numbered) (last : ℕ) (a : Actor) (port : Port Packet)
+pub nothing_carried : {H : Type 0} → (commands : List Numbered) (last : ℕ) (a : Actor H) (port : Port Packet)
     (s : ActorInvariant commands last a) → port.rank ≡ a.port.rank → taken_by port ≡ taken_by a.port →
     SameSent (knows a.port) (knows port) → SameGot (knows a.port) (knows port) →
     ActorInvariant commands last (record a { port = port })
@@ -190,7 +192,7 @@ nothing_carried commands last a port s rank taken sent got = record {
 }
 
 -- a command that ran
-pub run_on : (commands : List Numbered) (before last : ℕ) (a : Actor) (v : ProcessView)
+pub run_on : {H : Type 0} → (commands : List Numbered) (before last : ℕ) (a : Actor H) (v : ProcessView)
     (s : ActorInvariant commands before a) → IsWorking a.process.rank.sizes commands (last + 1) v →
     GoesOn a.process.rank.sizes commands a.port.rank v.rank s.past →
     ActorInvariant commands last (record a { process = v })
@@ -240,11 +242,12 @@ PollCarries = (seen : Parcel Packet → Packet) (f : Fabric Packet) (old new : P
     (ps : List Packet) → Polls f old new p → HasPassed seen (knows old) (taken_by old i) i ps →
     HasPassed seen (knows new) (taken_by new i) i (one_more p.from i (seen p) ps)
 
-pub take_on : PollCarries → (commands : List Numbered) (last : ℕ) (f : Fabric Packet) (a : Actor) (v : ProcessView)
+pub take_on : {H : Type 0} → PollCarries →
+    (commands : List Numbered) (last : ℕ) (f : Fabric Packet) (a : Actor H) (v : ProcessView)
     (port : Port Packet) (p : Parcel Packet) (s : ActorInvariant commands last a) → port.rank ≡ a.port.rank →
     Polls f a.port port p → IsWorking a.process.rank.sizes commands (last + 1) v →
     IsOf a.process.rank.sizes commands a.port.rank v.rank (with_moment s.past (took a.process.rank (packet_of p))) →
-    ActorInvariant commands last (record { process = v; port = port; ring = a.ring; places = tt })
+    ActorInvariant {H = H} commands last (record { process = v; port = port; ring = a.ring; places = tt })
 take_on law commands last f a v port p s rank polls work on =
     let now = with_moment s.past (took a.process.rank (packet_of p)) in
     stands_of a.process.rank.sizes commands last
@@ -266,11 +269,12 @@ take_on law commands last f a v port p s rank polls work on =
           (pulled_still i s.past.log (took a.process.rank (packet_of p)) refl) ∙ s.is.pulled i within;
     })
 
-pub pull_on : (commands : List Numbered) (last : ℕ) (a : Actor) (v : ProcessView) (port : RingPort) (sender : ℕ)
+pub pull_on : {H : Type 0} →
+    (commands : List Numbered) (last : ℕ) (a : Actor H) (v : ProcessView) (port : RingPort) (sender : ℕ)
     (q : Piece) (s : ActorInvariant commands last a) → sender < length (ring.knows a.ring).lanes →
     Pulls sender q a.ring port → IsWorking a.process.rank.sizes commands (last + 1) v →
     IsOf a.process.rank.sizes commands a.port.rank v.rank (with_moment s.past (drew a.process.rank q)) →
-    ActorInvariant commands last (record { process = v; port = a.port; ring = port; places = tt })
+    ActorInvariant {H = H} commands last (record { process = v; port = a.port; ring = port; places = tt })
 pull_on commands last a v port sender q s within pulls work on =
     let now = with_moment s.past (drew a.process.rank q) in
     stands_of a.process.rank.sizes commands last

@@ -31,7 +31,8 @@ what_is (Ran line x) = inl (line, x, refl)
 
 some_ran : (w : Happened) (line : ℕ) (x : Answer) (rest : List ℕ) → w ≡ Ran line x → cons_option (ran_of w) rest ≡ [] →
     ⊥
-some_ran w line x rest is none = let never : line ∷ rest ≡ [] = subst (λ (v : Happened). cons_option (ran_of v) rest ≡ [])
+some_ran w line x rest is none = let never : line ∷ rest ≡ [] = subst
+    (λ (v : Happened). cons_option (ran_of v) rest ≡ [])
     is none in cc
 
 -- where no command ran, no answer was given
@@ -85,7 +86,8 @@ last_is (e ∷ x ∷ h) line one some = by (λ sole last. last_is (x ∷ h) line
       ((l : ℕ) × (a : Answer) × (e.what ≡ Ran l a)) ⊎ ((ran_of e.what ≡ None) × (answer_in e.what ≡ [])) →
       answers_given (e ∷ x ∷ h) ≡ option_to_list (last_answer (e ∷ x ∷ h))
   by later (inl r) = absurd (none_at (x ∷ h) (length (x ∷ h) - 1)
-      (other r.0 (ran_lines (x ∷ h)) (subst (λ (w : Happened). cons_option (ran_of w) (ran_lines (x ∷ h)) ≡ line ∷ []) r.2 one))
+      (other r.0 (ran_lines (x ∷ h))
+      (subst (λ (w : Happened). cons_option (ran_of w) (ran_lines (x ∷ h)) ≡ line ∷ []) r.2 one))
       (subst (λ (o : Option Answer). IsSome o) tail some))
   by later (inr o) = ap (λ (xs : List Answer). xs ++ answers_given (x ∷ h)) o.1
       ∙ later (subst (λ (m : Option ℕ). cons_option m (ran_lines (x ∷ h)) ≡ line ∷ []) o.0 one)
@@ -99,7 +101,8 @@ cancel (x ∷ xs) ys zs same = cancel xs ys zs (rest x same) where
   rest y e = cc
 
 -- a history with no command more
-pub none_more : (h more : List Event) → ran_lines (h ++ more) ≡ ran_lines h → answers_given (h ++ more) ≡ answers_given h
+pub none_more : (h more : List Event) → ran_lines (h ++ more) ≡ ran_lines h →
+    answers_given (h ++ more) ≡ answers_given h
 none_more h more same =
     let none = cancel (ran_lines h) (ran_lines more) []
     (sym (filter_map-append (λ (e : Event). ran_of e.what) h more) ∙ same ∙ sym (append-nil (ran_lines h))) in

@@ -15,7 +15,7 @@ use Rattle.nm_world.proofs.Looks.{looks_kept, looks_more, polled_on, polled_with
 use Rattle.nm_types.specs.declared.packets.Packet.{Packet}
 
 -- it sent from a to s, pushed to p, took to t, pulled to u and ran to e
-module _ (f : Fabric Packet) (r : Rings) (a s p t u e : Actor) (sent : Continues f r a s)
+module _ {H : Type 0} (f : Fabric Packet) (r : Rings) (a s p t u e : Actor H) (sent : Continues f r a s)
     (pushed : Continues f r s p) (took : Continues f r p t) (pulled : Continues f r t u)
     (ran : Grows u e) where
   to_p : Continues f r a p
@@ -53,7 +53,8 @@ module _ (f : Fabric Packet) (r : Rings) (a s p t u e : Actor) (sent : Continues
             ran.ring;
       }
 
-  pub turn_looked : (commands : List Numbered) (last : ℕ) → ActorInvariant commands last a → s.process.at ≡ a.process.at → p.process.at ≡ s.process.at →
+  pub turn_looked : (commands : List Numbered) (last : ℕ) → ActorInvariant commands last a →
+      s.process.at ≡ a.process.at → p.process.at ≡ s.process.at →
       t.process.at ≡ p.process.at → u.process.at ≡ t.process.at →
       PolledUnlessWorn p.process.rank.sizes.ranks 1 p t → (¬ IsFresh t.process.rank → u ≡ t) →
       (¬ IsFresh u.process.rank → e ≡ u) → PolledBefore commands u e → LookedAround commands a e
@@ -76,11 +77,11 @@ module _ (f : Fabric Packet) (r : Rings) (a s p t u e : Actor) (sent : Continues
       (λ worn. absurd (none_worn worn)) once where
         none_worn : (¬ IsFresh p.process.rank) × (t ≡ p) → ⊥
         none_worn worn =
-            let not_t = subst (λ (x : Actor). ¬ IsFresh x.process.rank) (sym worn.1) worn.0 in
+            let not_t = subst (λ (x : Actor H). ¬ IsFresh x.process.rank) (sym worn.1) worn.0 in
             let same_u = pulls not_t in
-            let not_u = subst (λ (x : Actor). ¬ IsFresh x.process.rank) (sym same_u) not_t in
+            let not_u = subst (λ (x : Actor H). ¬ IsFresh x.process.rank) (sym same_u) not_t in
             let same : e ≡ u = runs not_u in
             let first = looks_kept commands last f r a u st to_u (ut ∙ tp ∙ ps ∙ sa) in
             let all = ap (looks_in commands) is ∙ looks_more commands a.process.rank.events more in
-            let still = ap (λ (x : Actor). looks_in commands x.process.rank.events) same in
+            let still = ap (λ (x : Actor H). looks_in commands x.process.rank.events) same in
             omega (arith, first, all, still, some)

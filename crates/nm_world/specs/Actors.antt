@@ -28,7 +28,8 @@ use Rattle.nm_types.specs.declared.packets.Packet.{Packet}
 -- stands at its place in a run of them, where its ports carried what was: the packets that left are those
 -- that its port sent, by number, those that its port passed on are those that it took, and so it is with
 -- the pieces.
-pub record IsActor (shape : Sizes) (commands : List Numbered) (last : ℕ) (a : Actor) (past : GhostHistory)
+pub record IsActor {H : Type 0} (shape : Sizes) (commands : List Numbered) (last : ℕ) (a : Actor H)
+    (past : GhostHistory)
     : Type 0 where
   pub work : IsWorking shape commands (last + 1) a.process
   pub stands : IsOf shape commands a.port.rank a.process.rank past
@@ -44,18 +45,18 @@ pub record IsActor (shape : Sizes) (commands : List Numbered) (last : ℕ) (a : 
       map (λ d. d.piece) (pulled_in from past.log) ≡ ring.pulled_from a.ring from
 
 -- there is what was
-pub record ActorInvariant (commands : List Numbered) (last : ℕ) (a : Actor) : Type 0 where
+pub record ActorInvariant {H : Type 0} (commands : List Numbered) (last : ℕ) (a : Actor H) : Type 0 where
   pub past : GhostHistory
   pub is : IsActor a.process.rank.sizes commands last a past
 
 -- it stands so at some commands
-pub record StandsSome (a : Actor) : Type 0 where
+pub record StandsSome {H : Type 0} (a : Actor H) : Type 0 where
   pub commands : List Numbered
   pub last : ℕ
   pub stands : ActorInvariant commands last a
 
 -- an actor's ports are those of its rank in this fabric and these rings
-pub record HasPorts (f : Fabric Packet) (r : Rings) (a : Actor) : Type 0 where
+pub record HasPorts {H : Type 0} (f : Fabric Packet) (r : Rings) (a : Actor H) : Type 0 where
   pub some : StandsSome a
   pub cells : Owns f a.port
   pub rings : ring.Owns r a.ring
@@ -89,7 +90,7 @@ abbrev pub RingGrows : RingPort → RingPort → Type 0
 RingGrows p q = (k : ℕ) → LaneGrows (lane (ring.knows p) k) (lane (ring.knows q) k)
 
 -- and with an actor, whose history goes on
-pub record Grows (a b : Actor) : Type 0 where
+pub record Grows {H : Type 0} (a b : Actor H) : Type 0 where
   pub events : (more : List Event) × (b.process.rank.events ≡ a.process.rank.events ++ more)
   pub port : PortGrows a.port b.port
   pub ring : RingGrows a.ring b.ring
@@ -100,7 +101,7 @@ pub record Seat : Type 0 where
   pub sizes : Sizes
 
 -- the seat of an actor
-abbrev pub seat_of : Actor → Seat
+abbrev pub seat_of : {H : Type 0} → Actor H → Seat
 seat_of a = record { rank = a.port.rank; sizes = a.process.rank.sizes }
 
 -- what an actor stands in: the fabric and the rings of its run
@@ -109,7 +110,7 @@ pub record Environment : Type 0 where
   pub rings : Rings
 
 -- it is the same actor, it goes on from where it was, and whatever commands it stood at, it does still
-pub record Continues (f : Fabric Packet) (r : Rings) (a b : Actor) : Type 0 where
+pub record Continues {H : Type 0} (f : Fabric Packet) (r : Rings) (a b : Actor H) : Type 0 where
   pub ports : HasPorts f r b
   pub stands :
       (commands : List Numbered) (last : ℕ) → ActorInvariant commands last a → ActorInvariant commands last b
@@ -118,18 +119,18 @@ pub record Continues (f : Fabric Packet) (r : Rings) (a b : Actor) : Type 0 wher
 
 -- how much an actor has done among n ranks: its events, and what its ports sent, passed on,
 -- pushed and pulled
-abbrev pub done_by : ℕ → Actor → ℕ
+abbrev pub done_by : {H : Type 0} → ℕ → Actor H → ℕ
 done_by n a =
     length a.process.rank.events + total n (λ j. sent_by a.port j)
     + total n (λ i. taken_by a.port i) + total n (λ j. length (ring.pushed_to a.ring j))
     + total n (λ i. length (ring.pulled_from a.ring i))
 
 -- whether an actor did something between two moments
-abbrev pub did : ℕ → Actor → Actor → Bool
+abbrev pub did : {H : Type 0} → ℕ → Actor H → Actor H → Bool
 did n a b = nat_lt (done_by n a) (done_by n b)
 
 -- something grew: the history, or what the ports sent, passed on, pushed or pulled
-pub data Grew (n : ℕ) (a b : Actor) : Type 0 where
+pub data Grew {H : Type 0} (n : ℕ) (a b : Actor H) : Type 0 where
   events : length a.process.rank.events < length b.process.rank.events → Grew n a b
   sent : (j : ℕ) → j < n → sent_by a.port j < sent_by b.port j → Grew n a b
   taken : (i : ℕ) → i < n → taken_by a.port i < taken_by b.port i → Grew n a b

@@ -44,11 +44,11 @@ pub record NotSent (p q : Port Packet) (l : Letter) : Type 0 where
   pub queue : QueueMissed free_queue p q
 
 -- `send` handed the first letter back, if there is one
-abbrev pub FirstNotSent : Actor → Actor → Type 0
+abbrev pub FirstNotSent : {H : Type 0} → Actor H → Actor H → Type 0
 FirstNotSent a b = IfSome (slice_get a.process.rank.sending.outbox.letters 0) (NotSent a.port b.port)
 
 -- the next piece, if there is one, was not pushed: its place was found full
-abbrev pub NextNotPushed : Actor → Actor → Type 0
+abbrev pub NextNotPushed : {H : Type 0} → Actor H → Actor H → Type 0
 NextNotPushed a b =
     IfSome (next_offered a.process.rank.sending.offers) (λ o. full_to a.ring o.to < full_to b.ring o.to)
 
@@ -57,12 +57,12 @@ abbrev pub IsDue : RankView → ℕ → Type 0
 IsDue v i = drawn_from v.receiving i < length (due_pieces v.events i)
 
 -- `pull` gave none of the rank i, if a piece of it is due: its place was found empty
-abbrev pub NoPiece : Actor → Actor → ℕ → Type 0
+abbrev pub NoPiece : {H : Type 0} → Actor H → Actor H → ℕ → Type 0
 NoPiece a b i = IsDue a.process.rank i → empty_from a.ring i < empty_from b.ring i
 
 -- Nothing moved, since nothing could: the process is as it was, `poll` gave none, and what was to be sent,
 -- pushed and pulled was not.
-pub record Idle (a b : Actor) : Type 0 where
+pub record Idle {H : Type 0} (a b : Actor H) : Type 0 where
   pub process : b.process ≡ a.process
   pub polled : GaveNone a.process.rank.sizes.ranks a.port b.port
   pub letter : FirstNotSent a b
@@ -70,30 +70,30 @@ pub record Idle (a b : Actor) : Type 0 where
   pub pieces : (i : ℕ) → i < a.process.rank.sizes.ranks → NoPiece a b i
 
 -- whatever commands its source goes on to give, none that is left can go on
-abbrev pub IsStuck : {S : Type 0} → (S → List Numbered → ℕ → Type 0) → Player S → Type 0
+abbrev pub IsStuck : {S H : Type 0} → (S → List Numbered → ℕ → Type 0) → Player S H → Type 0
 IsStuck gives x =
     (commands : List Numbered) (last : ℕ) → gives x.source commands last →
     goes_on commands x.actor.process ≡ false
 
 -- nothing moved, since nothing could, and no command that is left can go on
-pub record Rests {S : Type 0} (gives : S → List Numbered → ℕ → Type 0) (x y : Player S) : Type 0 where
+pub record Rests {S H : Type 0} (gives : S → List Numbered → ℕ → Type 0) (x y : Player S H) : Type 0 where
   pub idle : Idle x.actor y.actor
   pub stuck : IsStuck gives x
 
 -- so it is with each of a list whose rank is not worn
-abbrev pub AllRest : {S : Type 0} → (S → List Numbered → ℕ → Type 0) → List (Player S) → List (Player S) → Type 0
+abbrev pub AllRest : {S H : Type 0} → (S → List Numbered → ℕ → Type 0) → List (Player S H) → List (Player S H) → Type 0
 AllRest gives = AllZip (λ x y. IsFresh x.actor.process.rank → Rests gives x y)
 
 -- One step, or several of a kind, of which none is a command: where it moved nothing the process is as
 -- it was, and a worn rank makes none.
-pub record Stepped (moved : Bool) (a b : Actor) : Type 0 where
+pub record Stepped {H : Type 0} (moved : Bool) (a b : Actor H) : Type 0 where
   pub at : b.process.at ≡ a.process.at
   pub still : moved ≡ false → b.process ≡ a.process
   pub worn : ¬ IsFresh a.process.rank → b ≡ a
 
 -- One step, or several of a kind, of which none is a command: the actor stands, goes on from where it
 -- was, and `some` tells whether it did something.
-pub record Moves (here : Environment) (some : Bool) (a b : Actor) : Type 0 where
+pub record Moves {H : Type 0} (here : Environment) (some : Bool) (a b : Actor H) : Type 0 where
   pub kept : Continues here.fabric here.rings a b
   pub moved : some ≡ did here.fabric.ranks a b
   pub stepped : Stepped some a b

@@ -42,7 +42,7 @@ abbrev pub Polled : ℕ → ℕ → Port Packet → Port Packet → Type 0
 Polled n times p q = (polls_of n p + times ≤ polls_of n q) ⊎ IsAtLast q
 
 -- so it did, or its rank was worn and nothing happened
-abbrev pub PolledUnlessWorn : ℕ → ℕ → Actor → Actor → Type 0
+abbrev pub PolledUnlessWorn : {H : Type 0} → ℕ → ℕ → Actor H → Actor H → Type 0
 PolledUnlessWorn n times a b =
     Polled n times a.port b.port ⊎ ((¬ IsFresh a.process.rank) × (b ≡ a))
 
@@ -59,7 +59,7 @@ pub record RanNext (commands : List Numbered) (a b : ProcessView) : Type 0 where
   pub ran : HasRun command line a b
 
 -- the actor polled at least once for each of these commands that ran and looks at what came
-abbrev pub PolledBefore : List Numbered → Actor → Actor → Type 0
+abbrev pub PolledBefore : {H : Type 0} → List Numbered → Actor H → Actor H → Type 0
 PolledBefore commands a b =
     (looks : ℕ) →
     looks_in commands b.process.rank.events ≡ looks_in commands a.process.rank.events + looks →
@@ -67,7 +67,7 @@ PolledBefore commands a b =
 
 -- Of a turn in which commands ran that look at what came: the actor polled before each of them, and
 -- once before all.
-abbrev pub LookedAround : List Numbered → Actor → Actor → Type 0
+abbrev pub LookedAround : {H : Type 0} → List Numbered → Actor H → Actor H → Type 0
 LookedAround commands a b =
     (more : List Event) → b.process.rank.events ≡ a.process.rank.events ++ more →
     let looks = looks_in commands more in

@@ -26,17 +26,19 @@ pub record BeginsAt {S B : Type 0} (shows : S → SourceView B) (gives : S → L
 
 -- Its actor has its ports, its source counts the commands that ran and was told the answers of its rank's
 -- history, and whatever commands its source goes on to give, its actor stands at them.
-pub record PlayerInvariant {S B : Type 0} (shows : S → SourceView B) (gives : S → List Numbered → ℕ → Type 0)
-    (f : Fabric Packet) (r : Rings) (x : Player S) : Type 0 where
+pub record PlayerInvariant {S B H : Type 0} (shows : S → SourceView B) (gives : S → List Numbered → ℕ → Type 0)
+    (f : Fabric Packet) (r : Rings) (x : Player S H) : Type 0 where
   pub ports : HasPorts f r x.actor
   pub at : (shows x.source).at ≡ x.actor.process.at
   pub ranks : (shows x.source).ranks ≡ x.actor.process.rank.sizes.ranks
   pub told : WasTold (shows x.source) (answers_given x.actor.process.rank.events)
-  pub stands : (commands : List Numbered) (last : ℕ) → gives x.source commands last → ActorInvariant commands last x.actor
+  pub stands : (commands : List Numbered) (last : ℕ) → gives x.source commands last →
+      ActorInvariant commands last x.actor
 
 -- A player's source gives these commands, and counts those that ran, and its actor's process is at work on
 -- them.
-pub record IsAtWork {S B : Type 0} (shows : S → SourceView B) (gives : S → List Numbered → ℕ → Type 0) (x : Player S)
+pub record IsAtWork {S B H : Type 0} (shows : S → SourceView B) (gives : S → List Numbered → ℕ → Type 0)
+    (x : Player S H)
     (commands : List Numbered) : Type 0 where
   pub last : ℕ
   pub given : gives x.source commands last
@@ -62,8 +64,8 @@ pub record GoesOn {S B : Type 0} (shows : S → SourceView B) (gives : S → Lis
   pub hears : is_some (shows t).told ≡ is_some (shows s).told
 
 -- it is the same player, it stands, and it and its source go on from where they were
-pub record PlaysOn {S B : Type 0} (shows : S → SourceView B) (gives : S → List Numbered → ℕ → Type 0)
-    (f : Fabric Packet) (r : Rings) (x y : Player S) : Type 0 where
+pub record PlaysOn {S B H : Type 0} (shows : S → SourceView B) (gives : S → List Numbered → ℕ → Type 0)
+    (f : Fabric Packet) (r : Rings) (x y : Player S H) : Type 0 where
   pub stands : PlayerInvariant shows gives f r y
   pub seat : seat_of y.actor ≡ seat_of x.actor
   pub grows : Grows x.actor y.actor
@@ -71,26 +73,26 @@ pub record PlaysOn {S B : Type 0} (shows : S → SourceView B) (gives : S → Li
 
 -- so it is with each of a list
 abbrev pub AllPlayOn :
-    {S B : Type 0} → (S → SourceView B) → (S → List Numbered → ℕ → Type 0) → Fabric Packet → Rings →
-    List (Player S) → List (Player S) → Type 0
+    {S B H : Type 0} → (S → SourceView B) → (S → List Numbered → ℕ → Type 0) → Fabric Packet → Rings →
+    List (Player S H) → List (Player S H) → Type 0
 AllPlayOn shows gives f r = AllZip (PlaysOn shows gives f r)
 
 -- something grew of one of these players
-pub record SomeGrew {S : Type 0} (n : ℕ) (old new : List (Player S)) : Type 0 where
+pub record SomeGrew {S H : Type 0} (n : ℕ) (old new : List (Player S H)) : Type 0 where
   pub place : ℕ
-  pub before : Player S
-  pub after : Player S
+  pub before : Player S H
+  pub after : Player S H
   pub was : slice_get old place ≡ Some before
   pub is : slice_get new place ≡ Some after
   pub grew : Grew n before.actor after.actor
 
 -- how much these players have done
-abbrev pub done_of : {S : Type 0} → ℕ → List (Player S) → ℕ
+abbrev pub done_of : {S H : Type 0} → ℕ → List (Player S H) → ℕ
 done_of n [] = 0
 done_of n (x ∷ players) = done_by n x.actor + done_of n players
 
 -- whether one of them did something between two moments
-abbrev pub did_any : {S : Type 0} → ℕ → List (Player S) → List (Player S) → Bool
+abbrev pub did_any : {S H : Type 0} → ℕ → List (Player S H) → List (Player S H) → Bool
 did_any n old new = nat_lt (done_of n old) (done_of n new)
 
 -- these sources give the commands of the ranks from k on

@@ -34,7 +34,7 @@ use Rattle.nm_types.specs.declared.packets.Packet.{Packet}
 
 -- the actor of rank i has nothing left to send, and is at the end of these commands or waits for what can't
 -- come
-pub record EndsAt (shape : Sizes) (commands : List Numbered) (i : ℕ) (a : Actor) : Type 0 where
+pub record EndsAt {H : Type 0} (shape : Sizes) (commands : List Numbered) (i : ℕ) (a : Actor H) : Type 0 where
   pub last : ℕ
   pub past : GhostHistory
   pub is : IsActor shape commands last a past
@@ -88,12 +88,12 @@ pub record IsRingClosed (n : ℕ) (ports : List RingPort) (q : RingAccount) : Ty
   pub prefix : Prefixed n (closed_ring.entries q)
 
 -- what each actor sent to each other was taken there
-pub record IsAllTaken (actors : List Actor) : Type 0 where
+pub record IsAllTaken {H : Type 0} (actors : List (Actor H)) : Type 0 where
   pub packets :
-      (i j : ℕ) (a b : Actor) → slice_get actors i ≡ Some a → slice_get actors j ≡ Some b →
+      (i j : ℕ) (a b : Actor H) → slice_get actors i ≡ Some a → slice_get actors j ≡ Some b →
       sent_by a.port j ≡ taken_by b.port i
   pub pieces :
-      (i j : ℕ) (a b : Actor) → slice_get actors i ≡ Some a → slice_get actors j ≡ Some b →
+      (i j : ℕ) (a b : Actor H) → slice_get actors i ≡ Some a → slice_get actors j ≡ Some b →
       length (ring_port.pushed_to a.ring j) ≡ length (ring_port.pulled_from b.ring i)
 
 -- What the closed ports carried from i to j is what these events of i, whose commands these are, call for.
@@ -109,15 +109,16 @@ pub record IsCarried (commands : List Numbered) (c : Closed Packet) (q : RingAcc
   pub pulled : closed_ring.pulled_list q i j ≡ closed_ring.pushed_list q i j
 
 -- the end of an actor, as it is recorded
-abbrev pub ended : Actor → Option ℕ → Ended
+abbrev pub ended : {H : Type 0} → Actor H → Option ℕ → Ended
 ended a waits = record { at = a.process.at; waits = waits; events = a.process.rank.events }
 
 -- These are the ends of the actors, they are a run of these commands by rank, and the ports carried what
 -- they call for, and all that.
-pub record HasRun (shape : Sizes) (commands : ℕ → List Numbered) (actors : List Actor) (c : Closed Packet)
+pub record HasRun {H : Type 0} (shape : Sizes) (commands : ℕ → List Numbered) (actors : List (Actor H))
+    (c : Closed Packet)
     (q : RingAccount) (ends : List Ended) : Type 0 where
   pub are :
-      (i : ℕ) (a : Actor) → slice_get actors i ≡ Some a →
+      (i : ℕ) (a : Actor H) → slice_get actors i ≡ Some a →
       IfSome (slice_get ends i) (λ e. (e.at ≡ a.process.at) × (e.events ≡ a.process.rank.events)
       × StandsAt (commands i) e)
   pub events : map (λ e. e.events) ends ≡ map (λ a. a.process.rank.events) actors

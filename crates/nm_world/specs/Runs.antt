@@ -5,6 +5,7 @@ use Rattle.std.specs.Option.{option_map_or}
 use Rattle.nm_types.specs.declared.scripts.Line.{Line}
 use Rattle.nm_types.specs.Commands.{Numbered}
 use Rattle.nm_types.specs.Sizes.{Sizes}
+use Rattle.nm_types.specs.declared.answers.Account.{Account}
 use Rattle.nm_history.specs.Quiescence.{Ended, Packets, commands_by_rank}
 use Rattle.nm_history.specs.Run.{IsRunBy}
 use Rattle.nm_report.specs.Ends.{ends_of, packets_of}
@@ -28,8 +29,8 @@ use Rattle.nm_types.specs.declared.packets.Packet.{Packet}
 
 -- the players stand, and are those of the ranks from k on, in order
 abbrev pub InPlace :
-    {S B : Type 0} → (S → SourceView B) → (S → List Numbered → ℕ → Type 0) → Sizes → Fabric Packet → Rings → ℕ →
-    List (Player S) → Type 0
+    {S B H : Type 0} → (S → SourceView B) → (S → List Numbered → ℕ → Type 0) → Sizes → Fabric Packet → Rings → ℕ →
+    List (Player S H) → Type 0
 InPlace shows gives shape f r k [] = Unit {0}
 InPlace shows gives shape f r k (x ∷ players) =
     PlayerInvariant shows gives f r x × (seat_of x.actor ≡ record { rank = k; sizes = shape })
@@ -37,32 +38,32 @@ InPlace shows gives shape f r k (x ∷ players) =
 
 -- whatever commands of these a player's source gives and its actor stands at, it is still
 abbrev pub IsStillAt :
-    {S B : Type 0} → (S → SourceView B) → (S → List Numbered → ℕ → Type 0) → Player S → Type 0
+    {S B H : Type 0} → (S → SourceView B) → (S → List Numbered → ℕ → Type 0) → Player S H → Type 0
 IsStillAt shows gives x =
     (commands : List Numbered) → IsAtWork shows gives x commands → IsStill commands x.actor.process
 
 -- one of these can move, whatever commands its source gives
-pub record SomeMoves {S B : Type 0} (shows : S → SourceView B) (gives : S → List Numbered → ℕ → Type 0)
-    (players : List (Player S)) : Type 0 where
+pub record SomeMoves {S B H : Type 0} (shows : S → SourceView B) (gives : S → List Numbered → ℕ → Type 0)
+    (players : List (Player S H)) : Type 0 where
   pub place : ℕ
-  pub player : Player S
+  pub player : Player S H
   pub is : slice_get players place ≡ Some player
   pub moves : (commands : List Numbered) → IsAtWork shows gives player commands → CanMove commands player.actor.process
 
 -- what the one sent, the other took
-abbrev pub PairAgrees : ℕ → ℕ → Actor → Actor → Type 0
+abbrev pub PairAgrees : {H : Type 0} → ℕ → ℕ → Actor H → Actor H → Type 0
 PairAgrees i j a b =
     (sent_by a.port j ≡ taken_by b.port i)
     × (length (ring_port.pushed_to a.ring j) ≡ length (ring_port.pulled_from b.ring i))
 
 -- so it is with that of the rank i and each
-abbrev pub RowAgrees : {S : Type 0} → ℕ → List (Player S) → Type 0
-RowAgrees {S} i players =
-    (j : ℕ) (x y : Player S) → slice_get players i ≡ Some x → slice_get players j ≡ Some y →
+abbrev pub RowAgrees : {S H : Type 0} → ℕ → List (Player S H) → Type 0
+RowAgrees {S} {H} i players =
+    (j : ℕ) (x y : Player S H) → slice_get players i ≡ Some x → slice_get players j ≡ Some y →
     PairAgrees i j x.actor y.actor
 
 -- and with each two of these
-pub record AllAgree {S : Type 0} (players : List (Player S)) : Type 0 where
+pub record AllAgree {S H : Type 0} (players : List (Player S H)) : Type 0 where
   pub pairs : (i : ℕ) → RowAgrees i players
 
 -- what the closed ports carried from each rank to each is what the histories call for
@@ -75,35 +76,39 @@ abbrev pub count_between : List Packets → ℕ → ℕ → ℕ
 count_between packets i j =
     option_map_or (λ p. p.count) (find (λ p. p.from == i && p.to == j) packets) 0
 
--- The closed ports carried what the record tells, and no more: they are those of all ranks, their account
--- is the record's, from each rank to each they sent and took as many packets as it counts, and these
--- packets, and the pieces pushed and pulled, are what its histories call for.
-pub record HasCarriedBy (shape : Sizes) (commands : ℕ → List Numbered) (run : RunRecord) (c : Closed Packet)
-    (q : RingAccount) : Type 0 where
+-- The closed ports carried what these ends, counts of packets and account of the cells tell, and no more: they
+-- are those of all ranks, theirs is the account, from each rank to each they sent and took as many packets as are
+-- counted, and these packets, and the pieces pushed and pulled, are what the histories call for.
+pub record HasCarriedBy (shape : Sizes) (commands : ℕ → List Numbered) (ends : List Ended) (packets : List Packets)
+    (cells : Account) (c : Closed Packet) (q : RingAccount) : Type 0 where
   pub many : ranks_of c ≡ shape.ranks
-  pub account : run.cells ≡ c.cells
+  pub account : cells ≡ c.cells
   pub sent :
       (i j : ℕ) → i < shape.ranks → j < shape.ranks →
-      length (sent_list c i j) ≡ count_between (packets_of run.pairs) i j
+      length (sent_list c i j) ≡ count_between packets i j
   pub taken :
       (i j : ℕ) → i < shape.ranks → j < shape.ranks →
-      length (taken_list c i j) ≡ count_between (packets_of run.pairs) i j
-  pub lists : AreCarriedBy shape commands c q (ends_of run.ranks)
+      length (taken_list c i j) ≡ count_between packets i j
+  pub lists : AreCarriedBy shape commands c q ends
+
+-- these are the ends of a run of these commands by rank, and the closed ports carried what they tell
+pub record IsWholeOf (shape : Sizes) (commands : ℕ → List Numbered) (ends : List Ended) (packets : List Packets)
+    (cells : Account) (c : Closed Packet) (q : RingAccount) : Type 0 where
+  pub lawful : IsRunBy shape commands ends packets
+  pub carried : HasCarriedBy shape commands ends packets cells c q
 
 -- the record tells a run of these commands by rank, and the closed ports carried what it tells
-pub record IsWholeBy (shape : Sizes) (commands : ℕ → List Numbered) (run : RunRecord) (c : Closed Packet)
-    (q : RingAccount) : Type 0 where
-  pub lawful : IsRunBy shape commands (ends_of run.ranks) (packets_of run.pairs)
-  pub carried : HasCarriedBy shape commands run c q
+abbrev pub IsWholeBy : Sizes → (ℕ → List Numbered) → RunRecord → Closed Packet → RingAccount → Type 0
+IsWholeBy shape commands run c q = IsWholeOf shape commands (ends_of run.ranks) (packets_of run.pairs) run.cells c q
 
 -- the record tells a run of the script, and the closed ports carried what it tells
 abbrev pub IsWhole : Sizes → List Line → RunRecord → Closed Packet → RingAccount → Type 0
 IsWhole shape lines = IsWholeBy shape (commands_by_rank lines)
 
 -- the ports know of so many ranks
-abbrev pub AreRanked : {S : Type 0} → ℕ → List (Player S) → Type 0
-AreRanked {S} n players =
-    (k : ℕ) (x : Player S) → slice_get players k ≡ Some x →
+abbrev pub AreRanked : {S H : Type 0} → ℕ → List (Player S H) → Type 0
+AreRanked {S} {H} n players =
+    (k : ℕ) (x : Player S H) → slice_get players k ≡ Some x →
     ((knows x.actor.port).ranks ≡ n) × ((ring_port.knows x.actor.ring).ranks ≡ n)
 
 -- new ports of the ranks from k on, in order

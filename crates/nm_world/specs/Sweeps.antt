@@ -12,13 +12,13 @@ use Rattle.nm_world.specs.Players.{AllPlayOn, did_any}
 use Rattle.nm_world.specs.Idle.{AllRest}
 
 -- the process is as it was, if its rank is not worn
-abbrev pub StaysUnlessWorn : {S : Type 0} → Player S → Player S → Type 0
+abbrev pub StaysUnlessWorn : {S H : Type 0} → Player S H → Player S H → Type 0
 StaysUnlessWorn x y = IsFresh x.actor.process.rank → y.actor.process ≡ x.actor.process
 
 -- Each of these players was kept, and `some` tells whether one did something. Where none did, the
 -- processes are as they were, and where all made a turn, none could move.
-pub record Swept {S B : Type 0} (n : ℕ) (shows : S → SourceView B) (gives : S → List Numbered → ℕ → Type 0)
-    (f : Fabric Packet) (r : Rings) (all some : Bool) (old new : List (Player S)) : Type 0 where
+pub record Swept {S B H : Type 0} (n : ℕ) (shows : S → SourceView B) (gives : S → List Numbered → ℕ → Type 0)
+    (f : Fabric Packet) (r : Rings) (all some : Bool) (old new : List (Player S H)) : Type 0 where
   pub kept : AllPlayOn shows gives f r old new
   pub moved : some ≡ did_any n old new
   pub still : some ≡ false → AllZip StaysUnlessWorn old new
@@ -26,8 +26,8 @@ pub record Swept {S B : Type 0} (n : ℕ) (shows : S → SourceView B) (gives : 
 
 -- What a crew, or several, have told after some sweeps over these players: each was kept, `some` tells
 -- whether one did something, and where none did, none could move.
-pub record HasSwept {S B : Type 0} (n : ℕ) (shows : S → SourceView B) (gives : S → List Numbered → ℕ → Type 0)
-    (f : Fabric Packet) (r : Rings) (some : Bool) (old new : List (Player S)) : Type 0 where
+pub record HasSwept {S B H : Type 0} (n : ℕ) (shows : S → SourceView B) (gives : S → List Numbered → ℕ → Type 0)
+    (f : Fabric Packet) (r : Rings) (some : Bool) (old new : List (Player S H)) : Type 0 where
   pub kept : AllPlayOn shows gives f r old new
   pub moved : some ≡ did_any n old new
   pub idle : some ≡ false → AllRest gives old new

@@ -23,6 +23,7 @@ use nm_history::History;
 use nm_port::carried::laws::{a_poll_carries, a_send_carries};
 use nm_port::{Fabric, Port, Sent, poll, send};
 use nm_process::Process;
+use nm_rank::journal::Recorder;
 use nm_types::{Memory, Packet, Piece, Shape};
 use std::alloc::Global;
 use std::sync::ledger::Ledger;
@@ -33,16 +34,16 @@ pub(crate) const TURN: u32 = 64;
 /// How many pieces of each rank a turn has room for.
 const PULLS: u32 = 4;
 
-/// A process with its ports, and places for what comes and goes.
+/// A process with its ports, and places for what comes and goes. What records its history is a parameter.
 #[derive(Drop)]
-pub struct Actor {
-    pub process: Process,
+pub struct Actor<H: Recorder = History> {
+    pub process: Process<H>,
     pub port: Port<Packet>,
     pub ring: RingPort,
     pub(crate) places: Places,
 }
 
-impl Actor {
+impl<H: Recorder> Actor<H> {
     /// The actor of a port's rank, of which no command ran, in a run of these sizes. It has room for so many
     /// commands.
     ///
@@ -54,7 +55,7 @@ impl Actor {
         port: Port<Packet>,
         ring: RingPort,
         commands: usize,
-    ) -> Result<Actor, Memory>
+    ) -> Result<Self, Memory>
         requires rank { port.rank < shape.ranks }
         ensures ports { IfOk result (λ a. (f : Fabric Packet) (r : Rings) →
             (f.ranks ≡ shape.ranks) × (r.ranks ≡ shape.ranks) →
@@ -80,8 +81,8 @@ impl Actor {
     }
 
     /// What happened at its rank, oldest first.
-    pub fn history(&self) -> &History
-        ensures { result.now.events ≡ self.now.process.rank.events }
+    pub fn history(&self) -> &H
+        ensures { H.events result.now ≡ self.now.process.rank.events }
     {
         self.process.rank().history()
     }

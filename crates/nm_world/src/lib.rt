@@ -3,8 +3,11 @@
 //! An `Actor` is a process with its port to the fabric and its port to the copy rings. A `Player` is an actor
 //! with what gives it its commands, whatever that is (`nm_process::Source`). A turn of it sends and pushes
 //! what there is, takes what arrived, and runs commands. A round makes turns of all players in crews, one for
-//! each processor, until none has anything to do, and `run_sources` makes rounds until all are at rest. `run`
-//! of a script is one call of it.
+//! each processor, until none has anything to do, and `run_to_rest` makes rounds until all are at rest.
+//!
+//! What records the histories is a parameter (`nm_rank::journal::Recorder`). With `Erased` a run keeps no byte
+//! of them but the last event of each rank. `run_sources` keeps them and makes the record of a run, and `run` of
+//! a script is one call of it.
 //!
 //! # What a contract sees
 //! The process and the ports of each actor, and its source. The bells of the crews are not seen.
@@ -14,10 +17,11 @@
 //!   round does so for all players. This holds for all commands that the source may go on to give.
 //! - A port polls before each command that looks at arrivals (`turn`: `looked`).
 //! - A turn takes at most 140 word steps for each rank, and 2,048, whatever the others do (`turn`: `bound`).
-//! - `run_sources` gives the record of a run of the commands that its sources gave, and what the closed ports
-//!   carried is what its histories call for (`run`, `home`, `done`). `run` does so for a script.
+//! - `run_to_rest` makes a run of the commands that its sources gave, and what the closed ports carried is what
+//!   its histories call for, also where these exist in proofs alone (`run`, `home`, `done`). `run_sources` gives
+//!   its record, and `run` that of a script.
 //! - Each source was given exactly the answers of its rank's history, if it takes any, and goes on from where
-//!   it was (`run_sources`: `stopped`, `goes_on`).
+//!   it was (`stopped`, `goes_on` of both).
 //! # What is only tested
 //! That a probe sees the packet that arrived last (`nm_rows::world`), that two ranks are at work at the same
 //! time (`nm_rows::cli`), and that no crew sleeps for good (`.ci/small`). `bells` says why.
@@ -35,5 +39,6 @@ mod whole;
 pub use actors::Actor;
 pub use by_rank::{places_by_rank, scripts_by_rank};
 pub use players::Player;
+pub use records::RankEnd;
 pub use rounds::round;
-pub use whole::{Left, Ways, run, run_sources};
+pub use whole::{Left, Rested, Ways, run, run_sources, run_to_rest};

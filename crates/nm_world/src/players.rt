@@ -27,18 +27,19 @@ use nm_history::History;
 use nm_outside::Gate;
 use nm_port::{Fabric, Port};
 use nm_process::{Source, Step, looks};
+use nm_rank::journal::Recorder;
 use nm_types::{Memory, Packet, Shape};
 use std::alloc::Global;
 use std::sync::ledger::Ledger;
 
-/// A rank with its ports and what gives it its commands.
+/// A rank with its ports and what gives it its commands. What records its history is a parameter.
 #[derive(Drop)]
-pub struct Player<S> {
-    pub actor: Actor,
+pub struct Player<S, H: Recorder = History> {
+    pub actor: Actor<H>,
     pub source: S,
 }
 
-impl<S: Source> Player<S> {
+impl<S: Source, H: Recorder> Player<S, H> {
     /// The player of a port's rank, of which no command ran, in a run of these sizes.
     ///
     /// With ports as `Fabric::build` and `Rings::build` give them for one rank, it can make turns.
@@ -69,8 +70,8 @@ impl<S: Source> Player<S> {
     }
 
     /// What happened at its rank, oldest first.
-    pub fn history(&self) -> &History
-        ensures { result.now.events ≡ self.now.actor.process.rank.events }
+    pub fn history(&self) -> &H
+        ensures { H.events result.now ≡ self.now.actor.process.rank.events }
     {
         self.actor.history()
     }

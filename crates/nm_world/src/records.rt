@@ -5,28 +5,42 @@ ghost use Rattle.std.specs.Prelude.{is_some, option_map};
 ghost use Rattle.std.specs.List.{AllByRecursion, AllZip};
 ghost use Rattle.nm_types.specs.Commands.{Numbered};
 ghost use Rattle.nm_cells.specs.Ports.{knows};
+ghost use Rattle.nm_history.specs.Recorded.{Recorded};
 ghost use Rattle.nm_history.specs.Totals.{answers_given};
-ghost use Rattle.nm_report.specs.Ends.{are_done, end_of_account, ends_of, packets_of};
+ghost use Rattle.nm_report.specs.Ends.{are_done, ends_of, packets_of};
 ghost use Rattle.nm_world.specs.Players.{IsAtWork, WasTold};
 ghost use Rattle.nm_world.specs.Records.{AreAtWork, AreKnown, HasHeard, HasStopped, counts_of, counts_to};
-ghost use Rattle.nm_world.specs.Records.{ended_from, ended_of};
+ghost use Rattle.nm_world.specs.Records.{end_by, ended_from, ended_of, ends_by};
 
 use crate::{Actor, Player};
 use nm_copyring::RingPort;
+use nm_history::History;
 use nm_port::Port;
 use nm_process::{Leavings, Process, Source};
+use nm_rank::journal::Recorder;
 use nm_report::{Accounts, PairCount, Pairs, RankAccount};
 use nm_types::{Memory, Packet};
 use std::alloc::Global;
 
+/// What became of a rank.
+#[derive(Drop)]
+pub struct RankEnd<H> {
+    /// What recorded its events.
+    pub history: H,
+    /// How many of its commands ran.
+    pub at: u32,
+    /// The line of the command that can't go on. There is none where all of its commands ran.
+    pub waits: Option<u32>,
+}
+
 /// The ports of the players of a run, what gave them their commands, what there is to tell of them, and what
 /// their processes kept beside that.
 #[derive(Drop)]
-pub(crate) struct Parts<S> {
+pub(crate) struct Parts<S, H> {
     pub ports: Vec<Port<Packet>>,
     pub rings: Vec<RingPort>,
     pub sources: Vec<S>,
-    pub ranks: Accounts,
+    pub ranks: Vec<RankEnd<H>>,
     pub pairs: Pairs,
     pub left: Vec<Leavings>,
     pub done: bool,
@@ -45,18 +59,18 @@ fn next_line<S: Source>(source: &S) -> Option<u64>
 }
 
 // What became of a rank, and what its process kept beside that.
-fn account<S: Source>(process: Process, source: &S) -> (RankAccount, Leavings)
+fn account<S: Source, H: Recorder>(process: Process<H>, source: &S) -> (RankEnd<H>, Leavings)
     ensures ended { (commands : List Numbered) (last : ℕ) → S.gives source.now commands last →
         (S.shows source.now).at ≡ process.at →
-        ends_of (result.0 ∷ []) ≡ ended_of commands process ∷ [] }
+        ends_by H.events (result.0 ∷ []) ≡ ended_of commands process ∷ [] }
     ensures stopped { (S.shows source.now).at ≡ process.at →
         WasTold (S.shows source.now) (answers_given process.rank.events) →
-        HasStopped S.shows S.gives source.now (end_of_account result.0) }
+        HasStopped S.shows S.gives source.now (end_by H.events result.0) }
 {
     let at = process.at();
     let waits = next_line(source);
     let (history, left) = process.into_parts();
-    let account = RankAccount { at, history, waits };
+    let account = RankEnd { history, at, waits };
     (account, left)
 }
 
@@ -87,7 +101,11 @@ pub(crate) fn add<T: Drop>(list: &mut Vec<T>, x: T) -> Result<(), Memory>
 }
 
 // The parts of one player more. Its process goes first, so that a way out has little to let go.
-fn tell<S: Source>(parts: &mut Parts<S>, player: Player<S>, ranks: u8) -> Result<(), Memory>
+fn tell<S: Source, H: Recorder>(
+    parts: &mut Parts<S, H>,
+    player: Player<S, H>,
+    ranks: u8,
+) -> Result<(), Memory>
     requires known { ranks ≤ (knows player.actor.port).ranks }
     requires heard { HasHeard S.shows player }
     ensures ports { OnOk result
@@ -96,18 +114,18 @@ fn tell<S: Source>(parts: &mut Parts<S>, player: Player<S>, ranks: u8) -> Result
         (parts.new.rings.items ≡ parts.old.rings.items ++ player.actor.ring ∷ []) }
     ensures sources { OnOk result
         (parts.new.sources.items ≡ parts.old.sources.items ++ player.source ∷ []) }
-    ensures many { OnOk result (length parts.new.ranks ≡ length parts.old.ranks + 1) }
+    ensures many { OnOk result (length parts.new.ranks.items ≡ length parts.old.ranks.items + 1) }
     ensures ends { OnOk result ((commands : List Numbered) →
         IsAtWork S.shows S.gives player commands →
-        ends_of parts.new.ranks
-        ≡ ends_of parts.old.ranks ++ ended_of commands player.actor.process ∷ []) }
+        ends_by H.events parts.new.ranks.items
+        ≡ ends_by H.events parts.old.ranks.items ++ ended_of commands player.actor.process ∷ []) }
     ensures stopped { OnOk result (
-        AllZip (HasStopped S.shows S.gives) parts.old.sources.items (ends_of parts.old.ranks) →
-        AllZip (HasStopped S.shows S.gives) parts.new.sources.items (ends_of parts.new.ranks)) }
+        AllZip (HasStopped S.shows S.gives) parts.old.sources.items (ends_by H.events parts.old.ranks.items) →
+        AllZip (HasStopped S.shows S.gives) parts.new.sources.items (ends_by H.events parts.new.ranks.items)) }
     ensures packets { OnOk result (packets_of parts.new.pairs
         ≡ packets_of parts.old.pairs ++ counts_to ranks player.actor.port) }
-    ensures done { OnOk result (parts.old.done ≡ are_done (ends_of parts.old.ranks) →
-        parts.new.done ≡ are_done (ends_of parts.new.ranks)) }
+    ensures done { OnOk result (parts.old.done ≡ are_done (ends_by H.events parts.old.ranks.items) →
+        parts.new.done ≡ are_done (ends_by H.events parts.new.ranks.items)) }
 {
     push_counts(&mut parts.pairs, ranks, &player.actor.port)?;
     let Player { actor, source } = player;
@@ -123,16 +141,16 @@ fn tell<S: Source>(parts: &mut Parts<S>, player: Player<S>, ranks: u8) -> Result
     add(&mut parts.ports, port)?;
     add(&mut parts.rings, ring)?;
     add(&mut parts.sources, source)?;
-    parts.ranks.push(account)?;
+    add(&mut parts.ranks, account)?;
     Ok(())
 }
 
 /// The parts of players.
-pub(crate) fn parts_of<S: Source>(
+pub(crate) fn parts_of<S: Source, H: Recorder>(
     alloc: Global,
-    players: Vec<Player<S>>,
+    players: Vec<Player<S, H>>,
     ranks: u8,
-) -> Result<Parts<S>, Memory>
+) -> Result<Parts<S, H>, Memory>
     requires known { AreKnown ranks players.items }
     requires heard { AllByRecursion (HasHeard S.shows) players.items }
     ensures ports { IfOk result (λ x. x.ports.items ≡ map (λ p. p.actor.port) players.items) }
@@ -140,17 +158,17 @@ pub(crate) fn parts_of<S: Source>(
     ensures sources { IfOk result (λ x. x.sources.items ≡ map (λ p. p.source) players.items) }
     ensures ends { IfOk result (λ x. (commands : ℕ → List Numbered) →
         AreAtWork S.shows S.gives commands 0 players.items →
-        ends_of x.ranks ≡ ended_from commands 0 players.items) }
+        ends_by H.events x.ranks.items ≡ ended_from commands 0 players.items) }
     ensures stopped { IfOk result (λ x.
-        AllZip (HasStopped S.shows S.gives) x.sources.items (ends_of x.ranks)) }
+        AllZip (HasStopped S.shows S.gives) x.sources.items (ends_by H.events x.ranks.items)) }
     ensures packets { IfOk result (λ x. packets_of x.pairs ≡ counts_of ranks players.items) }
-    ensures done { IfOk result (λ x. x.done ≡ are_done (ends_of x.ranks)) }
+    ensures done { IfOk result (λ x. x.done ≡ are_done (ends_by H.events x.ranks.items)) }
 {
     let mut parts = Parts {
         ports: Vec::new(alloc),
         rings: Vec::new(alloc),
         sources: Vec::new(alloc),
-        ranks: Accounts::new(alloc),
+        ranks: Vec::new(alloc),
         pairs: Pairs::new(alloc),
         left: Vec::new(alloc),
         done: true,
@@ -159,4 +177,16 @@ pub(crate) fn parts_of<S: Source>(
         tell(&mut parts, player, ranks)?;
     }
     Ok(parts)
+}
+
+/// The accounts of ranks whose histories are in memory.
+pub(crate) fn accounts_of(alloc: Global, ends: Vec<RankEnd<History>>) -> Result<Accounts, Memory>
+    ensures { IfOk result (λ ranks. ends_of ranks ≡ ends_by (λ (h : Recorded). h.events) ends.items) }
+{
+    let mut ranks = Accounts::new(alloc);
+    for end in ends {
+        let RankEnd { history, at, waits } = end;
+        ranks.push(RankAccount { history, at, waits })?;
+    }
+    Ok(ranks)
 }

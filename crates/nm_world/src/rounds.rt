@@ -17,6 +17,7 @@ use nm_crews::{Work, turns_by};
 use nm_outside::Gate;
 use nm_port::Fabric;
 use nm_process::Source;
+use nm_rank::journal::Recorder;
 use nm_types::{Memory, Packet};
 use std::marker::Brand;
 use std::sync::Wait;
@@ -25,8 +26,8 @@ use std::thread::{Threads, available_parallelism};
 
 // A turn of a player, if its place is due or all make one. It answers whether that moved anything, and
 // which places of its crew are due then.
-fn visit<S: Source, G: Gate, L: Ledger>(
-    player: &mut Player<S>,
+fn visit<S: Source, H: Recorder, G: Gate, L: Ledger>(
+    player: &mut Player<S, H>,
     all: bool,
     due: u64,
     f: &Fabric<Packet>,
@@ -63,8 +64,8 @@ fn visit<S: Source, G: Gate, L: Ledger>(
 }
 
 // A turn of each player of a crew whose place is due, or of all, with a count of their word steps.
-fn sweep_on<S: Source, G: Gate, L: Ledger>(
-    players: &mut [Player<S>],
+fn sweep_on<S: Source, H: Recorder, G: Gate, L: Ledger>(
+    players: &mut [Player<S, H>],
     all: bool,
     due: u64,
     f: &Fabric<Packet>,
@@ -91,8 +92,8 @@ fn sweep_on<S: Source, G: Gate, L: Ledger>(
 
 // A turn of each player of a crew whose place is due, or of all. It answers whether that moved anything,
 // and which places are due then.
-fn sweep<S: Source, G: Gate>(
-    players: &mut [Player<S>],
+fn sweep<S: Source, H: Recorder, G: Gate>(
+    players: &mut [Player<S, H>],
     all: bool,
     due: u64,
     f: &Fabric<Packet>,
@@ -104,14 +105,14 @@ fn sweep<S: Source, G: Gate>(
     ensures swept { IfOk result (λ x.
         Swept f.now.ranks S.shows S.gives f.now r.now all x.0 players.old players.new) }
 {
-    sweep_on::<S, G, Brand>(players, all, due, f, r, gate, bells, Blank::new(1))
+    sweep_on::<S, H, G, Brand>(players, all, due, f, r, gate, bells, Blank::new(1))
 }
 
 // Turns of the players of a crew, of each at least one and at most so many, until no player of the round
 // has anything to do.
-fn turns_of<R: Wait, S: Source, G: Gate>(
+fn turns_of<R: Wait, S: Source, H: Recorder, G: Gate>(
     rt: &R,
-    players: &mut [Player<S>],
+    players: &mut [Player<S, H>],
     f: &Fabric<Packet>,
     r: &Rings,
     gate: &G,
@@ -140,7 +141,7 @@ fn turns_of<R: Wait, S: Source, G: Gate>(
     Ok(moved)
 }
 
-impl<S: Source> Ranked for Player<S> {
+impl<S: Source, H: Recorder> Ranked for Player<S, H> {
     fn rank(&self) -> u8 {
         self.actor.port.rank()
     }
@@ -158,7 +159,7 @@ struct Turns<'a, R, G> {
     bells: &'a Bells,
 }
 
-impl<'a, R: Wait, S: Source, G: Gate> Work<Player<S>> for Turns<'a, R, G> {
+impl<'a, R: Wait, S: Source, H: Recorder, G: Gate> Work<Player<S, H>> for Turns<'a, R, G> {
     ghost stands = { λ w x. PlayerInvariant S.shows S.gives w.fabric.now w.rings.now x };
 
     ghost told = { λ w some old new.
@@ -168,7 +169,7 @@ impl<'a, R: Wait, S: Source, G: Gate> Work<Player<S>> for Turns<'a, R, G> {
         self.bells.items_of(first, crews)
     }
 
-    fn turns(&self, crew: usize, players: &mut [Player<S>]) -> Result<bool, Memory> {
+    fn turns(&self, crew: usize, players: &mut [Player<S, H>]) -> Result<bool, Memory> {
         turns_of(
             self.rt,
             players,
@@ -195,9 +196,9 @@ pub(crate) fn crews_for<R: Threads>(rt: &R, players: usize) -> usize {
 /// none of them has anything to do. Each makes at least one turn and at most so many, which no clause
 /// counts. It answers whether anything grew of any player; where nothing did, each player's turn moved
 /// nothing since nothing could, or its rank is worn.
-pub fn round<R: Threads + Wait + Sync, S: Source + Send, G: Gate + Sync>(
+pub fn round<R: Threads + Wait + Sync, S: Source + Send, H: Recorder + Send, G: Gate + Sync>(
     rt: &R,
-    players: &mut [Player<S>],
+    players: &mut [Player<S, H>],
     f: &Fabric<Packet>,
     r: &Rings,
     gate: &G,
@@ -218,9 +219,14 @@ pub fn round<R: Threads + Wait + Sync, S: Source + Send, G: Gate + Sync>(
 
 /// The same in so many crews, and from then on in fewer where not all of their threads could be had, or
 /// where other work has the processors.
-pub(crate) fn round_in<R: Threads + Wait + Sync, S: Source + Send, G: Gate + Sync>(
+pub(crate) fn round_in<
+    R: Threads + Wait + Sync,
+    S: Source + Send,
+    H: Recorder + Send,
+    G: Gate + Sync,
+>(
     rt: &R,
-    players: &mut [Player<S>],
+    players: &mut [Player<S, H>],
     f: &Fabric<Packet>,
     r: &Rings,
     gate: &G,

@@ -1,37 +1,39 @@
 //! A run of all ranks, to rest.
 
 ghost use Rattle.nm_types.specs.declared.packets.Packet.{Packet};
-ghost use Rattle.std.specs.Prelude.{◌≡◌, ◌↔◌, ◌<◌, ℕ, true, false, List, length, map, IfOk};
+ghost use Rattle.std.specs.Prelude.{◌≡◌, ◌↔◌, ◌<◌, ◌*◌, ℕ, true, false, List, length, map, IfOk};
 ghost use Rattle.std.specs.List.{All, AllZip};
 ghost use Rattle.nm_types.specs.Commands.{Numbered};
 ghost use Rattle.nm_types.specs.Limits.{IsScript};
 ghost use Rattle.nm_channels.specs.Finished.{AreInRange};
 ghost use Rattle.nm_report.specs.Cells.{AllCellsFree};
-ghost use Rattle.nm_report.specs.Ends.{are_done, ends_of};
+ghost use Rattle.nm_report.specs.Ends.{are_done, ends_of, packets_of};
 ghost use Rattle.nm_cells.specs.declared.port.Fabric.{Fabric};
 ghost use Rattle.nm_cells.specs.Ports.{knows};
 ghost use Rattle.nm_copyring.specs.declared.port.Rings.{Rings};
 ghost use Rattle.nm_copyring.specs.Ports as ring_port;
 ghost use Rattle.nm_process.specs.Lines.{AreLines};
 ghost use Rattle.nm_world.specs.Players.{AllPlayOn, AreGiven, BeginsAt, GoesOn, PlayerInvariant};
-ghost use Rattle.nm_world.specs.Records.{HasStopped};
+ghost use Rattle.nm_world.specs.Records.{HasStopped, ends_by};
 ghost use Rattle.nm_world.specs.Rest.{Each};
 ghost use Rattle.nm_world.specs.Runs.{AllAgree, AreRanked, InPlace};
-ghost use Rattle.nm_world.specs.Runs.{IsStillAt, IsWhole, IsWholeBy, NewInOrder, PairAgrees, RowAgrees, SomeMoves};
+ghost use Rattle.nm_world.specs.Runs.{IsStillAt, IsWhole, IsWholeBy, IsWholeOf, NewInOrder, PairAgrees, RowAgrees, SomeMoves};
 
 use crate::by_rank::scripts_by_rank;
 use crate::laws::{a_still_actor_ends, actors_at_rest_make_a_run};
-use crate::records::{Parts, add, parts_of};
+use crate::records::{Parts, RankEnd, accounts_of, add, parts_of};
 use crate::rounds::{crews_for, round_in};
 use crate::{Actor, Player};
 use nm_copyring::{RingAccount, RingPort, Rings};
 use nm_crews::bells::Crews;
 use nm_crews::blocks::ask_for_run;
+use nm_history::History;
 use nm_outside::Gate;
 use nm_port::{Closed, Fabric, Port};
 use nm_process::{Leavings, Source};
-use nm_report::RunRecord;
-use nm_types::{Line, Memory, Packet, Script, Shape};
+use nm_rank::journal::Recorder;
+use nm_report::{Pairs, RunRecord};
+use nm_types::{Account, Line, Memory, Packet, Script, Shape};
 use std::alloc::Global;
 use std::sync::Wait;
 use std::thread::Threads;
@@ -54,6 +56,18 @@ impl Drop for Ways {
     }
 }
 
+/// What is left of a run: what gave the commands, what became of each rank, the packets of each ordered pair
+/// that had any, the account of the cells, whether every rank is at its end, and what the closed ways keep.
+#[derive(Drop)]
+pub struct Rested<S, H> {
+    pub sources: Vec<S>,
+    pub ranks: Vec<RankEnd<H>>,
+    pub pairs: Pairs,
+    pub cells: Account,
+    pub done: bool,
+    pub ways: Ways,
+}
+
 /// What is left of a run: what gave the commands, the record, and what the closed ways keep.
 #[derive(Drop)]
 pub struct Left<S> {
@@ -66,7 +80,7 @@ pub struct Left<S> {
 const TURNS: u32 = 1000000;
 
 // Whether no player can move.
-fn are_still<S: Source>(players: &[Player<S>]) -> bool
+fn are_still<S: Source, H: Recorder>(players: &[Player<S, H>]) -> bool
     ensures still { result ≡ true → Each (λ i x. IsStillAt S.shows S.gives x) players.now }
     ensures moves { result ≡ false → SomeMoves S.shows S.gives players.now }
 {
@@ -79,7 +93,7 @@ fn are_still<S: Source>(players: &[Player<S>]) -> bool
 }
 
 // Whether what the actor of rank i sent to that of rank j was taken there.
-fn pair_agrees(a: &Actor, b: &Actor, i: u8, j: u8) -> bool
+fn pair_agrees<H: Recorder>(a: &Actor<H>, b: &Actor<H>, i: u8, j: u8) -> bool
     requires { (j < (knows a.now.port).ranks) × (i < (knows b.now.port).ranks)
         × (j < (ring_port.knows a.now.ring).ranks) × (i < (ring_port.knows b.now.ring).ranks) }
     ensures { (result ≡ true) ↔ PairAgrees i j a.now b.now }
@@ -88,7 +102,7 @@ fn pair_agrees(a: &Actor, b: &Actor, i: u8, j: u8) -> bool
 }
 
 // Whether what the player of rank i sent to each was taken there.
-fn row_agrees<S: Source>(players: &[Player<S>], f: &Fabric<Packet>, i: u8) -> bool
+fn row_agrees<S: Source, H: Recorder>(players: &[Player<S, H>], f: &Fabric<Packet>, i: u8) -> bool
     requires many { (length players.now ≡ f.now.ranks) × (i < f.now.ranks) }
     requires ranked { AreRanked f.now.ranks players.now }
     ensures { (result ≡ true) ↔ RowAgrees i players.now }
@@ -102,7 +116,7 @@ fn row_agrees<S: Source>(players: &[Player<S>], f: &Fabric<Packet>, i: u8) -> bo
 }
 
 // Whether what each player sent to each was taken there.
-fn all_agree<S: Source>(players: &[Player<S>], f: &Fabric<Packet>) -> bool
+fn all_agree<S: Source, H: Recorder>(players: &[Player<S, H>], f: &Fabric<Packet>) -> bool
     requires many { length players.now ≡ f.now.ranks }
     requires ranked { AreRanked f.now.ranks players.now }
     ensures { (result ≡ true) ↔ AllAgree players.now }
@@ -116,9 +130,9 @@ fn all_agree<S: Source>(players: &[Player<S>], f: &Fabric<Packet>) -> bool
 }
 
 // Rounds until rest.
-fn settle<R: Threads + Wait + Sync, S: Source + Send, G: Gate + Sync>(
+fn settle<R: Threads + Wait + Sync, S: Source + Send, H: Recorder + Send, G: Gate + Sync>(
     rt: &R,
-    players: &mut [Player<S>],
+    players: &mut [Player<S, H>],
     f: &Fabric<Packet>,
     r: &Rings,
     gate: &G,
@@ -143,9 +157,9 @@ fn settle<R: Threads + Wait + Sync, S: Source + Send, G: Gate + Sync>(
 }
 
 // The same of a list of players.
-fn settle_all<R: Threads + Wait + Sync, S: Source + Send, G: Gate + Sync>(
+fn settle_all<R: Threads + Wait + Sync, S: Source + Send, H: Recorder + Send, G: Gate + Sync>(
     rt: &R,
-    players: &mut Vec<Player<S>>,
+    players: &mut Vec<Player<S, H>>,
     f: &Fabric<Packet>,
     r: &Rings,
     gate: &G,
@@ -163,13 +177,13 @@ fn settle_all<R: Threads + Wait + Sync, S: Source + Send, G: Gate + Sync>(
 }
 
 // A player for each rank.
-fn cast<S: Source>(
+fn cast<S: Source, H: Recorder>(
     alloc: Global,
     shape: Shape,
     ports: Vec<Port<Packet>>,
     rings: Vec<RingPort>,
     sources: Vec<S>,
-) -> Result<Vec<Player<S>>, Memory>
+) -> Result<Vec<Player<S, H>>, Memory>
     requires ranks { All (λ p. p.rank < shape.ranks) ports.items }
     requires pairs { length rings.items ≡ length ports.items }
     requires owns { length sources.items ≡ length ports.items }
@@ -198,7 +212,72 @@ fn cast<S: Source>(
 }
 
 /// Runs what these sources give, one for each rank, in as many threads as there are processors where they
-/// can be had, until it is at rest.
+/// can be had, until it is at rest. What records the histories is a parameter: with `Erased` they exist in
+/// proofs alone, and memory keeps the last event of each rank.
+///
+/// It calls `gate.turn(rank)` before each turn of a rank. Whatever commands the sources are left with, the
+/// histories are a lawful run of them that is at rest, what went from rank to rank is what they call for, all
+/// cells are home, and `done` tells whether no rank waits. Each source was told exactly the answers of its
+/// rank's history, if it is told any, and its next command is that in which its rank waits.
+pub fn run_to_rest<R: Threads + Wait + Sync, S: Source + Send, H: Recorder + Send, G: Gate + Sync>(
+    rt: &R,
+    alloc: Global,
+    shape: Shape,
+    sources: Vec<S>,
+    gate: &G,
+) -> Result<Rested<S, H>, Memory>
+    requires many { length sources.items ≡ shape.ranks }
+    requires begins { All (BeginsAt S.shows S.gives shape.ranks) sources.items }
+    ensures run { IfOk result (λ x. (commands : ℕ → List Numbered) →
+        AreInRange shape.ranks commands → AreGiven S.gives commands 0 x.sources.items →
+        IsWholeOf shape commands (ends_by H.events x.ranks.items) (packets_of x.pairs) x.cells
+        x.ways.cells x.ways.rings) }
+    ensures goes_on { IfOk result (λ x.
+        AllZip (GoesOn S.shows S.gives) sources.items x.sources.items) }
+    ensures stopped { IfOk result (λ x.
+        AllZip (HasStopped S.shows S.gives) x.sources.items (ends_by H.events x.ranks.items)) }
+    ensures all { IfOk result (λ x. x.cells.total ≡ shape.ranks * shape.cells) }
+    ensures home { IfOk result (λ x. x.cells.home ≡ x.cells.total) }
+    ensures account { IfOk result (λ x. x.cells ≡ x.ways.cells.cells) }
+    ensures done { IfOk result (λ x. x.done ≡ are_done (ends_by H.events x.ranks.items)) }
+{
+    let (fabric, ports) = Fabric::<Packet>::build(alloc, shape)?;
+    let (rings, ring_ports) = Rings::build(alloc, shape)?;
+    let mut players = cast::<S, H>(alloc, shape, ports, ring_ports, sources)?;
+    settle_all(rt, &mut players, &fabric, &rings, gate)?;
+    let parts = parts_of(alloc, players, fabric.ranks())?;
+    let Parts {
+        ports,
+        rings: ring_ports,
+        sources,
+        ranks,
+        pairs,
+        left,
+        done,
+    } = parts;
+    // no step: the laws of the end of a run
+    a_still_actor_ends::<H>();
+    actors_at_rest_make_a_run::<H>();
+    let closed = fabric.close(ports);
+    let rings = rings.close(ring_ports);
+    let cells = closed.account();
+    let ways = Ways {
+        cells: closed,
+        rings,
+        left,
+    };
+    Ok(Rested {
+        sources,
+        ranks,
+        pairs,
+        cells,
+        done,
+        ways,
+    })
+}
+
+/// Runs what these sources give, one for each rank, in as many threads as there are processors where they
+/// can be had, until it is at rest, with their histories in memory.
 ///
 /// It calls `gate.turn(rank)` before each turn of a rank. Whatever commands the sources are left with, the
 /// record tells a lawful run of them that is at rest, what went from rank to rank is what its histories
@@ -225,37 +304,22 @@ pub fn run_sources<R: Threads + Wait + Sync, S: Source + Send, G: Gate + Sync>(
     ensures account { IfOk result (λ x. x.record.cells ≡ x.ways.cells.cells) }
     ensures done { IfOk result (λ x. x.record.done ≡ are_done (ends_of x.record.ranks)) }
 {
-    let (fabric, ports) = Fabric::<Packet>::build(alloc, shape)?;
-    let (rings, ring_ports) = Rings::build(alloc, shape)?;
-    let mut players = cast(alloc, shape, ports, ring_ports, sources)?;
-    settle_all(rt, &mut players, &fabric, &rings, gate)?;
-    let parts = parts_of(alloc, players, fabric.ranks())?;
-    let Parts {
-        ports,
-        rings: ring_ports,
+    let rested = run_to_rest::<R, S, History, G>(rt, alloc, shape, sources, gate)?;
+    let Rested {
         sources,
         ranks,
         pairs,
-        left,
+        cells,
         done,
-    } = parts;
-    // no step: the laws of the end of a run
-    a_still_actor_ends();
-    actors_at_rest_make_a_run();
-    let closed = fabric.close(ports);
-    let rings = rings.close(ring_ports);
-    let cells = closed.account();
+        ways,
+    } = rested;
+    let ranks = accounts_of(alloc, ranks)?;
     let record = RunRecord {
         shape,
         ranks,
         pairs,
         cells,
         done,
-    };
-    let ways = Ways {
-        cells: closed,
-        rings,
-        left,
     };
     Ok(Left {
         sources,

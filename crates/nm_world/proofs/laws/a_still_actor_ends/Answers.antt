@@ -16,7 +16,7 @@ stands_at commands h None stuck = refl
 stands_at commands h (Some c) stuck = (refl, stuck)
 
 pub returns : goal.returns
-returns c commands last a s still =
+returns g c commands last a s still =
     let v = a.process in
     record {
       last = last;

@@ -42,11 +42,11 @@ whole front left all is many =
       none (x ∷ l) e = absurd (omega (arith, e))
 
 pub returns : goal.returns
-returns c shape commands actors closed q in_range many each cells rings all_taken = (ends, has_run) where
-  P : ℕ → Actor → Type 0
+returns g c shape commands actors closed q in_range many each cells rings all_taken = (ends, has_run) where
+  P : ℕ → Actor g.row.H.Denot → Type 0
   P i a = (slice_get actors i ≡ Some a) × EndsAt shape (commands i) i a
 
-  one : (i : ℕ) (a : Actor) → P i a → OneRank
+  one : (i : ℕ) (a : Actor g.row.H.Denot) → P i a → OneRank
   one i a p =
       record {
         view = a.process.rank;
@@ -66,10 +66,10 @@ returns c shape commands actors closed q in_range many each cells rings all_take
   ends : List Ended
   ends = map recorded_of ones
 
-  below : (i : ℕ) (a : Actor) → slice_get actors i ≡ Some a → i < shape.ranks
+  below : (i : ℕ) (a : Actor g.row.H.Denot) → slice_get actors i ≡ Some a → i < shape.ranks
   below i a is = let low = place_below actors i a is in omega (arith, low, many)
 
-  stands_at : (i : ℕ) (a : Actor) (p : P i a) → RankInvariant shape (commands i) i (one i a p)
+  stands_at : (i : ℕ) (a : Actor g.row.H.Denot) (p : P i a) → RankInvariant shape (commands i) i (one i a p)
   stands_at i a p =
       let e = p.1 in
       let stands = subst (λ (k : ℕ). IsOf shape (commands i) k a.process.rank e.past) e.me e.is.stands in
@@ -78,7 +78,7 @@ returns c shape commands actors closed q in_range many each cells rings all_take
       record { me = s.me; sizes = s.sizes; run = s.run; logged = s.logged; left = s.left }
 
   -- the lists of the closed ports
-  sent_is : (i j : ℕ) (a : Actor) (p : P i a) → j < shape.ranks →
+  sent_is : (i j : ℕ) (a : Actor g.row.H.Denot) (p : P i a) → j < shape.ranks →
       map packet_of (sent_list closed i j) ≡ (p.1.past.left j).packets
   sent_is i j a p within =
       c.a_close_carries.ensures.sent packet_of closed (map (λ a. a.port) actors) i j a.port
@@ -86,18 +86,19 @@ returns c shape commands actors closed q in_range many each cells rings all_take
       (cells.counts i j a.port (get_map (λ a. a.port) actors i a p.0) within).0
       (p.1.is.sent j within)
 
-  taken_is : (i j : ℕ) (b : Actor) (p : P j b) → i < shape.ranks →
+  taken_is : (i j : ℕ) (b : Actor g.row.H.Denot) (p : P j b) → i < shape.ranks →
       map packet_of (taken_list closed i j) ≡ map (λ t. t.packet) (taken_from i p.1.past.log)
   taken_is i j b p within =
       let many_entries = ap length cells.entries
-      ∙ map_length knows (map (λ (a : Actor). a.port) actors) ∙ map_length (λ (a : Actor). a.port) actors in
+      ∙ map_length knows (map (λ (a : Actor g.row.H.Denot). a.port) actors) ∙ map_length
+      (λ (a : Actor g.row.H.Denot). a.port) actors in
       c.a_close_carries.ensures.taken packet_of closed (map (λ a. a.port) actors) i j b.port
       (map (λ t. t.packet) (taken_from i p.1.past.log)) cells.entries
       (get_map (λ a. a.port) actors j b p.0) (omega (arith, within, many_entries, many))
       (cells.counts j i b.port (get_map (λ a. a.port) actors j b p.0) within).1
       (p.1.is.taken i within)
 
-  all_sent : (i j : ℕ) (a b : Actor) → slice_get actors i ≡ Some a → slice_get actors j ≡ Some b →
+  all_sent : (i j : ℕ) (a b : Actor g.row.H.Denot) → slice_get actors i ≡ Some a → slice_get actors j ≡ Some b →
       taken_list closed i j ≡ sent_list closed i j
   all_sent i j a b at to =
       c.a_close_carries.ensures.whole closed i j (cells.prefix i j (below i a at) (below j b to))
@@ -105,19 +106,19 @@ returns c shape commands actors closed q in_range many each cells rings all_take
       ∙ sym (all_taken.packets i j a b at to)
       ∙ sym (cells.counts i j a.port (get_map (λ a. a.port) actors i a at) (below j b to)).0)
 
-  pushed_is : (i j : ℕ) (a : Actor) → slice_get actors i ≡ Some a →
+  pushed_is : (i j : ℕ) (a : Actor g.row.H.Denot) → slice_get actors i ≡ Some a →
       closed_ring.pushed_list q i j ≡ ring_port.pushed_to a.ring j
   pushed_is i j a at = ap (λ es. (lane (entry es i) j).pushed) rings.entries
       ∙ ap (λ e. (lane e j).pushed) (entry_is (map (λ a. a.ring) actors) i a.ring
       (get_map (λ a. a.ring) actors i a at))
 
-  pulled_is : (i j : ℕ) (b : Actor) → slice_get actors j ≡ Some b →
+  pulled_is : (i j : ℕ) (b : Actor g.row.H.Denot) → slice_get actors j ≡ Some b →
       closed_ring.pulled_list q i j ≡ ring_port.pulled_from b.ring i
   pulled_is i j b to = ap (λ es. (lane (entry es j) i).pulled) rings.entries
       ∙ ap (λ e. (lane e i).pulled) (entry_is (map (λ a. a.ring) actors) j b.ring
       (get_map (λ a. a.ring) actors j b to))
 
-  all_pulled : (i j : ℕ) (a b : Actor) → slice_get actors i ≡ Some a → slice_get actors j ≡ Some b →
+  all_pulled : (i j : ℕ) (a b : Actor g.row.H.Denot) → slice_get actors i ≡ Some a → slice_get actors j ≡ Some b →
       closed_ring.pulled_list q i j ≡ closed_ring.pushed_list q i j
   all_pulled i j a b at to =
       let front = rings.prefix i j (below i a at) (below j b to) in
@@ -125,7 +126,7 @@ returns c shape commands actors closed q in_range many each cells rings all_take
       (ap length (pushed_is i j a at) ∙ all_taken.pieces i j a b at to
       ∙ sym (ap length (pulled_is i j b to)))
 
-  passed : (i j : ℕ) (a b : Actor) (p : P i a) (o : P j b) → IsPassed i j (one i a p) (one j b o)
+  passed : (i j : ℕ) (a b : Actor g.row.H.Denot) (p : P i a) (o : P j b) → IsPassed i j (one i a p) (one j b o)
   passed i j a b p o =
       record {
         packets = sym (taken_is i j b o (below i a p.0)) ∙ ap (map packet_of) (all_sent i j a b p.0 o.0)
@@ -155,14 +156,18 @@ returns c shape commands actors closed q in_range many each cells rings all_take
             });
       }
 
-  shown : (i : ℕ) (x : Actor) (p : P i x) (a : Actor) → slice_get actors i ≡ Some a →
+  shown : (i : ℕ) (x : Actor g.row.H.Denot) (p : P i x) (a : Actor g.row.H.Denot) → slice_get actors i ≡ Some a →
       (x.process.at ≡ a.process.at) × (x.process.rank.events ≡ a.process.rank.events)
       × StandsAt (commands i) (recorded_of (one i x p))
   shown i x p a is =
-      let same : x ≡ a = same_there x a p.0 is in
-      (ap (λ (a : Actor). a.process.at) same, ap (λ (a : Actor). a.process.rank.events) same, p.1.stands)
+      let same : x ≡ a = same_there x a p.0 is in (
+        ap (λ (a : Actor g.row.H.Denot). a.process.at) same,
+        ap (λ (a : Actor g.row.H.Denot). a.process.rank.events)
+            same,
+        p.1.stands,
+      )
 
-  carried : (i j : ℕ) (a : Actor) (p : P i a) → j < shape.ranks →
+  carried : (i j : ℕ) (a : Actor g.row.H.Denot) (p : P i a) → j < shape.ranks →
       IsCarried (commands i) closed q i j (recorded_of (one i a p))
   carried i j a p within =
       let s = stands_at i a p in
@@ -189,16 +194,16 @@ returns c shape commands actors closed q in_range many each cells rings all_take
         are = λ i a is. for_each (slice_get ends i) (λ a. slice_get actors i ≡ Some a)
             (λ e a. (e.at ≡ a.process.at) × (e.events ≡ a.process.rank.events)
             × StandsAt (commands i) e)
-            (each_map recorded_of ones (λ i e. (a : Actor) → slice_get actors i ≡ Some a →
+            (each_map recorded_of ones (λ i e. (a : Actor g.row.H.Denot) → slice_get actors i ≡ Some a →
             (e.at ≡ a.process.at) × (e.events ≡ a.process.rank.events)
             × StandsAt (commands i) e)
-            (chosen_each P one actors h (λ i x. (a : Actor) → slice_get actors i ≡ Some a →
+            (chosen_each P one actors h (λ i x. (a : Actor g.row.H.Denot) → slice_get actors i ≡ Some a →
             (x.at ≡ a.process.at) × (x.view.events ≡ a.process.rank.events)
             × StandsAt (commands i) (recorded_of x)) shown) i)
             a is;
         events = map_twice (λ (e : Ended). e.events) recorded_of ones
             ∙ chosen_map P one actors h (λ (x : OneRank). x.view.events)
-            (λ (a : Actor). a.process.rank.events) (λ i a p. refl);
+            (λ (a : Actor g.row.H.Denot). a.process.rank.events) (λ i a p. refl);
         run = c.ranks_at_rest_make_a_run.ensures shape commands ones (packets_of_by commands ends) in_range at_rest
             (each_map recorded_of ones (λ i e. StandsAt (commands i) e)
             (chosen_each P one actors h (λ i x. StandsAt (commands i) (recorded_of x))

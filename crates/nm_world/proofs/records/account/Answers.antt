@@ -14,7 +14,8 @@ ended at waits events = record { at = at; waits = waits; events = events } ∷ [
 
 pub returns-clause-ended : goal.returns-clause-ended
 returns-clause-ended g c commands last given counts =
-    ap (λ (at : ℕ). ended at c.next_line-waits.result c.into_parts-history.result.0.events) c.at-at.ensures
+    ap (λ (at : ℕ). ended at c.next_line-waits.result (g.H.Recorder.events c.into_parts-history.result.0))
+    c.at-at.ensures
     ∙ ap (λ (events : List Event). ended c.args.process.at c.next_line-waits.result events)
     c.into_parts-history.ensures.events
     ∙ ap (λ (waits : Option ℕ). ended c.args.process.at waits c.args.process.rank.events)

@@ -1,7 +1,7 @@
 -- One more player at its place.
-use Rattle.std.proofs.Common.{◌≡◌, ℕ, ◌+◌, ◌<◌, suc, ◌∷◌, ◌++◌, [], List, length, map, ap, refl, sym, subst, ◌∙◌, arith}
+use Rattle.std.proofs.Common.{◌≡◌, ℕ, ◌+◌, ◌<◌, suc, ◌∷◌, ◌++◌, [], List, length, map, ap, sym, subst, ◌∙◌, arith}
 use Rattle.std.proofs.Common.{length-append, append_assoc, append-nil}
-use Rattle.std.proofs.lemmas.List.{map-append}
+use Rattle.std.proofs.lemmas.List.{map-append, nil_from_length}
 use Rattle.std.specs.List.{All}
 use Rattle.std.specs.Vec.Iter.{into_iter_items}
 use Rattle.nm_cells.specs.declared.port.Port.{Port}
@@ -21,20 +21,48 @@ first_of_all {A} P xs rest x split all =
     let is = subst (λ (ys : List A). All P ys) split all in
     (is 0 x (omega arith), λ i d low. is (suc i) d (omega (arith, low)))
 
-none_left : {A : Type 0} (xs : List A) → length xs ≡ 0 → xs ≡ []
-none_left [] none = refl
-none_left (x ∷ xs) none = absurd (omega (arith, none))
+pub loop-port-init : goal.loop-port-init
+loop-port-init g c =
+    let shows = g.S.Source.shows in
+    let gives = g.S.Source.gives in
+    let shape = c.args.shape in
+    let ports = c.into_iter-port-iterator.ensures.into_iter_gives.0 in
+    let rings = c.into_iter-rings.ensures.rest in
+    let sources = c.into_iter-sources.ensures.rest in
+    let none = c.new-players.ensures.items in
+    let ps = into_iter_items c.into_iter-port-iterator.result in
+    let qs = into_iter_items c.into_iter-rings.result in
+    let ss = into_iter_items c.into_iter-sources.result in
+    let no_players = ap length none in
+    let so_many = ap length ports in
+    record {
+      ranks = subst (λ (xs : List (Port Packet)). All (λ (p : Port Packet). p.rank < shape.ranks) xs) (sym ports)
+          c.requires.ranks;
+      pairs = ap length rings ∙ c.requires.pairs ∙ sym (ap length ports);
+      owns = ap length sources ∙ c.requires.owns ∙ sym (ap length ports);
+      begins = subst (λ (xs : List _). All (BeginsAt shows gives shape.ranks) xs) (sym sources) c.requires.begins;
+      sources = ap (λ (xs : List (Player _ _)). map (λ (x : Player _ _). x.source) xs ++ ss) none ∙ sources;
+      place = λ f r sizes new. (
+        subst (λ (xs : List (Player _ _)). NewInOrder f r (length xs) ps qs) (sym none)
+            (subst (λ (xs : List (Port Packet)). NewInOrder f r 0 xs qs) (sym ports)
+            (subst (λ (xs : List RingPort). NewInOrder f r 0 c.args.ports.items xs) (sym rings) new)),
+        subst (λ (xs : List (Player _ _)). InPlace shows gives shape f r 0 xs) (sym none) tt,
+      );
+      count = omega (arith, no_players, so_many);
+    }
 
 pub new-requires : goal.new-requires
 new-requires g c =
     let rest = into_iter_items c.next.new.self in
     let split : into_iter_items c.loop-port.port-iterator ≡ c.in-Some.port ∷ rest = c.in-Some.ensures.steps.0 in
     let others = into_iter_items c.next-in-loop-port-2.new.self in
-    let other : into_iter_items c.loop-port.sources ≡ c.in-Some-next-2.source ∷ others = c.in-Some-next-2.ensures.items in
+    let other : into_iter_items c.loop-port.sources ≡ c.in-Some-next-2.source ∷ others =
+    c.in-Some-next-2.ensures.items in
     let begins = (first_of_all (BeginsAt g.S.Source.shows g.S.Source.gives c.args.shape.ranks)
     (into_iter_items c.loop-port.sources) others c.in-Some-next-2.source other c.loop-port.invariant.begins).0 in
     record {
-      rank = (first_of_all (λ (p : Port Packet). p.rank < c.args.shape.ranks) (into_iter_items c.loop-port.port-iterator)
+      rank = (first_of_all (λ (p : Port Packet). p.rank < c.args.shape.ranks)
+          (into_iter_items c.loop-port.port-iterator)
           rest c.in-Some.port split c.loop-port.invariant.ranks).0;
       begins = (begins.at, begins.ranks);
       told = begins.told;
@@ -75,11 +103,11 @@ loop-port-preserved g c =
       owns = omega (arith, one, three, owns);
       begins = (first_of_all (BeginsAt shows gives shape.ranks) (into_iter_items c.loop-port.sources) sources source
           source_split before.begins).1;
-      sources = ap (λ ps. map (λ (x : Player _). x.source) ps ++ sources) grown
-          ∙ ap (λ ss. ss ++ sources) (map-append (λ (x : Player _). x.source) players (player ∷ []))
-          ∙ append_assoc (map (λ (x : Player _). x.source) players) (player.source ∷ []) sources
-          ∙ ap (λ s. map (λ (x : Player _). x.source) players ++ s ∷ sources) made.same.2
-          ∙ ap (λ ss. map (λ (x : Player _). x.source) players ++ ss) (sym source_split) ∙ before.sources;
+      sources = ap (λ ps. map (λ (x : Player _ _). x.source) ps ++ sources) grown
+          ∙ ap (λ ss. ss ++ sources) (map-append (λ (x : Player _ _). x.source) players (player ∷ []))
+          ∙ append_assoc (map (λ (x : Player _ _). x.source) players) (player.source ∷ []) sources
+          ∙ ap (λ s. map (λ (x : Player _ _). x.source) players ++ s ∷ sources) made.same.2
+          ∙ ap (λ ss. map (λ (x : Player _ _). x.source) players ++ ss) (sym source_split) ∙ before.sources;
       place = λ f r sizes new.
           let was = before.place f r sizes new in
           let order : NewInOrder f r k (port ∷ rest) (ring ∷ others) =
@@ -104,6 +132,6 @@ returns-clause-sources g c =
     let owns = c.loop-port.invariant.owns in
     let past = c.in-None.ensures.steps.0 in
     let counted = c.loop-port.port-iterator.rest.ok.0 in
-    let none = none_left left (omega (arith, owns, past, counted)) in
-    sym (append-nil (map (λ (x : Player _). x.source) players))
-    ∙ ap (λ ss. map (λ (x : Player _). x.source) players ++ ss) (sym none) ∙ c.loop-port.invariant.sources
+    let none = nil_from_length left (omega (arith, owns, past, counted)) in
+    sym (append-nil (map (λ (x : Player _ _). x.source) players))
+    ∙ ap (λ ss. map (λ (x : Player _ _). x.source) players ++ ss) (sym none) ∙ c.loop-port.invariant.sources

@@ -16,7 +16,7 @@ invariant-loop-port g l = record {
   pairs : length (into_iter_items l.rings) ≡ length (into_iter_items l.port-iterator);
   owns : length (into_iter_items l.sources) ≡ length (into_iter_items l.port-iterator);
   begins : All (BeginsAt g.S.Source.shows g.S.Source.gives l.shape.ranks) (into_iter_items l.sources);
-  sources : map (λ (x : Player _). x.source) l.players.items ++ into_iter_items l.sources ≡ l.fn.sources.items;
+  sources : map (λ (x : Player _ _). x.source) l.players.items ++ into_iter_items l.sources ≡ l.fn.sources.items;
   place : (f : Fabric Packet) (r : Rings) → (f.ranks ≡ l.shape.ranks) × (r.ranks ≡ l.shape.ranks) →
       NewInOrder f r 0 l.fn.ports.items l.fn.rings.items →
       NewInOrder f r (length l.players.items) (into_iter_items l.port-iterator) (into_iter_items l.rings)

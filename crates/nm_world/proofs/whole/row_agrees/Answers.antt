@@ -16,10 +16,10 @@ loop-j-preserved g c =
     let agrees = c.pair_agrees-one.ensures in
     let here = slice_get_read players (length players) c.args.i c.index-players-i.result refl
     (omega (arith, c.requires.many.1, many)) c.index-players-i.is
-    ∙ ap (λ (x : Player _). Some x) c.index-players-i.is in
+    ∙ ap (λ (x : Player _ _). Some x) c.index-players-i.is in
     let there = slice_get_read players (length players) c.loop-j.j c.index-players-j.result refl
     (omega (arith, low, end, many)) c.index-players-j.is
-    ∙ ap (λ (x : Player _). Some x) c.index-players-j.is in
+    ∙ ap (λ (x : Player _ _). Some x) c.index-players-j.is in
     let x = get_or players c.args.i c.index-players-i.result in
     let y = get_or players c.loop-j.j c.index-players-j.result in
     record {
@@ -29,6 +29,31 @@ loop-j-preserved g c =
       all = λ row. both c.loop-j.all c.pair_agrees-one.result (c.loop-j.invariant.all row)
           (agrees.1 (row c.loop-j.j x y here there));
     }
+
+pub pair_agrees-one-requires : goal.pair_agrees-one-requires
+pair_agrees-one-requires g c =
+    let players = c.args.players.now in
+    let many = c.requires.many.0 in
+    let within = c.requires.many.1 in
+    let end = c.loop-j.invariant.end in
+    let low = c.loop-j-test.true in
+    let here = slice_get_read players (length players) c.args.i c.index-players-i.result refl
+    (omega (arith, within, many)) c.index-players-i.is
+    ∙ ap (λ (x : Player _ _). Some x) c.index-players-i.is in
+    let there = slice_get_read players (length players) c.loop-j.j c.index-players-j.result refl
+    (omega (arith, low, end, many)) c.index-players-j.is
+    ∙ ap (λ (x : Player _ _). Some x) c.index-players-j.is in
+    let a = c.requires.ranked c.args.i (get_or players c.args.i c.index-players-i.result) here in
+    let b = c.requires.ranked c.loop-j.j (get_or players c.loop-j.j c.index-players-j.result) there in
+    let port = a.0 in
+    let ring = a.1 in
+    let other = b.0 in
+    let second = b.1 in (
+      omega (arith, low, end, port),
+      omega (arith, within, other),
+      omega (arith, low, end, ring),
+      omega (arith, within, second),
+    )
 
 pub returns : goal.returns
 returns g c = (

@@ -37,7 +37,8 @@ returns-clause-work g c shape commands bound some work =
           p.requests;
       handles = p.handles.entries;
     } in
-    work_packets shape commands bound a w (v.clock) (piece_makes c.args.p.now.from (next_due v c.args.p.now.from) c.args.p.now)
+    work_packets shape commands bound a w (v.clock)
+    (piece_makes c.args.p.now.from (next_due v c.args.p.now.from) c.args.p.now)
     some taken.sizes taken.requests taken.happened.events
     (piece_of_packets c.args.p.now.from (next_due v c.args.p.now.from) c.args.p.now)
     (subst (λ (v : ProcessView). IsWorking shape commands bound v) (sym c.self.view_is) work)

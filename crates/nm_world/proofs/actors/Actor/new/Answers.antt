@@ -6,7 +6,7 @@ use Rattle.nm_world.proofs.Begins.{new_ports, new_stands}
 use Rattle.nm_world.proofs.actors.Actor.new.Goals as goal
 
 pub returns-clause-stands : goal.returns-clause-stands
-returns-clause-stands c f r sizes fresh ring_fresh commands last =
+returns-clause-stands g c f r sizes fresh ring_fresh commands last =
     let v = c.in_ok-process.process in
     let p = c.in_ok-process.ensures in
     let shape = c.args.shape in
@@ -17,7 +17,7 @@ returns-clause-stands c f r sizes fresh ring_fresh commands last =
     new_stands shape commands last f r v port c.args.ring sizes.1 fresh ring_fresh new.sizes work standing.rank
 
 pub returns-clause-ports : goal.returns-clause-ports
-returns-clause-ports c f r sizes fresh ring_fresh =
+returns-clause-ports g c f r sizes fresh ring_fresh =
     let v = c.in_ok-process.process in
     let p = c.in_ok-process.ensures in
     let shape = c.args.shape in

@@ -11,10 +11,10 @@ use Rattle.nm_types.proofs.TruthLemmas.{neither}
 pub returns-then-not-is_any_piece_due : goal.returns-then-not-is_any_piece_due
 returns-then-not-is_any_piece_due g c =
     let a = c.args.self.now in
-    let cells = c.requires.1.1.ranks.0 in
-    let ranks = c.requires.1.0 in
+    let cells = c.requires.1.1.1.ranks.0 in
+    let ranks = c.requires.1.1.0 in
     record {
-      moves = moves_none (record g.here { rings = c.args.r.now }) a c.requires.1.1;
+      moves = moves_none (record g.here { rings = c.args.r.now }) a c.requires.1.1.1;
       none = λ none fresh i low due.
           let past = (rw c.rank.ensures at c.is_any_piece_due.ensures.none)
           (c.if-not-is_any_piece_due.true) i (omega (arith, low, ranks, cells)) in
@@ -24,7 +24,7 @@ returns-then-not-is_any_piece_due g c =
 
 pub loop-sender-init : goal.loop-sender-init
 loop-sender-init g c = record {
-  moves = moves_none (record g.here { rings = c.args.r.now }) c.args.self.now c.requires.1.1;
+  moves = moves_none (record g.here { rings = c.args.r.now }) c.args.self.now c.requires.1.1.1;
   none = λ none fresh i low. absurd (omega (arith, low));
   end = c.ranks-sender-end.ensures;
   bound = omega arith;
@@ -35,10 +35,10 @@ pull_some-requires g c lifetimes outlive =
     let s = c.loop-sender.invariant.moves.kept.ports in
     let low = c.loop-sender-test.true in
     let end = c.loop-sender.invariant.end in
-    let ranks = c.requires.1.0 in
+    let ranks = c.requires.1.1.0 in
     let cells = s.ranks.0 in
     let rings = s.ranks.1 in
-    (outlive, (s, omega (arith, low, end, ranks, cells, rings)))
+    (outlive.0, (outlive.1, (s, omega (arith, low, end, ranks, cells, rings))))
 
 pub loop-sender-preserved : goal.loop-sender-preserved
 loop-sender-preserved g c =

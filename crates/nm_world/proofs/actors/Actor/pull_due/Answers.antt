@@ -20,17 +20,17 @@ use Rattle.nm_world.proofs.actors.Actor.pull_due.Goals as goal
 
 pub returns : goal.returns
 returns g c =
-    let s = c.requires.1.0 in
+    let s = c.requires.1.1.0 in
     let a = c.args.self.now in
     let v = c.take_piece.new.self in
     let q = c.in-Ok.piece.value in
     let pulls = c.in-Ok.ensures.pulls in
     let knew = pulls.knew in
     let shape = a.process.rank.sizes in
-    let sender = c.requires.1.1.0 in
+    let sender = c.requires.1.1.1.0 in
     let ranks = s.ranks.1 in
     let own = pulls.from in
-    let due = c.requires.1.1.1.0 in
+    let due = c.requires.1.1.1.1.0 in
     let taken = subst (λ (p : Piece). TakesPiece p a.process.rank v.rank) c.deref.ensures
     c.in_ok-take_piece.ensures.taken in
     let from : q.from < a.process.rank.sizes.ranks = omega (arith, own, sender, ranks) in
@@ -40,14 +40,14 @@ returns g c =
     let wide = s.rings.1.2 in
     let cells = s.ranks.0 in
     let port = c.pull.new.port in
-    let b : Actor = record { process = v; port = a.port; ring = port; places = tt } in
+    let b : Actor _ = record { process = v; port = a.port; ring = port; places = tt } in
     let low : c.args.sender < length (ring.knows a.ring).lanes = omega (arith, sender, wide) in
     let grows : Grows a b = record {
       events = (_, taken.happened.events);
       port = port_same a.port;
       ring = ring_up a.ring port (one_pulled q) c.args.sender low (pulled_up q) knew;
     } in
-    let fresh = c.requires.1.1.1.1 in
+    let fresh = c.requires.1.1.1.1.1 in
     record {
       moves = record {
         kept = ring_goes_on g.here.fabric c.args.r.now a v port s c.pull.ensures.keeps taken.sizes grows
@@ -66,16 +66,16 @@ returns g c =
 
 pub returns-in-Err : goal.returns-in-Err
 returns-in-Err g c =
-    let s = c.requires.1.0 in
+    let s = c.requires.1.1.0 in
     let a = c.args.self.now in
-    let sender = c.requires.1.1.0 in
+    let sender = c.requires.1.1.1.0 in
     let wide = s.rings.1.2 in
     let missed = c.in-Err.ensures.missed.0 in
-    let fresh = c.requires.1.1.1.1 in
+    let fresh = c.requires.1.1.1.1.1 in
     let done = port_missed (record g.here { rings = c.args.r.now }) a c.pull.new.port one_empty c.args.sender fresh s
     c.pull.ensures.keeps (omega (arith, sender, wide)) empty_up (λ l. (refl, refl))
     missed in
-    let b : Actor = record a { ring = c.pull.new.port } in
+    let b : Actor _ = record a { ring = c.pull.new.port } in
     record {
       bound = let cost = c.in-Err.ensures.cost.1 in omega (arith, cost);
       moves = done;

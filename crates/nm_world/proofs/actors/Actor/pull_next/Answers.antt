@@ -27,7 +27,7 @@ returns-then-not-is_piece_due g c =
     let a = c.args.self.now in
     record {
       bound = omega arith;
-      moves = moves_none (record g.here { rings = c.args.r.now }) a c.requires.1.0;
+      moves = moves_none (record g.here { rings = c.args.r.now }) a c.requires.1.1.0;
       none = λ none fresh due. absurd (isnt_below (drawn_from a.process.rank.receiving c.args.sender)
           (length (due_pieces a.process.rank.events c.args.sender))
           (sym (rw c.rank-rank.ensures at c.is_piece_due.ensures) ∙ c.if-not-is_piece_due.true) due);
@@ -38,23 +38,23 @@ returns-then-is_worn g c =
     let a = c.args.self.now in
     record {
       bound = omega arith;
-      moves = moves_none (record g.here { rings = c.args.r.now }) a c.requires.1.0;
+      moves = moves_none (record g.here { rings = c.args.r.now }) a c.requires.1.1.0;
       none = λ none fresh. absurd
           (clash (sym c.if-is_worn.true ∙ (rw c.rank-rank.ensures at c.is_worn.ensures).1 fresh));
     }
 
 pub returns-then-not-can_pull : goal.returns-then-not-can_pull
 returns-then-not-can_pull g c =
-    let s = c.requires.1.0 in
+    let s = c.requires.1.1.0 in
     let a = c.args.self.now in
-    let sender = c.requires.1.1 in
+    let sender = c.requires.1.1.1 in
     let wide = s.rings.1.2 in
     let fresh = (rw c.rank-rank.ensures at c.is_worn.ensures).0 c.if-is_worn.false in
     let done = port_missed (record g.here { rings = c.args.r.now }) a c.can_pull.new.port one_empty c.args.sender
     fresh s
     c.can_pull.ensures.keeps (omega (arith, sender, wide)) empty_up (λ l. (refl, refl))
     (c.can_pull.ensures.empty c.if-not-can_pull.true) in
-    let b : Actor = record a { ring = c.can_pull.new.port } in
+    let b : Actor _ = record a { ring = c.can_pull.new.port } in
     record {
       bound = let cost = c.can_pull.ensures.cost in omega (arith, cost);
       moves = done;
@@ -66,12 +66,12 @@ pub pull_due-requires : goal.pull_due-requires
 pull_due-requires g c lifetimes outlive =
     let a = c.args.self.now in
     let fresh = (rw c.rank-rank.ensures at c.is_worn.ensures).0 c.if-is_worn.false in
-    let looked = port_looked (record g.here { rings = c.args.r.now }) a c.can_pull.new.port fresh c.requires.1.0
+    let looked = port_looked (record g.here { rings = c.args.r.now }) a c.can_pull.new.port fresh c.requires.1.1.0
     c.can_pull.ensures.keeps ((c.can_pull.ensures.full c.if-not-can_pull.false).0) in
     let due = is_below (drawn_from a.process.rank.receiving c.args.sender)
     (length (due_pieces a.process.rank.events c.args.sender))
     (sym (rw c.rank-rank.ensures at c.is_piece_due.ensures) ∙ c.if-not-is_piece_due.false) in
-    (outlive, (looked.kept.ports, (c.requires.1.1, (due, fresh))))
+    (outlive.0, (outlive.1, (looked.kept.ports, (c.requires.1.1.1, (due, fresh)))))
 
 pub returns : goal.returns
 returns g c =
@@ -79,9 +79,9 @@ returns g c =
     let port = c.can_pull.new.port in
     let knew = (c.can_pull.ensures.full c.if-not-can_pull.false).0 in
     let fresh = (rw c.rank-rank.ensures at c.is_worn.ensures).0 c.if-is_worn.false in
-    let looked = port_looked (record g.here { rings = c.args.r.now }) a port fresh c.requires.1.0
+    let looked = port_looked (record g.here { rings = c.args.r.now }) a port fresh c.requires.1.1.0
     c.can_pull.ensures.keeps knew in
-    let b : Actor = record a { ring = port } in
+    let b : Actor _ = record a { ring = port } in
     let d = c.pull_due.new.self in
     let e = c.pull_due.ensures in
     record {

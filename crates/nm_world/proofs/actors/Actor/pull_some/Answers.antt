@@ -9,7 +9,7 @@ use Rattle.nm_world.proofs.actors.Actor.pull_some.Goals as goal
 
 pub loop-pulled-init : goal.loop-pulled-init
 loop-pulled-init g c = record {
-  looped = loop_none (record g.here { rings = c.args.r.now }) c.args.self.now c.requires.1.0;
+  looped = loop_none (record g.here { rings = c.args.r.now }) c.args.self.now c.requires.1.1.0;
   bound = omega arith;
 }
 
@@ -36,8 +36,8 @@ returns-then-not-branch g c =
     record {
       moves = done.moves;
       none = λ none fresh. let same = done.sole none in
-          subst (λ (x : Actor). NoPiece x d c.args.sender) same
-          (e.none c.if-not-branch.true (subst (λ (x : Actor). IsFresh x.process.rank) (sym same) fresh));
+          subst (λ (x : Actor _). NoPiece x d c.args.sender) same
+          (e.none c.if-not-branch.true (subst (λ (x : Actor _). IsFresh x.process.rank) (sym same) fresh));
       bound = spent_last c.loop-pulled.pulled 4 3 c.args.steps.now c.loop-pulled.steps c.pull_next.new.steps
           c.loop-pulled-test.true c.loop-pulled.invariant.bound e.bound;
     }

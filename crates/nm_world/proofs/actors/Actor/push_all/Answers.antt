@@ -9,7 +9,7 @@ use Rattle.nm_world.proofs.actors.Actor.push_all.Goals as goal
 
 pub loop-pushed-init : goal.loop-pushed-init
 loop-pushed-init g c = record {
-  looped = loop_none (record g.here { rings = c.args.r.now }) c.args.self.now c.requires.1;
+  looped = loop_none (record g.here { rings = c.args.r.now }) c.args.self.now c.requires.1.1;
   bound = omega arith;
 }
 
@@ -35,8 +35,8 @@ returns-then-not-branch g c =
     record {
       moves = done.moves;
       back = λ none fresh. let same = done.sole none in
-          subst (λ (x : Actor). NextNotPushed x d) same
-          (e.back c.if-not-branch.true (subst (λ (x : Actor). IsFresh x.process.rank) (sym same) fresh));
+          subst (λ (x : Actor _). NextNotPushed x d) same
+          (e.back c.if-not-branch.true (subst (λ (x : Actor _). IsFresh x.process.rank) (sym same) fresh));
       bound = spent_last c.loop-pushed.pushed 64 3 c.args.steps.now c.loop-pushed.steps c.push_next.new.steps
           c.loop-pushed-test.true c.loop-pushed.invariant.bound e.bound;
     }

@@ -20,7 +20,7 @@ use Rattle.nm_world.proofs.actors.Actor.push_front.Goals as goal
 
 pub returns : goal.returns
 returns g c =
-    let s = c.requires.1.0 in
+    let s = c.requires.1.1.0 in
     let a = c.args.self.now in
     let v = c.pop_piece.new.self in
     let next = rw c.rank.ensures at c.in-Some.ensures.next in
@@ -36,7 +36,7 @@ returns g c =
     let n = g.here.fabric.ranks in
     let low : to < c.args.r.now.ranks = omega (arith, within, ranks) in
     let wide = s.rings.1.2 in
-    let b : Actor = record { process = v; port = a.port; ring = c.push.new.port; places = tt } in
+    let b : Actor _ = record { process = v; port = a.port; ring = c.push.new.port; places = tt } in
     let grows : Grows a b = record {
       events = (_, pops.left.events);
       port = port_same a.port;
@@ -44,7 +44,7 @@ returns g c =
           (pushed_up q) knew;
     } in
     let cells = s.ranks.0 in
-    let fresh = c.requires.1.1 in
+    let fresh = c.requires.1.1.1 in
     record {
       moves = record {
         kept = ring_goes_on g.here.fabric c.args.r.now a v c.push.new.port s c.push.ensures.keeps pops.takes.sizes grows
@@ -67,14 +67,14 @@ returns-in_default g c =
     let a = c.args.self.now in
     record {
       bound = omega arith;
-      moves = moves_none (record g.here { rings = c.args.r.now }) a c.requires.1.0;
+      moves = moves_none (record g.here { rings = c.args.r.now }) a c.requires.1.1.0;
       back = λ none. subst (λ (o : Option Offered). IfSome o (λ o. full_to a.ring o.to < full_to a.ring o.to))
           (rw c.rank.ensures at c.in_default.ensures.next) tt;
     }
 
 pub returns-in-Err : goal.returns-in-Err
 returns-in-Err g c =
-    let s = c.requires.1.0 in
+    let s = c.requires.1.1.0 in
     let a = c.args.self.now in
     let to = c.in-Some.to in
     let own = rw c.rank.ensures at c.in-Some.ensures.own in
@@ -83,10 +83,10 @@ returns-in-Err g c =
     let wide = s.rings.1.2 in
     let low : to < length (ring.knows a.ring).lanes = omega (arith, within, ranks, wide) in
     let knew = c.in-Err.ensures.refused.1 in
-    let fresh = c.requires.1.1 in
+    let fresh = c.requires.1.1.1 in
     let done = port_missed (record g.here { rings = c.args.r.now }) a c.push.new.port one_full to fresh s
     c.push.ensures.keeps low full_up (λ l. (refl, refl)) knew in
-    let b : Actor = record a { ring = c.push.new.port } in
+    let b : Actor _ = record a { ring = c.push.new.port } in
     record {
       bound = let cost = c.in-Err.ensures.cost.1 in omega (arith, cost);
       moves = done;

@@ -18,7 +18,7 @@ returns-in_default g c =
     let a = c.args.self.now in
     record {
       bound = omega arith;
-      moves = moves_none (record g.here { rings = c.args.r.now }) a c.requires.1;
+      moves = moves_none (record g.here { rings = c.args.r.now }) a c.requires.1.1;
       back = λ none fresh. none_back a (rw c.rank-rank.ensures at c.in_default.ensures.to);
     }
 
@@ -27,14 +27,14 @@ returns-then-is_worn g c =
     let a = c.args.self.now in
     record {
       bound = omega arith;
-      moves = moves_none (record g.here { rings = c.args.r.now }) a c.requires.1;
+      moves = moves_none (record g.here { rings = c.args.r.now }) a c.requires.1.1;
       back = λ none fresh. absurd (clash (sym c.if-is_worn.true
           ∙ (rw c.rank-rank.ensures at c.is_worn.ensures).1 fresh));
     }
 
 pub returns-then-not-can_push : goal.returns-then-not-can_push
 returns-then-not-can_push g c =
-    let s = c.requires.1 in
+    let s = c.requires.1.1 in
     let a = c.args.self.now in
     let to = c.in-Some.to in
     let within = rw c.rank-rank.ensures at c.in-Some.ensures.in_range in
@@ -45,7 +45,7 @@ returns-then-not-can_push g c =
     let fresh = (rw c.rank-rank.ensures at c.is_worn.ensures).0 c.if-is_worn.false in
     let done = port_missed (record g.here { rings = c.args.r.now }) a c.can_push.new.port one_full to fresh s
     c.can_push.ensures.keeps low full_up (λ l. (refl, refl)) knew in
-    let b : Actor = record a { ring = c.can_push.new.port } in
+    let b : Actor _ = record a { ring = c.can_push.new.port } in
     record {
       bound = let cost = c.can_push.ensures.cost in omega (arith, cost);
       moves = done;
@@ -56,9 +56,9 @@ pub push_front-requires : goal.push_front-requires
 push_front-requires g c lifetimes outlive =
     let a = c.args.self.now in
     let fresh = (rw c.rank-rank.ensures at c.is_worn.ensures).0 c.if-is_worn.false in
-    let looked = port_looked (record g.here { rings = c.args.r.now }) a c.can_push.new.port fresh c.requires.1
+    let looked = port_looked (record g.here { rings = c.args.r.now }) a c.can_push.new.port fresh c.requires.1.1
     c.can_push.ensures.keeps ((c.can_push.ensures.free c.if-not-can_push.false).0) in
-    (outlive, (looked.kept.ports, fresh))
+    (outlive.0, (outlive.1, (looked.kept.ports, fresh)))
 
 pub returns : goal.returns
 returns g c =
@@ -66,9 +66,9 @@ returns g c =
     let port = c.can_push.new.port in
     let knew = (c.can_push.ensures.free c.if-not-can_push.false).0 in
     let fresh = (rw c.rank-rank.ensures at c.is_worn.ensures).0 c.if-is_worn.false in
-    let looked = port_looked (record g.here { rings = c.args.r.now }) a port fresh c.requires.1
+    let looked = port_looked (record g.here { rings = c.args.r.now }) a port fresh c.requires.1.1
     c.can_push.ensures.keeps knew in
-    let b : Actor = record a { ring = port } in
+    let b : Actor _ = record a { ring = port } in
     let d = c.push_front.new.self in
     let e = c.push_front.ensures in
     record {

@@ -9,7 +9,7 @@ use Rattle.nm_world.proofs.actors.Actor.send_all.Goals as goal
 
 pub loop-sent-init : goal.loop-sent-init
 loop-sent-init g c = record {
-  looped = loop_none (record g.here { fabric = c.args.f.now }) c.args.self.now c.requires.1;
+  looped = loop_none (record g.here { fabric = c.args.f.now }) c.args.self.now c.requires.1.1;
   bound = omega arith;
 }
 
@@ -34,8 +34,8 @@ returns-then-not-branch g c =
     record {
       moves = done.moves;
       back = λ none fresh. let same = done.sole none in
-          subst (λ (x : Actor). FirstNotSent x d) same
-          (e.back c.if-not-branch.true (subst (λ (x : Actor). IsFresh x.process.rank) (sym same) fresh));
+          subst (λ (x : Actor _). FirstNotSent x d) same
+          (e.back c.if-not-branch.true (subst (λ (x : Actor _). IsFresh x.process.rank) (sym same) fresh));
       bound = spent_last c.loop-sent.sent 64 9 c.args.steps.now c.loop-sent.steps c.send_next.new.steps
           c.loop-sent-test.true c.loop-sent.invariant.bound e.bound;
     }

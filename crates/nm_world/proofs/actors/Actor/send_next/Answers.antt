@@ -34,7 +34,7 @@ returns-then-is_worn g c =
     let a = c.args.self.now in
     record {
       bound = omega arith;
-      moves = moves_none (record g.here { fabric = c.args.f.now }) a c.requires.1;
+      moves = moves_none (record g.here { fabric = c.args.f.now }) a c.requires.1.1;
       back = λ none fresh. absurd
           (clash (sym c.if-is_worn.true ∙ (rw c.rank-rank.ensures at c.is_worn.ensures).1 fresh));
     }
@@ -44,7 +44,7 @@ returns-in_default g c =
     let a = c.args.self.now in
     record {
       bound = omega arith;
-      moves = moves_none (record g.here { fabric = c.args.f.now }) a c.requires.1;
+      moves = moves_none (record g.here { fabric = c.args.f.now }) a c.requires.1.1;
       back = λ none fresh. none_first (slice_get a.process.rank.sending.outbox.letters 0) _
           (NotSent a.port a.port) (rw c.rank-rank.ensures at c.in_default.ensures.first);
     }
@@ -53,7 +53,7 @@ returns-in_default g c =
 pub send-requires-clause-parcel : goal.send-requires-clause-parcel
 send-requires-clause-parcel g c =
     let made = c.address.ensures ∙ ap (λ (z : Parcel Packet). parcel_of z.item) c.deref_mut-2.ensures.value in
-    let s = c.requires.1.some.stands in
+    let s = c.requires.1.1.some.stands in
     let to = c.in-Some.to in
     let first = front_cut (slice_get c.args.self.now.process.rank.sending.outbox.letters 0) to c.fill_front.result
     c.fill_front.new.into _ _ (λ none. cc) (rw c.rank-rank.ensures at c.in-Some.ensures.first)
@@ -66,7 +66,7 @@ send-requires-clause-parcel g c =
 
 pub returns-in-Err : goal.returns-in-Err
 returns-in-Err g c =
-    let s = c.requires.1 in
+    let s = c.requires.1.1 in
     let a = c.args.self.now in
     let port = c.send.new.port in
     let e = c.send.ensures in
@@ -95,7 +95,8 @@ returns-in-Err g c =
               events = (grows_same a).events;
               ring = ring_same a.ring;
               port = port_by a.port port (entry_on (knows a.port) (tried fits to (knows a.port)) (knows port)
-                  (tried_up fits to (knows a.port)) (miss_up free_queue (tried fits to (knows a.port)) (knows port) miss))
+                  (tried_up fits to (knows a.port))
+                  (miss_up free_queue (tried fits to (knows a.port)) (knows port) miss))
                   e.taken.0;
             }) (λ commands last at. nothing_carried commands last a port at e.keeps.rank e.taken.0
             (back_sent fits to (knows a.port) (knows port) miss)
@@ -105,14 +106,15 @@ returns-in-Err g c =
         stepped = stepped_fresh false a (record a { port = port }) fresh refl (λ none. refl);
       };
       back = λ none fresh. subst (λ (o : Option Letter). IfSome o (NotSent a.port port)) (sym first.1)
-          (came_back a.port port first.0 len (ap (λ (x : Packet). length x.payload) first.3) (omega (arith, within, ranks, wide, there))
+          (came_back a.port port first.0 len (ap (λ (x : Packet). length x.payload) first.3)
+          (omega (arith, within, ranks, wide, there))
           (subst (λ (k : ℕ). HadMiss free_queue (tried fits k (knows a.port)) (knows port)) first.2 miss));
       bound = e.bound;
     }
 
 pub returns : goal.returns
 returns g c =
-    let s = c.requires.1 in
+    let s = c.requires.1.1 in
     let a = c.args.self.now in
     let v = c.pop_front.new.self in
     let port = c.send.new.port in
@@ -140,7 +142,7 @@ returns g c =
     let moment = acted a.process.rank (outs (ended_by (slice_get letters 0))) in
     let n = c.args.f.now.ranks in
     let ranks = s.ranks.0 in
-    let b : Actor = record { process = v; port = port; ring = a.ring; places = tt } in
+    let b : Actor _ = record { process = v; port = port; ring = a.ring; places = tt } in
     let grows : Grows a b = record {
       events = (_, pops.left.events);
       port = port_by a.port port (sends_up fits to (parcel_of packet) a.port port way sends) e.taken.0;

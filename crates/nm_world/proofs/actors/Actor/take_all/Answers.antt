@@ -11,7 +11,7 @@ use Rattle.nm_world.proofs.actors.Actor.take_all.Goals as goal
 
 pub loop-took-init : goal.loop-took-init
 loop-took-init g c = record {
-  looped = loop_none (record g.here { fabric = c.args.f.now }) c.args.self.now c.requires.1;
+  looped = loop_none (record g.here { fabric = c.args.f.now }) c.args.self.now c.requires.1.1;
   polled = λ some. absurd (omega (arith, some));
   bound = omega arith;
 }
@@ -44,8 +44,8 @@ returns-then-not-branch g c =
     record {
       moves = done.moves;
       none = λ none fresh. let same = done.sole none in
-          subst (λ (x : Actor). GaveNone x.process.rank.sizes.ranks x.port d.port) same
-          (e.none c.if-not-branch.true (subst (λ (x : Actor). IsFresh x.process.rank) (sym same) fresh));
+          subst (λ (x : Actor _). GaveNone x.process.rank.sizes.ranks x.port d.port) same
+          (e.none c.if-not-branch.true (subst (λ (x : Actor _). IsFresh x.process.rank) (sym same) fresh));
       polled = polled_last (record g.here { fabric = c.args.f.now }) c.loop-took.took a b d
           c.loop-took.invariant.looped c.loop-took.invariant.polled e.moves.kept.grows e.polled;
       bound = spent_last c.loop-took.took 64 (c.args.f.now.ranks + 10) c.args.steps.now c.loop-took.steps

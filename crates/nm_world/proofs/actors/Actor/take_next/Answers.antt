@@ -33,7 +33,7 @@ returns-then-is_worn g c =
     (sym c.if-is_worn.true ∙ (rw c.rank-rank.ensures at c.is_worn.ensures).1 fresh) in
     record {
       bound = omega arith;
-      moves = moves_none (record g.here { fabric = c.args.f.now }) a c.requires.1;
+      moves = moves_none (record g.here { fabric = c.args.f.now }) a c.requires.1.1;
       none = λ none fresh. absurd (not fresh);
       polled = inr (not, refl);
     }
@@ -42,10 +42,10 @@ pub returns-in-Err : goal.returns-in-Err
 returns-in-Err g c =
     let n = c.args.f.now.ranks in
     let gave_back = c.in-Err.ensures.none.1 in
-    let s = c.requires.1 in
+    let s = c.requires.1.1 in
     let a = c.args.self.now in
     let port = c.poll.new.port in
-    let b : Actor = record a { port = port } in
+    let b : Actor _ = record a { port = port } in
     let sent = none_sent (knows a.port) (knows port) gave_back.miss in
     let fresh = (rw c.rank-rank.ensures at c.is_worn.ensures).0 c.if-is_worn.false in
     let gave = gave_none a.process.rank.sizes.ranks a.port port (s.cells.2 ∙ s.ranks.0) gave_back.miss in
@@ -75,25 +75,25 @@ take_packet-requires-clause-sender g c =
     let letter_is = ap (λ (z : Parcel Packet). z.item) c.deref.ensures ∙ c.restore_header.ensures
     ∙ ap packet_of c.deref_mut.ensures.value in
     let low : c.in-Ok.letter.value.from < ranks = omega
-    (arith, c.in-Ok.ensures.polls.next.sender, c.requires.1.ranks.0) in
+    (arith, c.in-Ok.ensures.polls.next.sender, c.requires.1.1.ranks.0) in
     subst (λ (z : Packet). z.from < ranks) (sym letter_is) low
 
 pub take_packet-requires-clause-number : goal.take_packet-requires-clause-number
 take_packet-requires-clause-number g c =
-    let s = c.requires.1.some.stands in
+    let s = c.requires.1.1.some.stands in
     let v = c.args.self.now.process.rank in
     let x = c.in-Ok.letter.value in
     let next = c.in-Ok.ensures.polls.next in
     let letter_is = ap (λ (z : Parcel Packet). z.item) c.deref.ensures ∙ c.restore_header.ensures
     ∙ ap packet_of c.deref_mut.ensures.value in
-    let low : x.from < v.sizes.ranks = omega (arith, next.sender, c.requires.1.ranks.0) in
+    let low : x.from < v.sizes.ranks = omega (arith, next.sender, c.requires.1.1.ranks.0) in
     let number : x.seq ≡ count_of v.took x.from = next.number ∙ sym (s.is.taken x.from low).many
     ∙ length-map (taken_from x.from s.past.log) (λ t. t.packet) ∙ sym (s.is.stands.logged.taken.took x.from) in
     subst (λ (z : Packet). z.seq ≡ count_of v.took z.from) (sym letter_is) number
 
 pub returns : goal.returns
 returns g c =
-    let s = c.requires.1 in
+    let s = c.requires.1.1 in
     let v = c.take_packet.new.self in
     let x = c.in-Ok.letter.value in
     let p = packet_of x in
@@ -110,7 +110,7 @@ returns g c =
     let n = c.args.f.now.ranks in
     let a = c.args.self.now in
     let port = c.poll.new.port in
-    let b : Actor = record { process = v; port = port; ring = a.ring; places = tt } in
+    let b : Actor _ = record { process = v; port = port; ring = a.ring; places = tt } in
     let grows : Grows a b = record {
       events = (_, (took.happened (λ s. [])).events);
       port = port_took a.port port p.from

@@ -12,7 +12,7 @@ pub returns-then-not-next_looks : goal.returns-then-not-next_looks
 returns-then-not-next_looks g c =
     let x = c.args.self.now in
     let a = x.actor in
-    let s = c.requires.1.1 in
+    let s = c.requires.1.1.1 in
     let n = a.process.rank.sizes.ranks in
     record {
       source = refl;
@@ -27,13 +27,13 @@ returns-then-not-next_looks g c =
     }
 
 pub take_next-requires : goal.take_next-requires
-take_next-requires g c lifetimes outlive = (outlive, c.requires.1.1.ports)
+take_next-requires g c lifetimes outlive = (outlive.0, (outlive.1, c.requires.1.1.1.ports))
 
 pub returns : goal.returns
 returns g c =
     let x = c.args.self.now in
     let a = x.actor in
-    let s = c.requires.1.1 in
+    let s = c.requires.1.1.1 in
     record {
       source = refl;
       bound = c.take_next.ensures.bound;

@@ -18,45 +18,58 @@ use Rattle.nm_types.proofs.TruthLemmas.{neither}
 
 pub send_all-requires : goal.send_all-requires
 send_all-requires g c lifetimes outlive = (
-  outlive,
-  subst (λ (x : Environment). HasPorts c.args.f.now x.rings c.args.self.now.actor) (sym c.requires.1.1.0)
-      c.requires.1.1.1.ports,
+  outlive.0,
+  (
+    outlive.1,
+    subst (λ (x : Environment). HasPorts c.args.f.now x.rings c.args.self.now.actor) (sym c.requires.1.1.1.0)
+        c.requires.1.1.1.1.ports,
+  ),
 )
 
 pub push_all-requires : goal.push_all-requires
 push_all-requires g c lifetimes outlive =
     let p = c.send_all.new.self in (
-      outlive,
-      subst (λ (x : Fabric Packet). HasPorts x c.args.r.now p) (sym (ap (λ (x : Environment). x.fabric) c.requires.1.1.0))
-          (subst (λ (x : Rings). HasPorts c.args.f.now x p)
-          (ap (λ (x : Environment). x.rings) c.requires.1.1.0) c.in_ok-sent.ensures.moves.kept.ports),
+      outlive.0,
+      (
+        outlive.1,
+        subst (λ (x : Fabric Packet). HasPorts x c.args.r.now p)
+            (sym (ap (λ (x : Environment). x.fabric) c.requires.1.1.1.0))
+            (subst (λ (x : Rings). HasPorts c.args.f.now x p)
+            (ap (λ (x : Environment). x.rings) c.requires.1.1.1.0) c.in_ok-sent.ensures.moves.kept.ports),
+      ),
     )
 
 pub take_all-requires : goal.take_all-requires
 take_all-requires g c lifetimes outlive =
     let p = c.push_all.new.self in (
-      outlive,
-      subst (λ (x : Rings). HasPorts c.args.f.now x p) (sym (ap (λ (x : Environment). x.rings) c.requires.1.1.0))
-          (subst (λ (x : Fabric Packet). HasPorts x c.args.r.now p)
-          (ap (λ (x : Environment). x.fabric) c.requires.1.1.0) c.in_ok-pushed.ensures.moves.kept.ports),
+      outlive.0,
+      (
+        outlive.1,
+        subst (λ (x : Rings). HasPorts c.args.f.now x p) (sym (ap (λ (x : Environment). x.rings) c.requires.1.1.1.0))
+            (subst (λ (x : Fabric Packet). HasPorts x c.args.r.now p)
+            (ap (λ (x : Environment). x.fabric) c.requires.1.1.1.0) c.in_ok-pushed.ensures.moves.kept.ports),
+      ),
     )
 
 pub pull_all-requires : goal.pull_all-requires
 pull_all-requires g c lifetimes outlive =
     let p = c.take_all.new.self in
-    let fabric = sym (ap (λ (x : Environment). x.fabric) c.requires.1.1.0) in (
-      outlive,
+    let fabric = sym (ap (λ (x : Environment). x.fabric) c.requires.1.1.1.0) in (
+      outlive.0,
       (
-        ap (λ (x : Fabric Packet). x.ranks) fabric,
-        subst (λ (x : Fabric Packet). HasPorts x c.args.r.now p) fabric
-            (subst (λ (x : Rings). HasPorts c.args.f.now x p)
-            (ap (λ (x : Environment). x.rings) c.requires.1.1.0) c.in_ok-took.ensures.moves.kept.ports),
+        outlive.1,
+        (
+          ap (λ (x : Fabric Packet). x.ranks) fabric,
+          subst (λ (x : Fabric Packet). HasPorts x c.args.r.now p) fabric
+              (subst (λ (x : Rings). HasPorts c.args.f.now x p)
+              (ap (λ (x : Environment). x.rings) c.requires.1.1.1.0) c.in_ok-took.ensures.moves.kept.ports),
+        ),
       ),
     )
 
 pub run_all-requires : goal.run_all-requires
 run_all-requires g c lifetimes outlive =
-    let here = c.requires.1.1.0 in
+    let here = c.requires.1.1.1.0 in
     let f = c.args.f.now in
     let r = c.args.r.now in
     let x = c.args.self.now in
@@ -75,21 +88,24 @@ run_all-requires g c lifetimes outlive =
     let four = subst (λ (x : Environment). Moves (record x { rings = r }) c.in_ok-pulled.pulled t u) here
     c.in_ok-pulled.ensures.moves in
     let su = moves_on all _ _ a t u (moves_on all _ _ a p t (moves_on all _ _ a s p one two) three) four in
-    let y : Player _ = record { actor = u; source = x.source } in (
+    let y : Player _ _ = record { actor = u; source = x.source } in (
       outlive.0,
       (
-        outlive.1,
+        outlive.1.0,
         (
-          sym (ap (λ (x : Environment). x.fabric) here),
-          subst (λ (x : Environment). PlayerInvariant g.S.Source.shows g.S.Source.gives x.fabric x.rings y) (sym here)
-              (carries_on g.S.Source.shows g.S.Source.gives f r x u c.requires.1.1.1 su.kept su.stepped.at).stands,
+          outlive.1.1,
+          (
+            sym (ap (λ (x : Environment). x.fabric) here),
+            subst (λ (x : Environment). PlayerInvariant g.S.Source.shows g.S.Source.gives x.fabric x.rings y) (sym here)
+                (carries_on g.S.Source.shows g.S.Source.gives f r x u c.requires.1.1.1.1 su.kept su.stepped.at).stands,
+          ),
         ),
       ),
     )
 
 pub returns : goal.returns
 returns g c =
-    let here = c.requires.1.1.0 in
+    let here = c.requires.1.1.1.0 in
     let shows = g.S.Source.shows in
     let gives = g.S.Source.gives in
     let f = c.args.f.now in
@@ -113,13 +129,13 @@ returns g c =
     let three = subst (λ (x : Environment). Moves (record x { fabric = f }) c.in_ok-took.took p t) here took.moves in
     let four = subst (λ (x : Environment). Moves (record x { rings = r }) c.in_ok-pulled.pulled t u) here
     pulled.moves in
-    let y : Player _ = record { actor = u; source = x.source } in
+    let y : Player _ _ = record { actor = u; source = x.source } in
     let five = subst (λ (x : Environment). PlaysOn shows gives x.fabric x.rings y e) here ran.kept in
     let run_moved = subst (λ (x : Environment). c.in_ok-ran.ran ≡ did x.fabric.ranks u e.actor) here ran.moved in
     let sp = moves_on all _ _ a s p one two in
     let st = moves_on all _ _ a p t sp three in
     let su = moves_on all _ _ a t u st four in
-    let stands = c.requires.1.1.1 in
+    let stands = c.requires.1.1.1.1 in
     let to_u = carries_on shows gives f r x u stands su.kept su.stepped.at in
     let se = plays_and shows gives f r f.ranks x y e _ c.in_ok-ran.ran to_u five su.moved run_moved in
     let bound_s = sent.bound in

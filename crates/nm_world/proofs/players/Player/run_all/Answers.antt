@@ -24,7 +24,7 @@ pub loop-ran-init : goal.loop-ran-init
 loop-ran-init g c =
     let x = c.args.self.now in
     record {
-      kept = plays_same g.S.Source.shows g.S.Source.gives g.here.fabric g.here.rings x c.requires.1.1.1;
+      kept = plays_same g.S.Source.shows g.S.Source.gives g.here.fabric g.here.rings x c.requires.1.1.1.1;
       moved = did_same g.here.fabric.ranks x.actor;
       first = λ e. refl;
       polled = λ commands last given. looked_none commands x.actor;
@@ -36,9 +36,12 @@ pub look-requires : goal.look-requires
 look-requires g c lifetimes outlive = (
   outlive.0,
   (
-    outlive.1,
-    subst (λ (f : Fabric Packet). PlayerInvariant g.S.Source.shows g.S.Source.gives f g.here.rings c.loop-ran.self)
-        (sym c.requires.1.1.0) c.loop-ran.invariant.kept.stands,
+    outlive.1.0,
+    (
+      outlive.1.1,
+      subst (λ (f : Fabric Packet). PlayerInvariant g.S.Source.shows g.S.Source.gives f g.here.rings c.loop-ran.self)
+          (sym c.requires.1.1.1.0) c.loop-ran.invariant.kept.stands,
+    ),
   ),
 )
 
@@ -47,11 +50,15 @@ run_next-requires g c lifetimes outlive =
     let b = c.loop-ran.self in
     let m = c.look.new.self in
     let two = c.in_ok-looked.ensures in
-    let moves = subst (λ (f : Fabric Packet). Moves (record g.here { fabric = f }) c.in_ok-looked.looked b.actor m.actor)
-    c.requires.1.1.0 two.moves in (
-      outlive,
-      (moves_actor g.S.Source.shows g.S.Source.gives g.here.fabric g.here.rings b m c.in_ok-looked.looked
-          c.loop-ran.invariant.kept.stands moves two.source).stands,
+    let moves = subst (λ (f : Fabric Packet). Moves (record g.here { fabric = f }) c.in_ok-looked.looked b.actor
+    m.actor)
+    c.requires.1.1.1.0 two.moves in (
+      outlive.0,
+      (
+        outlive.1,
+        (moves_actor g.S.Source.shows g.S.Source.gives g.here.fabric g.here.rings b m c.in_ok-looked.looked
+            c.loop-ran.invariant.kept.stands moves two.source).stands,
+      ),
     )
 
 pub loop-ran-preserved : goal.loop-ran-preserved
@@ -66,12 +73,14 @@ loop-ran-preserved g c =
     let d = c.run_next.new.self in
     let one = c.loop-ran.invariant in
     let two = c.in_ok-looked.ensures in
-    let moves = subst (λ (f : Fabric Packet). Moves (record g.here { fabric = f }) c.in_ok-looked.looked b.actor m.actor)
-    c.requires.1.1.0 two.moves in
+    let moves = subst (λ (f : Fabric Packet). Moves (record g.here { fabric = f }) c.in_ok-looked.looked b.actor
+    m.actor)
+    c.requires.1.1.1.0 two.moves in
     let two_kept = moves_actor shows gives f r b m c.in_ok-looked.looked one.kept.stands moves two.source in
     let three = c.in_ok-run_next.ensures in
     let ran = c.if-not-branch.false in
-    let both = plays_and shows gives f r f.ranks a b m (c.loop-ran.took || nat_lt 0 c.loop-ran.ran) c.in_ok-looked.looked
+    let both = plays_and shows gives f r f.ranks a b m (c.loop-ran.took || nat_lt 0 c.loop-ran.ran)
+    c.in_ok-looked.looked
     one.kept two_kept one.moved moves.moved in
     let all = plays_and shows gives f r f.ranks a m d _ c.in_ok-run_next.field-0 both.0 three.kept both.1 three.moved in
     record {
@@ -85,7 +94,8 @@ loop-ran-preserved g c =
           let before = three.kept.source.gave commands last given in
           let gave = subst (λ s. gives s commands before.before) two.source before.gives in
           looked_more commands before.before f r a.actor b.actor m.actor d.actor one.kept.grows
-          (ap (λ (s : Seat). s.sizes.ranks) one.kept.seat) (one.kept.stands.stands commands before.before gave) moves.kept
+          (ap (λ (s : Seat). s.sizes.ranks) one.kept.seat) (one.kept.stands.stands commands before.before gave)
+          moves.kept
           three.kept.grows moves.stepped.at (three.kept.stands.stands commands last given).is.work.answers
           (one.polled commands before.before gave) (two.polled commands before.before gave) (three.ran ran)
           (three.next ran commands last given);
@@ -106,38 +116,40 @@ returns-then-not-branch g c =
     let d = c.run_next.new.self in
     let one = c.loop-ran.invariant in
     let two = c.in_ok-looked.ensures in
-    let moves = subst (λ (f : Fabric Packet). Moves (record g.here { fabric = f }) c.in_ok-looked.looked b.actor m.actor)
-    c.requires.1.1.0 two.moves in
+    let moves = subst (λ (f : Fabric Packet). Moves (record g.here { fabric = f }) c.in_ok-looked.looked b.actor
+    m.actor)
+    c.requires.1.1.1.0 two.moves in
     let two_kept = moves_actor shows gives f r b m c.in_ok-looked.looked one.kept.stands moves two.source in
     let three = c.in_ok-run_next.ensures in
     let rests = c.if-not-branch.true in
     let took = c.loop-ran.took in
     let looked = c.in_ok-looked.looked in
     let same : d ≡ m = three.still rests in
-    let both = plays_and shows gives f r f.ranks a b m (took || nat_lt 0 c.loop-ran.ran) looked one.kept two_kept one.moved
+    let both = plays_and shows gives f r f.ranks a b m (took || nat_lt 0 c.loop-ran.ran) looked one.kept two_kept
+    one.moved
     moves.moved in
     let before : (took || looked) || nat_lt 0 c.loop-ran.ran ≡ false → (b ≡ a) × (looked ≡ false) =
     λ none. let two_none = neither (took || looked) (nat_lt 0 c.loop-ran.ran) none in
     (one.first (is_first c.loop-ran.ran two_none.1), (neither took looked two_none.0).1) in
     let still : (took || looked) || nat_lt 0 c.loop-ran.ran ≡ false → m.actor.process ≡ a.actor.process =
-    λ none. moves.stepped.still (before none).1 ∙ ap (λ (x : Player _). x.actor.process) (before none).0 in
+    λ none. moves.stepped.still (before none).1 ∙ ap (λ (x : Player _ _). x.actor.process) (before none).0 in
     record {
-      kept = subst (λ (x : Player _). PlaysOn shows gives f r a x) (sym same) both.0;
+      kept = subst (λ (x : Player _ _). PlaysOn shows gives f r a x) (sym same) both.0;
       moved = or_swap took looked (nat_lt 0 c.loop-ran.ran)
-          ∙ subst (λ (x : Player _). ((took || nat_lt 0 c.loop-ran.ran) || looked) ≡ did f.ranks a.actor x.actor)
+          ∙ subst (λ (x : Player _ _). ((took || nat_lt 0 c.loop-ran.ran) || looked) ≡ did f.ranks a.actor x.actor)
           (sym same) both.1;
-      still = λ none. ap (λ (x : Player _). x.actor.process) same ∙ still none;
+      still = λ none. ap (λ (x : Player _ _). x.actor.process) same ∙ still none;
       stuck = λ none fresh commands last given. subst (λ (v : ProcessView). goes_on commands v ≡ false) (still none)
           (three.stuck rests (subst (λ (v : ProcessView). IsFresh v.rank) (sym (still none)) fresh) commands last
           (subst (λ s. gives s commands last)
-          (sym (two.source ∙ ap (λ (x : Player _). x.source) (before none).0)) given));
+          (sym (two.source ∙ ap (λ (x : Player _ _). x.source) (before none).0)) given));
       polled = λ commands last given.
-          let at_m = subst (λ (x : Player _). gives x.source commands last) same given in
+          let at_m = subst (λ (x : Player _ _). gives x.source commands last) same given in
           let gave = subst (λ s. gives s commands last) two.source at_m in
-          subst (λ (x : Player _). PolledBefore commands a.actor x.actor) (sym same)
+          subst (λ (x : Player _ _). PolledBefore commands a.actor x.actor) (sym same)
           (looked_last commands last f r a.actor b.actor m.actor (one.kept.stands.stands commands last gave) moves.kept
           moves.stepped.at (one.polled commands last gave));
-      worn = λ worn. ap (λ (x : Player _). x.actor) same
+      worn = λ worn. ap (λ (x : Player _ _). x.actor) same
           ∙ stays_worn a.actor b.actor m.actor one.worn moves.stepped.worn worn;
       bound = spent_last c.loop-ran.ran 64 (c.args.f.now.ranks + 10) c.args.steps.now c.loop-ran.steps
           c.look.new.steps

@@ -10,6 +10,7 @@ use Rattle.nm_world.proofs.Looks.{ran_one}
 use Rattle.nm_world.proofs.Told.{hears_more, one_more_given, told_more}
 use Rattle.std.specs.List.{slice_get}
 use Rattle.std.specs.Option.{option_map_or}
+use Rattle.nm_types.specs.declared.answers.Answer.{Answer}
 use Rattle.nm_types.specs.declared.scripts.Command.{Command}
 use Rattle.nm_types.specs.Commands.{Numbered}
 use Rattle.nm_types.specs.Limits.{is_in_range}
@@ -32,17 +33,17 @@ use Rattle.nm_world.proofs.players.Player.run_next.Goals as goal
 
 pub run-requires-clause-in_range : goal.run-requires-clause-in_range
 run-requires-clause-in_range g c =
-    subst (λ (n : ℕ). is_in_range n c.in-Some.command.now ≡ true) c.requires.1.ranks c.in-Some.ensures.in_range
+    subst (λ (n : ℕ). is_in_range n c.in-Some.command.now ≡ true) c.requires.1.1.ranks c.in-Some.ensures.in_range
 
 pub run-requires-clause-counted : goal.run-requires-clause-counted
-run-requires-clause-counted g c = subst (λ (k : ℕ). k < c.in-Some.line) c.requires.1.at c.in-Some.ensures.counted
+run-requires-clause-counted g c = subst (λ (k : ℕ). k < c.in-Some.line) c.requires.1.1.at c.in-Some.ensures.counted
 
-pub pass-requires-clause-next : goal.pass-requires-clause-next
-pass-requires-clause-next g c = subst (λ (o : Option Command). IsSome o) c.in-Some.ensures.shown refl
+pub pass-requires : goal.pass-requires
+pass-requires g c = record { next = subst (λ (o : Option Command). IsSome o) c.in-Some.ensures.shown refl }
 
 pub returns-in_default : goal.returns-in_default
 returns-in_default g c =
-    let s = c.requires.1 in
+    let s = c.requires.1.1 in
     let x = c.args.self.now in
     let v = x.actor.process in
     record {
@@ -58,21 +59,22 @@ returns-in_default g c =
 
 pub returns-in-Waits : goal.returns-in-Waits
 returns-in-Waits g c =
-    let s = c.requires.1 in
+    let s = c.requires.1.1 in
     let x = c.args.self.now in
     let a = x.actor in
     let v = c.run.new.self in
     let line = c.in-Some.line in
     let command = c.in-Some.command.now in
-    let y : Player _ = record x { actor = record a { process = v } } in
+    let y : Player _ _ = record x { actor = record a { process = v } } in
     let stepped = subst (λ (y : Step). HasStepped command line a.process v y) c.in-Waits.is
     c.in_ok-run.ensures.stepped in
     let same : y ≡ x = ap (λ (w : ProcessView). record x { actor = record a { process = w } }) stepped in
     let o : Option Command = Some command in
     record {
-      kept = subst (λ (z : Player _). PlaysOn g.S.Source.shows g.S.Source.gives g.here.fabric g.here.rings x z) (sym same)
+      kept = subst (λ (z : Player _ _). PlaysOn g.S.Source.shows g.S.Source.gives g.here.fabric g.here.rings x z)
+          (sym same)
           (plays_same g.S.Source.shows g.S.Source.gives g.here.fabric g.here.rings x s);
-      moved = subst (λ (z : Player _). false ≡ did g.here.fabric.ranks a z.actor) (sym same)
+      moved = subst (λ (z : Player _ _). false ≡ did g.here.fabric.ranks a z.actor) (sym same)
           (did_same g.here.fabric.ranks a);
       ran = λ e. absurd (clash (sym e));
       next = λ e. absurd (clash (sym e));
@@ -87,7 +89,7 @@ returns-in-Waits g c =
 
 pub returns-in_ok-pass-in-Ran : goal.returns-in_ok-pass-in-Ran
 returns-in_ok-pass-in-Ran g c =
-    let s = c.requires.1 in
+    let s = c.requires.1.1 in
     let x = c.args.self.now in
     let a = x.actor in
     let v = c.run.new.self in
@@ -98,7 +100,7 @@ returns-in_ok-pass-in-Ran g c =
     let gives = g.S.Source.gives in
     let stepped = subst (λ (y : Step). HasStepped command line a.process v y) c.in-Ran.is
     c.in_ok-run.ensures.stepped in
-    let b : Actor = record a { process = v } in
+    let b : Actor _ = record a { process = v } in
     let passed = c.in_ok-pass-in-Ran.ensures in
     let in_range = subst (λ (n : ℕ). is_in_range n command ≡ true) s.ranks c.in-Some.ensures.in_range in
     let right = rw c.rank.ensures at c.history.ensures.right in
@@ -177,8 +179,13 @@ returns-in_ok-pass-in-Ran g c =
           };
           at = omega (arith, at, was, counts);
           ranks = passed.counted.1 ∙ s.ranks ∙ sym (ap (λ z. z.ranks) sizes);
-          told = told_more _ _ c.in-Some-2.answer.now (answers_given a.process.rank.events) (answers_given v.rank.events) passed.told s.told
-              (more ∙ ap (λ (o : Option Answer). answers_given a.process.rank.events ++ option_to_list o) (sym c.last_answer.ensures));
+          told = told_more _ _ c.in-Some-last_answer.answer.now (answers_given a.process.rank.events)
+              (answers_given v.rank.events) passed.told s.told
+              (more
+              ∙ ap (λ (o : Option Answer). answers_given a.process.rank.events ++ option_to_list o)
+              (sym c.last_answer.ensures)
+              ∙ ap (λ (o : Option _). answers_given a.process.rank.events ++ option_to_list (option_map (λ x. x.now) o))
+              c.in-Some-last_answer.is);
           stands = stands;
         };
         seat = seat_is a v a.port.rank refl sizes;
