@@ -1,26 +1,41 @@
-//! Four whole programs over `nm_programs`: two ranks that send a message to and fro, a sum round a ring, a master
-//! with workers, and a rod whose ranks exchange the values at the ends of their parts. Take the module that is
-//! nearest to yours as a beginning.
+//! Whole programs over `nm_programs`: two ranks that send a message to and fro, a sum round a ring, a master with
+//! workers, and a rod whose ranks exchange the values at the ends of their parts. Take the module that is nearest
+//! to yours as a beginning. Each runs with a record of what happened, and with none. `ends` shows runs that come to
+//! another end.
+//!
+//! With two words, a length and a number of batches, it runs a flood of messages of that length, with no record
+//! (`flood`).
 #![tactic(auto)]
 
 ghost use Rattle.std.specs.Prelude.{◌≡◌, ◌<◌, IfOk, length};
 
+mod ends;
 mod farm;
+mod flood;
 mod ping_pong;
 mod ring;
 mod rod;
 
+use ends::Rank;
 use farm::{Hand, Role};
 use nm_outside::OpenGate;
-use nm_programs::{Finished, Program, run_programs};
-use nm_types::Shape;
+use nm_programs::{Finished, Program, Stop, run_programs, run_unrecorded};
+use nm_types::{Command, Shape};
 use ping_pong::Player;
 use ring::{Link, run_ring};
 use rod::Part;
 use std::alloc::Global;
+use std::env;
 use std::sync::Wait;
 use std::test::Fail;
 use std::thread::Threads;
+
+// Whether a run keeps a record.
+#[derive(Clone, Copy)]
+enum Keeps {
+    Record,
+    Nothing,
+}
 
 // The shape of a run of so many ranks, with 8 cells each, where messages of up to 1,024 bytes are eager.
 fn shape_of(ranks: u8) -> Result<Shape, Fail>
@@ -36,20 +51,30 @@ fn shape_of(ranks: u8) -> Result<Shape, Fail>
 fn run<R: Threads + Wait + Sync, P: Program + Send>(
     rt: &R,
     alloc: Global,
-    ranks: u8,
+    shape: Shape,
     programs: Vec<P>,
-) -> Result<Vec<Finished<P>>, Fail>
-    requires { length programs.items ≡ ranks }
+    keeps: Keeps,
+) -> Result<Vec<Finished<P>>, Stop>
+    requires { length programs.items ≡ shape.ranks }
 {
-    let outcome = run_programs(rt, alloc, shape_of(ranks)?, programs, &OpenGate)?;
-    Ok(outcome.ranks)
+    match keeps {
+        Keeps::Record => Ok(run_programs(rt, alloc, shape, programs, &OpenGate)?.ranks),
+        Keeps::Nothing => Ok(run_unrecorded(rt, alloc, shape, programs, &OpenGate)?.ranks),
+    }
 }
 
 // The ring at its end.
-fn summed<R: Threads + Wait + Sync>(rt: &R, alloc: Global) -> Result<Vec<Finished<Link>>, Fail> {
+fn summed<R: Threads + Wait + Sync>(
+    rt: &R,
+    alloc: Global,
+    keeps: Keeps,
+) -> Result<Vec<Finished<Link>>, Fail> {
     let links = ring::links(alloc)?;
-    let outcome = run_ring(rt, alloc, shape_of(5)?, links)?;
-    Ok(outcome.ranks)
+    let shape = shape_of(5)?;
+    match keeps {
+        Keeps::Record => Ok(run_ring(rt, alloc, shape, links)?.ranks),
+        Keeps::Nothing => Ok(run(rt, alloc, shape, links, keeps)?),
+    }
 }
 
 fn show_ping_pong(rt: &HostRuntime, ranks: Vec<Finished<Player>>) -> Result<(), Fail> {
@@ -100,12 +125,66 @@ fn show_rod(rt: &HostRuntime, one: Vec<u64>, four: Vec<u64>) -> Result<(), Fail>
     Ok(())
 }
 
+// How two ranks end of which the first is at its end at once.
+fn show_end(rt: &HostRuntime, alloc: Global, other: Rank, keeps: Keeps) -> Result<(), Fail> {
+    let ranks = ends::beside(alloc, other)?;
+    match run(rt, alloc, shape_of(2)?, ranks, keeps) {
+        Err(
+            Stop::Range {
+                rank,
+                command: Command::Send { to, .. },
+            },
+        ) => println!(rt; "ends: rank {rank} gave a send to rank {to}, which never ran")?,
+        Err(stop) => println!(rt; "ends: {stop:?}")?,
+        Ok(ranks) => {
+            for (rank, finished) in ranks.iter().enumerate() {
+                let waits = finished.waits.is_some();
+                println!(rt; "ends: rank {rank} waits for good: {waits}")?;
+            }
+        }
+    }
+    Ok(())
+}
+
+// All programs, and all ends.
+fn show(rt: &HostRuntime, alloc: Global, keeps: Keeps) -> Result<(), Fail> {
+    let players = ping_pong::players(alloc)?;
+    show_ping_pong(rt, run(rt, alloc, shape_of(2)?, players, keeps)?)?;
+    show_ring(rt, summed(rt, alloc, keeps)?)?;
+    show_farm(
+        rt,
+        run(rt, alloc, shape_of(4)?, farm::hands(alloc)?, keeps)?,
+    )?;
+    let one = run(rt, alloc, shape_of(1)?, rod::parts(alloc, 1)?, keeps)?;
+    let four = run(rt, alloc, shape_of(4)?, rod::parts(alloc, 4)?, keeps)?;
+    show_rod(rt, values(alloc, one)?, values(alloc, four)?)?;
+    for other in [Rank::Waits, Rank::Strays, Rank::Refused] {
+        show_end(rt, alloc, other, keeps)?;
+    }
+    Ok(())
+}
+
+// A flood of so many batches of messages of so many bytes.
+fn show_flood(rt: &HostRuntime, alloc: Global, bytes: u32, batches: u64) -> Result<(), Fail> {
+    let ranks = flood::ranks(alloc, bytes, batches)?;
+    let ranks = run(rt, alloc, shape_of(2)?, ranks, Keeps::Nothing)?;
+    for (rank, finished) in ranks.iter().enumerate() {
+        println!(rt;
+            "flood: {} messages came to rank {rank}",
+            finished.program.came
+        )?;
+    }
+    Ok(())
+}
+
 fn main(rt: HostRuntime) -> Result<(), Fail> {
     let alloc = rt.alloc();
-    show_ping_pong(&rt, run(&rt, alloc, 2, ping_pong::players(alloc)?)?)?;
-    show_ring(&rt, summed(&rt, alloc)?)?;
-    show_farm(&rt, run(&rt, alloc, 4, farm::hands(alloc)?)?)?;
-    let one = values(alloc, run(&rt, alloc, 1, rod::parts(alloc, 1)?)?)?;
-    let four = values(alloc, run(&rt, alloc, 4, rod::parts(alloc, 4)?)?)?;
-    show_rod(&rt, one, four)
+    let mut words = env::args(&rt)?.skip(1);
+    let (bytes, batches) = (words.next(), words.next());
+    if let (Some(bytes), Some(batches)) = (bytes, batches) {
+        return show_flood(&rt, alloc, bytes.parse::<u32>()?, batches.parse::<u64>()?);
+    }
+    show(&rt, alloc, Keeps::Record)?;
+    println!(rt; "with no record:")?;
+    show(&rt, alloc, Keeps::Nothing)
 }
