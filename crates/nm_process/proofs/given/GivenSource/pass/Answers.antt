@@ -81,7 +81,7 @@ invariant_of-self-2 g c =
       failed = c.self.inside.failed;
     } in
     let some = is_some v.next (subst (λ (u : GivenView _). IsSome u.next) (sym c.self.view_is) c.requires.next) in
-    let low = subst (λ (o : Option Command). IfSome o (λ x. (is_in_range v.ranks x ≡ true) × (v.at < 4294967290)
+    let low = subst (λ (o : Option Command). IfSome o (λ x. (is_in_range v.ranks x ≡ true) × (v.at < 18446744073709551610)
     × (v.stray ≡ None))) some.1 c.self.invariant.2 in
     let more : w.given ≡ v.given ++ option_to_list w.next = c.note.ensures
     ∙ ap (λ (o : Option Command). v.given ++ option_to_list o) (sym c.put.ensures) in
@@ -98,10 +98,10 @@ invariant_of-self-2 g c =
     ∙ c.sorted-next.ensures.same.1 in (
       subst (λ (xs : List Command). IsCounted xs w.next w.at) (sym more) (counted_more v.given w.next v.at many),
       omega (arith, room),
-      subst (λ (o : Option Command). IfSome o (λ x. (is_in_range w.ranks x ≡ true) × (w.at < 4294967290)
+      subst (λ (o : Option Command). IfSome o (λ x. (is_in_range w.ranks x ≡ true) × (w.at < 18446744073709551610)
           × (w.stray ≡ None))) (sym next)
           (subst (λ (s : Option Command). IfSome c.sorted-next.result.0 (λ x. (is_in_range w.ranks x ≡ true)
-          × (w.at < 4294967290) × (s ≡ None))) (sym stray) c.sorted-next.ensures.runs),
+          × (w.at < 18446744073709551610) × (s ≡ None))) (sym stray) c.sorted-next.ensures.runs),
       λ works. played_more g.P.Program.says v w some.0 c.args.answer.now c.in-Ok.command (c.self.invariant.3 works)
           some.1 low.2 c.in-Ok.ensures.said refl c.then-told.ensures more last all,
       subst (λ (o : Option Command). IfSome o (NeverRuns w.ranks w.at)) (sym stray) c.sorted-next.ensures.never,
