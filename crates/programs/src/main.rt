@@ -18,11 +18,12 @@ mod rod;
 
 use ends::Rank;
 use farm::{Hand, Role};
+use flood::Flooded;
 use nm_outside::OpenGate;
 use nm_programs::{Finished, Program, Stop, run_programs, run_unrecorded};
 use nm_types::{Command, Shape};
 use ping_pong::Player;
-use ring::{Link, run_ring};
+use ring::{Link, run_ring, run_ring_unrecorded};
 use rod::Part;
 use std::alloc::Global;
 use std::env;
@@ -36,6 +37,9 @@ enum Keeps {
     Record,
     Nothing,
 }
+
+// What became of ranks of `ends`.
+type Ended = Result<Vec<Finished<Rank>>, Stop>;
 
 // The shape of a run of so many ranks, with 8 cells each, where messages of up to 1,024 bytes are eager.
 fn shape_of(ranks: u8) -> Result<Shape, Fail>
@@ -73,7 +77,7 @@ fn summed<R: Threads + Wait + Sync>(
     let shape = shape_of(5)?;
     match keeps {
         Keeps::Record => Ok(run_ring(rt, alloc, shape, links)?.ranks),
-        Keeps::Nothing => Ok(run(rt, alloc, shape, links, keeps)?),
+        Keeps::Nothing => Ok(run_ring_unrecorded(rt, alloc, shape, links)?.ranks),
     }
 }
 
@@ -125,10 +129,9 @@ fn show_rod(rt: &HostRuntime, one: Vec<u64>, four: Vec<u64>) -> Result<(), Fail>
     Ok(())
 }
 
-// How two ranks end of which the first is at its end at once.
-fn show_end(rt: &HostRuntime, alloc: Global, other: Rank, keeps: Keeps) -> Result<(), Fail> {
-    let ranks = ends::beside(alloc, other)?;
-    match run(rt, alloc, shape_of(2)?, ranks, keeps) {
+// How a run ended whose rank 0 is at its end at once.
+fn show_end(rt: &HostRuntime, ended: Ended) -> Result<(), Fail> {
+    match ended {
         Err(
             Stop::Range {
                 rank,
@@ -146,28 +149,7 @@ fn show_end(rt: &HostRuntime, alloc: Global, other: Rank, keeps: Keeps) -> Resul
     Ok(())
 }
 
-// All programs, and all ends.
-fn show(rt: &HostRuntime, alloc: Global, keeps: Keeps) -> Result<(), Fail> {
-    let players = ping_pong::players(alloc)?;
-    show_ping_pong(rt, run(rt, alloc, shape_of(2)?, players, keeps)?)?;
-    show_ring(rt, summed(rt, alloc, keeps)?)?;
-    show_farm(
-        rt,
-        run(rt, alloc, shape_of(4)?, farm::hands(alloc)?, keeps)?,
-    )?;
-    let one = run(rt, alloc, shape_of(1)?, rod::parts(alloc, 1)?, keeps)?;
-    let four = run(rt, alloc, shape_of(4)?, rod::parts(alloc, 4)?, keeps)?;
-    show_rod(rt, values(alloc, one)?, values(alloc, four)?)?;
-    for other in [Rank::Waits, Rank::Strays, Rank::Refused] {
-        show_end(rt, alloc, other, keeps)?;
-    }
-    Ok(())
-}
-
-// A flood of so many batches of messages of so many bytes.
-fn show_flood(rt: &HostRuntime, alloc: Global, bytes: u32, batches: u64) -> Result<(), Fail> {
-    let ranks = flood::ranks(alloc, bytes, batches)?;
-    let ranks = run(rt, alloc, shape_of(2)?, ranks, Keeps::Nothing)?;
+fn show_flood(rt: &HostRuntime, ranks: Vec<Finished<Flooded>>) -> Result<(), Fail> {
     for (rank, finished) in ranks.iter().enumerate() {
         println!(rt;
             "flood: {} messages came to rank {rank}",
@@ -177,14 +159,63 @@ fn show_flood(rt: &HostRuntime, alloc: Global, bytes: u32, batches: u64) -> Resu
     Ok(())
 }
 
+// What is left of all programs.
+#[derive(Drop)]
+struct All {
+    players: Vec<Finished<Player>>,
+    links: Vec<Finished<Link>>,
+    hands: Vec<Finished<Hand>>,
+    one: Vec<Finished<Part>>,
+    four: Vec<Finished<Part>>,
+    waits: Ended,
+    strays: Ended,
+    refused: Ended,
+}
+
+fn run_all<R: Threads + Wait + Sync>(rt: &R, alloc: Global, keeps: Keeps) -> Result<All, Fail> {
+    let two = shape_of(2)?;
+    let four = shape_of(4)?;
+    Ok(All {
+        players: run(rt, alloc, two, ping_pong::players(alloc)?, keeps)?,
+        links: summed(rt, alloc, keeps)?,
+        hands: run(rt, alloc, four, farm::hands(alloc)?, keeps)?,
+        one: run(rt, alloc, shape_of(1)?, rod::parts(alloc, 1)?, keeps)?,
+        four: run(rt, alloc, four, rod::parts(alloc, 4)?, keeps)?,
+        waits: run(rt, alloc, two, ends::beside(alloc, Rank::Waits)?, keeps),
+        strays: run(rt, alloc, two, ends::beside(alloc, Rank::Strays)?, keeps),
+        refused: run(rt, alloc, two, ends::beside(alloc, Rank::Refused)?, keeps),
+    })
+}
+
+fn show(rt: &HostRuntime, alloc: Global, all: All) -> Result<(), Fail> {
+    let All {
+        players,
+        links,
+        hands,
+        one,
+        four,
+        waits,
+        strays,
+        refused,
+    } = all;
+    show_ping_pong(rt, players)?;
+    show_ring(rt, links)?;
+    show_farm(rt, hands)?;
+    show_rod(rt, values(alloc, one)?, values(alloc, four)?)?;
+    show_end(rt, waits)?;
+    show_end(rt, strays)?;
+    show_end(rt, refused)
+}
+
 fn main(rt: HostRuntime) -> Result<(), Fail> {
     let alloc = rt.alloc();
     let mut words = env::args(&rt)?.skip(1);
     let (bytes, batches) = (words.next(), words.next());
     if let (Some(bytes), Some(batches)) = (bytes, batches) {
-        return show_flood(&rt, alloc, bytes.parse::<u32>()?, batches.parse::<u64>()?);
+        let ranks = flood::ranks(alloc, bytes.parse::<u32>()?, batches.parse::<u64>()?)?;
+        return show_flood(&rt, run(&rt, alloc, shape_of(2)?, ranks, Keeps::Nothing)?);
     }
-    show(&rt, alloc, Keeps::Record)?;
-    println!(rt; "with no record:")?;
-    show(&rt, alloc, Keeps::Nothing)
+    show(&rt, alloc, run_all(&rt, alloc, Keeps::Record)?)?;
+    println!(&rt; "with no record:")?;
+    show(&rt, alloc, run_all(&rt, alloc, Keeps::Nothing)?)
 }

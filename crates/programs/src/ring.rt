@@ -3,12 +3,12 @@
 
 ghost use Rattle.std.specs.Prelude.{◌≡◌, ◌<◌, IfOk, length};
 ghost use Rattle.nm_report.specs.Ends.{ends_of};
-ghost use Rattle.programs.specs.Sums.{AreSums, sum_with};
+ghost use Rattle.programs.specs.Sums.{AreSums, HaveSummed, sum_with};
 
 use nm_outside::OpenGate;
 use nm_programs::bodies::{number, number_in};
 use nm_programs::calls::{receive, send, wait};
-use nm_programs::{Outcome, Program, Stop, run_programs};
+use nm_programs::{Outcome, Program, Stop, Unrecorded, run_programs, run_unrecorded};
 use nm_types::{Answer, Command, Memory, Shape};
 use std::alloc::Global;
 use std::sync::Wait;
@@ -102,6 +102,19 @@ pub fn run_ring<R: Threads + Wait + Sync>(
     ensures { IfOk result (λ x. AreSums links.items (ends_of x.record.ranks) x.ranks.items) }
 {
     run_programs(rt, alloc, shape, links, &OpenGate)
+}
+
+/// The same with histories that exist in proofs alone.
+pub fn run_ring_unrecorded<R: Threads + Wait + Sync>(
+    rt: &R,
+    alloc: Global,
+    shape: Shape,
+    links: Vec<Link>,
+) -> Result<Unrecorded<Link>, Stop>
+    requires many { length links.items ≡ shape.ranks }
+    ensures { IfOk result (λ x. HaveSummed shape links.items x) }
+{
+    run_unrecorded(rt, alloc, shape, links, &OpenGate)
 }
 
 /// Ranks with the numbers 1, 11, 21, 31 and 41.
