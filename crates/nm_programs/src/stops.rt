@@ -12,7 +12,7 @@ pub enum Stop {
     /// Memory was refused, to the run or to a program.
     Memory,
     /// The program of this rank gave this command, whose arguments are out of range, or which came after
-    /// 4,294,967,290 others. It did not run.
+    /// 2^64 - 6 others. It did not run.
     Range { rank: u8, command: Command },
 }
 

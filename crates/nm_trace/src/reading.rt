@@ -108,7 +108,7 @@ fn read_event<'a>(
 struct Deeds {
     events: Vec<Event>,
     /// How many of the events are answers.
-    at: u32,
+    at: u64,
 }
 
 /// The events of a rank, with the lines of their answers.
@@ -132,7 +132,7 @@ fn read_events<'a>(
         text.entry.number) fault) }
 {
     let mut events = Vec::new(alloc);
-    let mut at = 0u32;
+    let mut at = 0u64;
     while let Some(note) = next_of(notes, rank) {
         let (event, after) = read_event(alloc, note, text)?;
         if is_ran(&event.what) {

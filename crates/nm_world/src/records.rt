@@ -28,9 +28,9 @@ pub struct RankEnd<H> {
     /// What recorded its events.
     pub history: H,
     /// How many of its commands ran.
-    pub at: u32,
+    pub at: u64,
     /// The line of the command that can't go on. There is none where all of its commands ran.
-    pub waits: Option<u32>,
+    pub waits: Option<u64>,
 }
 
 /// The ports of the players of a run, what gave them their commands, what there is to tell of them, and what
