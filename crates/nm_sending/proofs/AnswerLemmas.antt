@@ -11,7 +11,7 @@ use Rattle.nm_history.specs.Completion.Request.{Sending}
 use Rattle.nm_history.specs.Happens.{happened, is_recall, is_undone}
 use Rattle.nm_sending.specs.declared.departures.Departure.{Departure}
 use Rattle.nm_sending.specs.Departures.{SendingView, departure_of, passes, was_undone, is_over, ending_of}
-use Rattle.nm_sending.specs.Rows.{unmeasured}
+use Rattle.nm_sending.specs.Rows.{fate}
 use Rattle.nm_sending.specs.Sent.{AreSent}
 
 -- complete, by what happened
@@ -53,17 +53,17 @@ module _ (v : SendingView) (h : List Event) (was : AreSent v h) (to n : ℕ) whe
       by_there (Some d) = refl
 
 -- what is said of a message is the same, whether or not its length is known
-module _ (o p : Option Departure) (same : option_map unmeasured o ≡ option_map unmeasured p) where
-  pub passes-told : (test : Departure → Bool) → ((d : Departure) → test (unmeasured d) ≡ test d)
+module _ (o p : Option Departure) (same : option_map fate o ≡ option_map fate p) where
+  pub passes-told : (test : Departure → Bool) → ((d : Departure) → test (fate d) ≡ test d)
       → passes test o ≡ passes test p
   passes-told test blind = sym (bare o) ∙ ap (passes test) same ∙ bare p where
-    bare : (q : Option Departure) → passes test (option_map unmeasured q) ≡ passes test q
+    bare : (q : Option Departure) → passes test (option_map fate q) ≡ passes test q
     bare None = refl
     bare (Some d) = blind d
 
   pub ending-told : option_and_then ending_of o ≡ option_and_then ending_of p
   ending-told = sym (bare o) ∙ ap (λ (q : Option Departure). option_and_then ending_of q) same ∙ bare p where
     bare : (q : Option Departure)
-        → option_and_then ending_of (option_map unmeasured q) ≡ option_and_then ending_of q
+        → option_and_then ending_of (option_map fate q) ≡ option_and_then ending_of q
     bare None = refl
     bare (Some d) = refl

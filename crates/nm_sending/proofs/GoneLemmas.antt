@@ -5,13 +5,11 @@ use Rattle.std.specs.List.{slice_get}
 use Rattle.std.proofs.Math.ListN.{set}
 use Rattle.std.proofs.lemmas.List.Sums.{prefix_len-le-length, prefix_len_passes, prefix_len_stops}
 use Rattle.std.proofs.lemmas.Option.{get_or_from_slice_get, slice_get_within}
-use Rattle.nm_types.specs.declared.messages.How.{How}
-use Rattle.nm_types.specs.declared.messages.How.TheVariants.{Ask, Eager}
-use Rattle.nm_history.specs.Sends.{is_ask}
+use Rattle.nm_types.specs.declared.messages.How.TheVariants.{Eager}
 use Rattle.nm_kept.specs.Keeping.{IsHeld, Keeping}
 use Rattle.nm_sending.specs.declared.departures.Departure.{Departure}
 use Rattle.nm_sending.specs.Departures.{fresh, passes}
-use Rattle.nm_sending.specs.Rows.{all_recalled, gone, stays, unmeasured, with_recalled}
+use Rattle.nm_sending.specs.Rows.{all_recalled, fate, gone, stays, with_recalled}
 use Rattle.nm_sending.proofs.RecalledLemmas.{base-of, passing}
 
 module _ (ds : List Departure) (i : ℕ) (d : Departure) (there : slice_get ds i ≡ Some d) where
@@ -83,20 +81,13 @@ stays-held recalls sent n first h =
       within = slice_get_within sent.items n b.0 b.1;
     }
 
-same_way : (x y : How) → is_ask x ≡ is_ask y → x ≡ y
-same_way Eager Eager h = refl
-same_way Ask Ask h = refl
-same_way Eager Ask h = absurd (true≢false (sym h))
-same_way Ask Eager h = absurd (true≢false h)
-
 -- what is said of a message that was let go
 pub gone-told : (ds : List Departure) (n : ℕ) (b x : Departure) → slice_get ds n ≡ Some b → n < gone ds
-    → x ≡ record (fresh x.how 0) { out = true } → is_ask x.how ≡ is_ask b.how → (r : Option (Option Bool))
-    → unmeasured (with_recalled x r) ≡ unmeasured (with_recalled b r)
-gone-told ds n b x there low is way r =
+    → x ≡ record (fresh Eager 0) { out = true } → (r : Option (Option Bool))
+    → fate (with_recalled x r) ≡ fate (with_recalled b r)
+gone-told ds n b x there low is r =
     let left : b.out ≡ true =
     ap (λ (y : Departure). y.out) (sym (get_or_from_slice_get ds n b b there))
     ∙ prefix_len_passes (λ y. y.out) ds n b low in
-    ap (λ (y : Departure). unmeasured (with_recalled y r)) is
-    ∙ ap (λ (h : How). unmeasured (with_recalled (record (fresh h 0) { out = true }) r)) (same_way x.how b.how way)
-    ∙ ap (λ (o : Bool). unmeasured (with_recalled (record b { out = o }) r)) (sym left)
+    ap (λ (y : Departure). fate (with_recalled y r)) is
+    ∙ ap (λ (o : Bool). fate (with_recalled (record b { out = o }) r)) (sym left)

@@ -4,6 +4,7 @@ use Rattle.std.specs.Prelude.{◌≡◌, ℕ, zero, suc, ◌+◌, ◌<◌, ◌^�
 use Rattle.std.specs.Prelude.{List, [], ◌∷◌, length, count_by, is_some, nat_eq, nat_le, option_and_then}
 use Rattle.std.specs.List.{AllByRecursion, prefix_len, slice_get}
 use Rattle.std.specs.Map.{lookup}
+use Rattle.nm_types.specs.declared.messages.How.TheVariants.{Eager}
 use Rattle.nm_history.specs.Sends.{is_ask}
 use Rattle.nm_kept.specs.Keeping.{Keeping}
 use Rattle.nm_sending.specs.declared.departures.Departure.{Departure}
@@ -35,9 +36,9 @@ all_recalled recalls n [] = []
 all_recalled recalls n (d ∷ ds) =
     with_recalled d (lookup (nat_eq n) recalls) ∷ all_recalled recalls (n + 1) ds
 
--- a message but for its length
-abbrev pub unmeasured : Departure → Departure
-unmeasured d = record d { len = 0 }
+-- what became of a message, whatever its way and its length are
+abbrev pub fate : Departure → Departure
+fate d = record d { how = Eager; len = 0 }
 
 -- an odd number
 abbrev pub is_odd : ℕ → Bool

@@ -1,6 +1,7 @@
 //! What became of a message that was sent.
 
 ghost use Rattle.std.specs.Prelude.{◌≡◌, true, Some};
+ghost use Rattle.nm_types.specs.declared.messages.How.TheVariants.{Eager};
 ghost use Rattle.nm_history.specs.Sends.{is_ask};
 ghost use Rattle.nm_sending.specs.Departures.{ending_of, fresh, is_over};
 ghost use Rattle.nm_sending.specs.Rows.{with_recalled as with_recalled_lem};
@@ -75,13 +76,11 @@ impl Departure {
         Departure { out: true, ..self }
     }
 
-    /// A message that has left, of no length.
-    pub(crate) fn gone(asked: bool) -> Self
-        ensures way { is_ask result.how ≡ asked }
-        ensures gone { result ≡ record (fresh result.how 0) { out = true } }
+    /// A message that has left, without its way and its length.
+    pub(crate) fn gone() -> Self
+        ensures { result ≡ record (fresh Eager 0) { out = true } }
     {
-        let how = if asked { How::Ask } else { How::Eager };
-        Departure::new(how, 0).left()
+        Departure::new(How::Eager, 0).left()
     }
 
     /// The message with its recall, if it was recalled, and with the answer to that, if it came back.

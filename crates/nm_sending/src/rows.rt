@@ -6,7 +6,7 @@ ghost use Rattle.std.specs.Map.{lookup, set_value};
 ghost use Rattle.nm_history.specs.Sends.{is_ask};
 ghost use Rattle.nm_sending.specs.Departures.{fresh, passes};
 ghost use Rattle.nm_sending.specs.declared.departures.Departure.{Departure};
-ghost use Rattle.nm_sending.specs.Rows.{AreTurns, asked_by, gone, stays, unmeasured};
+ghost use Rattle.nm_sending.specs.Rows.{AreTurns, asked_by, fate, gone, stays};
 
 use crate::departures::Departure;
 use indexmap::IndexMap;
@@ -175,9 +175,9 @@ impl Row {
         self.sent.push_reserved(departure);
     }
 
-    /// What became of message `n`, if it was sent. Where it was let go its length is not known.
+    /// What became of message `n`, if it was sent. Where it was let go its way and its length are not known.
     pub(crate) fn get(&self, n: u64) -> Option<Departure>
-        ensures { option_map unmeasured result ≡ option_map unmeasured (slice_get self.now.items n) }
+        ensures { option_map fate result ≡ option_map fate (slice_get self.now.items n) }
     {
         if n >= self.sent.len() {
             return None;
@@ -185,8 +185,21 @@ impl Row {
         let recall = recall_of(&self.recalls, n);
         Some(match self.sent.get(n) {
             Some(departure) => departure.with_recalled(recall),
-            None => Departure::gone(is_asked_by(&self.turns, n)).with_recalled(recall),
+            None => Departure::gone().with_recalled(recall),
         })
+    }
+
+    /// Whether message `n` was sent by asking.
+    pub(crate) fn is_asked(&self, n: u64) -> bool
+        ensures { result ≡ passes (λ d. is_ask d.how) (slice_get self.now.items n) }
+    {
+        if n >= self.sent.len() {
+            return false;
+        }
+        match self.sent.get(n) {
+            Some(departure) => departure.is_asked(),
+            None => is_asked_by(&self.turns, n),
+        }
     }
 
     /// A message has left.

@@ -258,9 +258,7 @@ impl Sending {
         requires { to < length self.now.outbox.popped }
         ensures { (h : List Event) → AreSent self.now h → result ≡ is_asked_lem (sends h to) n }
     {
-        self.departures
-            .get(to, n)
-            .is_some_and(|departure| departure.is_asked())
+        self.departures.is_asked(to, n)
     }
 
     /// Whether message `n` to a rank was recalled.

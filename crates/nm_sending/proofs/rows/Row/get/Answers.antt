@@ -1,11 +1,9 @@
-use Rattle.std.proofs.Common.{◌≡◌, ◌<◌, ◌≤◌, ◌∙◌, ap, arith, length, List, ℕ, nat_eq, Option, Some, Bool, sym, true≢false}
+use Rattle.std.proofs.Common.{◌≡◌, ◌<◌, ◌≤◌, ◌∙◌, ap, arith, length, List, nat_eq, Option, Some, Bool, sym, true≢false}
 use Rattle.std.specs.Map.{lookup}
 use Rattle.std.specs.Option.{option_map}
 use Rattle.std.proofs.lemmas.Option.{slice_get_past}
-use Rattle.nm_history.specs.Sends.{is_ask}
 use Rattle.nm_sending.specs.declared.departures.Departure.{Departure}
-use Rattle.nm_sending.specs.Departures.{passes}
-use Rattle.nm_sending.specs.Rows.{all_recalled, asked_by, gone, unmeasured, with_recalled}
+use Rattle.nm_sending.specs.Rows.{all_recalled, fate, gone, with_recalled}
 use Rattle.nm_sending.proofs.GoneLemmas.{gone-told, there-within}
 use Rattle.nm_sending.proofs.RecalledLemmas.{get-at, length-all}
 use Rattle.nm_sending.proofs.rows.Row.get.Goals as goal
@@ -15,7 +13,7 @@ returns-then-n-len c =
     let a = c.self.inside in
     let past : length (all_recalled a.recalls.entries 0 a.sent.items) ≤ c.args.n =
     omega (arith, c.if-n-len.true, c.len.ensures, length-all a.recalls.entries 0 a.sent.items) in
-    rw (← c.self.view_is) (sym (ap (option_map unmeasured)
+    rw (← c.self.view_is) (sym (ap (option_map fate)
     (slice_get_past (all_recalled a.recalls.entries 0 a.sent.items) c.args.n past)))
 
 pub returns-in-Some : goal.returns-in-Some
@@ -23,9 +21,9 @@ returns-in-Some c =
     let a = c.self.inside in
     let b = c.in-Some.departure.now in
     rw (← c.self.view_is)
-    (ap (λ (x : Departure). Some (unmeasured x)) c.with_recalled.ensures
-    ∙ ap (λ (r : Option (Option Bool)). Some (unmeasured (with_recalled b r))) c.recall_of-recall.ensures
-    ∙ sym (ap (option_map unmeasured)
+    (ap (λ (x : Departure). Some (fate x)) c.with_recalled.ensures
+    ∙ ap (λ (r : Option (Option Bool)). Some (fate (with_recalled b r))) c.recall_of-recall.ensures
+    ∙ sym (ap (option_map fate)
     (get-at a.recalls.entries a.sent.items c.args.n b c.in-Some.ensures.item)))
 
 pub returns-in-None : goal.returns-in-None
@@ -36,15 +34,10 @@ returns-in-None c =
     let behind : a.sent.forgotten ≤ c.args.n → ⊥ = λ h. true≢false (sym (c.in-None.ensures.held.1
     (record { behind = h; within = within }))) in
     let low : c.args.n < gone a.sent.items = omega (arith, c.self.invariant.first, behind) in
-    let way : is_ask c.gone.result.how ≡ is_ask (at.0).how =
-    c.gone.ensures.way ∙ c.is_asked_by.ensures
-    ∙ ap (λ (turns : List ℕ). asked_by turns c.args.n) c.deref.ensures.value
-    ∙ c.self.invariant.turned.ways c.args.n within
-    ∙ ap (λ (o : Option Departure). passes (λ d. is_ask d.how) o) at.1 in
     rw (← c.self.view_is)
-    (ap (λ (x : Departure). Some (unmeasured x)) c.with_recalled-in-None.ensures
-    ∙ ap (λ (r : Option (Option Bool)). Some (unmeasured (with_recalled c.gone.result r))) c.recall_of-recall.ensures
+    (ap (λ (x : Departure). Some (fate x)) c.with_recalled-in-None.ensures
+    ∙ ap (λ (r : Option (Option Bool)). Some (fate (with_recalled c.gone.result r))) c.recall_of-recall.ensures
     ∙ ap (λ (x : Departure). Some x)
-    (gone-told a.sent.items c.args.n at.0 c.gone.result at.1 low c.gone.ensures.gone way
+    (gone-told a.sent.items c.args.n at.0 c.gone.result at.1 low c.gone.ensures
     (lookup (nat_eq c.args.n) a.recalls.entries))
-    ∙ sym (ap (option_map unmeasured) (get-at a.recalls.entries a.sent.items c.args.n at.0 at.1)))
+    ∙ sym (ap (option_map fate) (get-at a.recalls.entries a.sent.items c.args.n at.0 at.1)))
