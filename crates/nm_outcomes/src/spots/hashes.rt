@@ -22,7 +22,7 @@ fn of_reply(reply: Reply) -> u64
         Reply::No => 4,
         Reply::Nothing => 5,
         Reply::Sent => 6,
-        Reply::Got { from, line, .. } => mixed(mixed(7, u64::from(from)), u64::from(line)),
+        Reply::Got { from, line, .. } => mixed(mixed(7, u64::from(from)), line),
         Reply::Cut { from, .. } => mixed(8, u64::from(from)),
         Reply::Cancelled => 9,
         Reply::Seen(seen) => mixed(mixed(10, u64::from(seen.from)), u64::from(seen.tag)),
@@ -37,13 +37,13 @@ fn of_deed(deed: &Deed) -> u64
     ensures { result ≡ deed_number deed.now }
 {
     match deed {
-        Deed::Send { line, .. } => mixed(1, u64::from(*line)),
-        Deed::Post { line, .. } => mixed(2, u64::from(*line)),
+        Deed::Send { line, .. } => mixed(1, *line),
+        Deed::Post { line, .. } => mixed(2, *line),
         Deed::Match { from, n, .. } => mixed(mixed(3, u64::from(*from)), *n),
         Deed::Cancel { number, .. } => mixed(4, *number),
         Deed::Recall { to, n } => mixed(mixed(5, u64::from(*to)), *n),
         Deed::Claim { from, n, .. } => mixed(mixed(6, u64::from(*from)), *n),
-        Deed::Ran { line, reply } => mixed(mixed(7, u64::from(*line)), of_reply(*reply)),
+        Deed::Ran { line, reply } => mixed(mixed(7, *line), of_reply(*reply)),
     }
 }
 
