@@ -7,8 +7,6 @@ use Rattle.std.specs.Option.{option_map}
 use Rattle.std.proofs.Math.ListN.{set}
 use Rattle.std.proofs.lemmas.List.{set-get_or}
 use Rattle.std.proofs.lemmas.Option.{get_or_from_slice_get, slice_get_within}
-use Rattle.indexmap.specs.IndexMap.{insert_entry}
-use Rattle.nm_kept.proofs.EntryLemmas.{insert_new, lookup-more}
 use Rattle.nm_types.proofs.NumberLemmas.{eq_false, eq_less, eq_true, same_number}
 use Rattle.nm_history.specs.Sends.{is_ask}
 use Rattle.nm_sending.specs.declared.departures.Departure.{Departure}
@@ -222,10 +220,3 @@ module _ (recalls : List (ℕ × Option Bool)) (ds : List Departure) (n : ℕ) w
             → q < length ds
         by true same h = subst (λ (k : ℕ). k < length ds) (same_number n q same) within
         by false other h = known q h
-
--- a recall that was not there before
-pub step-new : (recalls : List (ℕ × Option Bool)) (n : ℕ) (recall : Option Bool)
-    → lookup (nat_eq n) recalls ≡ None → (q : ℕ) → lookup (nat_eq q) (insert_entry nat_eq recalls n recall)
-    ≡ cond (nat_eq n q) (Some recall) (lookup (nat_eq q) recalls)
-step-new recalls n recall none q =
-    ap (lookup (nat_eq q)) (insert_new n recall recalls none) ∙ lookup-more recalls n recall none q

@@ -17,6 +17,12 @@ pub record RowView : Type 0 where
   pub room : ℕ
   pub spare : ℕ
 
+-- what contracts see of the recalls to one rank: each with its answer, if it came back, by the message's number,
+-- each new one behind the others; and for how many recalls more there is room
+pub record RecallsView : Type 0 where
+  pub entries : List (ℕ × Option Bool)
+  pub spare : ℕ
+
 -- it has not left
 abbrev pub stays : Departure → Bool
 stays d = not d.out

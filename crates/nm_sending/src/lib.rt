@@ -32,6 +32,7 @@ mod departures;
 pub mod laws;
 pub mod outbox;
 mod putting;
+mod recalls;
 mod rows;
 mod sendings;
 mod tables;

@@ -1,28 +1,25 @@
 //! What became of each message to one rank.
 
 ghost use Rattle.std.specs.Prelude.{◌≡◌, ◌+◌, ◌<◌, ◌≤◌, ◌^◌, [], ◌∷◌, ◌++◌, true, length, not, List, Some};
-ghost use Rattle.std.specs.Prelude.{slice_get, slice_set, option_map, nat_eq, vec_capacity, vec_len, IsSome, OnOk};
-ghost use Rattle.std.specs.Map.{lookup, set_value};
+ghost use Rattle.std.specs.Prelude.{slice_get, slice_set, option_map, vec_capacity, vec_len, OnOk};
 ghost use Rattle.nm_history.specs.Sends.{is_ask};
 ghost use Rattle.nm_sending.specs.Departures.{fresh, passes};
 ghost use Rattle.nm_sending.specs.declared.departures.Departure.{Departure};
 ghost use Rattle.nm_sending.specs.Rows.{AreTurns, asked_by, fate, gone, stays};
 
 use crate::departures::Departure;
-use indexmap::IndexMap;
+use crate::recalls::Recalls;
 use nm_kept::Kept;
 use nm_types::{How, Memory};
 use std::alloc::Global;
 use std::marker::Model;
-use std::mem;
 
 /// What became of each message to one rank, by number. Memory holds those from the first on that has not left,
 /// each that was recalled, and at which numbers the way of sending turned.
 pub(crate) struct Row {
     // without their recalls
     sent: Kept<Departure>,
-    // the answer of each recall that came back
-    recalls: IndexMap<u64, Option<bool>>,
+    recalls: Recalls,
     // each number whose message was sent another way than the one before it; the first, if it was asked for
     turns: Vec<u64>,
     // whether the last message was sent by asking
@@ -42,7 +39,6 @@ impl Drop for Row {
 
 impl Model for Row {
     ghost use Rattle.std.specs.Prelude.{◌-◌, length, min, vec_capacity, vec_len};
-    ghost use Rattle.indexmap.specs.IndexMap.{spare as room_in};
     ghost use Rattle.nm_sending.specs.Rows.{RowKeeps, RowView, all_recalled};
 
     ghost Value = { RowView };
@@ -50,7 +46,7 @@ impl Model for Row {
     ghost view = { λ a. record {
       items = all_recalled a.recalls.entries 0 a.sent.items;
       room = min (a.sent.places - length a.sent.items) (vec_capacity a.turns - vec_len a.turns);
-      spare = room_in a.recalls;
+      spare = a.recalls.spare;
     } };
 
     ghost invariant = { λ a. RowKeeps a.sent a.recalls.entries a.turns.items a.asks };
@@ -98,25 +94,6 @@ fn let_go(sent: &mut Kept<Departure>)
     }
 }
 
-/// The recall of message `n`, if there is one. Where there are none it is not looked up.
-#[inline(always)]
-fn recall_of(recalls: &IndexMap<u64, Option<bool>>, n: u64) -> Option<Option<bool>>
-    ensures { result ≡ lookup (nat_eq n) recalls.now.entries }
-{
-    if recalls.is_empty() {
-        return None;
-    }
-    recalls.get(&n).copied()
-}
-
-/// Sets the answer of a recall.
-fn set_answer(recalls: &mut IndexMap<u64, Option<bool>>, n: u64, answer: Option<bool>)
-    requires { IsSome (lookup (nat_eq n) recalls.old.entries) }
-    ensures { recalls.new.entries ≡ set_value (nat_eq n) recalls.old.entries answer }
-{
-    let _before = mem::replace(recalls.get_mut(&n).unwrap(), answer);
-}
-
 impl Row {
     /// No messages.
     pub(crate) fn new(alloc: Global) -> Row
@@ -124,7 +101,7 @@ impl Row {
     {
         Row {
             sent: Kept::new(alloc),
-            recalls: IndexMap::new(alloc),
+            recalls: Recalls::new(alloc),
             turns: Vec::new(alloc),
             asks: false,
         }
@@ -159,8 +136,7 @@ impl Row {
         ensures items { self.new.items ≡ self.old.items }
         ensures ok { OnOk result (0 < self.new.spare) }
     {
-        self.recalls.reserve(1)?;
-        Ok(())
+        self.recalls.reserve()
     }
 
     /// Adds the next message. There is room for it.
@@ -182,7 +158,7 @@ impl Row {
         if n >= self.sent.len() {
             return None;
         }
-        let recall = recall_of(&self.recalls, n);
+        let recall = self.recalls.get(n);
         Some(match self.sent.get(n) {
             Some(departure) => departure.with_recalled(recall),
             None => Departure::gone().with_recalled(recall),
@@ -220,9 +196,7 @@ impl Row {
         ensures { (d : Departure) → slice_get self.old.items n ≡ Some d →
             self.new.items ≡ slice_set self.old.items n (record d { recalled = true }) }
     {
-        let Ok(_before) = self.recalls.insert(n, None) else {
-            unreachable!()
-        };
+        self.recalls.add(n);
     }
 
     /// The answer to a message's recall came back.
@@ -231,6 +205,6 @@ impl Row {
         ensures { (d : Departure) → slice_get self.old.items n ≡ Some d →
             self.new.items ≡ slice_set self.old.items n (record d { undone = Some done }) }
     {
-        set_answer(&mut self.recalls, n, Some(done));
+        self.recalls.answer(n, done);
     }
 }

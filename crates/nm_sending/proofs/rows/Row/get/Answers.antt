@@ -22,7 +22,7 @@ returns-in-Some c =
     let b = c.in-Some.departure.now in
     rw (← c.self.view_is)
     (ap (λ (x : Departure). Some (fate x)) c.with_recalled.ensures
-    ∙ ap (λ (r : Option (Option Bool)). Some (fate (with_recalled b r))) c.recall_of-recall.ensures
+    ∙ ap (λ (r : Option (Option Bool)). Some (fate (with_recalled b r))) c.get-recall.ensures
     ∙ sym (ap (option_map fate)
     (get-at a.recalls.entries a.sent.items c.args.n b c.in-Some.ensures.item)))
 
@@ -36,7 +36,7 @@ returns-in-None c =
     let low : c.args.n < gone a.sent.items = omega (arith, c.self.invariant.first, behind) in
     rw (← c.self.view_is)
     (ap (λ (x : Departure). Some (fate x)) c.with_recalled-in-None.ensures
-    ∙ ap (λ (r : Option (Option Bool)). Some (fate (with_recalled c.gone.result r))) c.recall_of-recall.ensures
+    ∙ ap (λ (r : Option (Option Bool)). Some (fate (with_recalled c.gone.result r))) c.get-recall.ensures
     ∙ ap (λ (x : Departure). Some x)
     (gone-told a.sent.items c.args.n at.0 c.gone.result at.1 low c.gone.ensures
     (lookup (nat_eq c.args.n) a.recalls.entries))
