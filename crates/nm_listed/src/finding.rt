@@ -22,7 +22,7 @@ pub enum Found {
 }
 
 /// The most bytes of all reports together.
-pub(crate) const MAX_REPORTS: usize = 134217728;
+pub const MAX_REPORTS: usize = 134217728;
 
 /// The reports of these ends.
 fn end_texts(alloc: Global, shape: Shape, ends: Vec<End>) -> Result<Texts, Memory>

@@ -28,7 +28,7 @@ pub mod retold;
 mod texts;
 mod tracing;
 
-pub use finding::{Found, reports};
+pub use finding::{Found, MAX_REPORTS, reports};
 pub use places::{Place, place_of};
 pub use texts::Texts;
 pub use tracing::{Traced, trace_of};

@@ -72,14 +72,14 @@ impl Texts {
     }
 
     /// Whether the texts together have at most so many bytes.
-    pub(crate) fn is_within(&self, most: usize) -> bool
+    pub fn is_within(&self, most: usize) -> bool
         ensures { IsTrue result ↔ (total_length self.now ≤ most) }
     {
         are_within(self.items.as_slice(), most)
     }
 
     /// Puts the texts in the order of a dictionary, each once.
-    pub(crate) fn put_in_order(&mut self) -> Result<(), Memory>
+    pub fn put_in_order(&mut self) -> Result<(), Memory>
         ensures rising { OnOk result (AreRising self.new) }
         ensures same { OnOk result (SameTexts self.old self.new) }
     {

@@ -22,6 +22,6 @@ pub mod cures;
 pub mod hangs;
 pub mod least;
 mod limits;
-mod parts;
+pub mod parts;
 
 pub use limits::script_of;

@@ -76,7 +76,7 @@ fn copy_command(command: &Command) -> Result<Command, Memory>
 }
 
 /// An equal line.
-fn copy_line(line: &Line) -> Result<Line, Memory>
+pub fn copy_line(line: &Line) -> Result<Line, Memory>
     ensures { IfOk result (λ copy. copy ≡ line.now) }
 {
     Ok(Line {
