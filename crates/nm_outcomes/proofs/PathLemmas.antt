@@ -59,7 +59,7 @@ use Rattle.nm_outcomes.specs.Places.{is_quiet}
 use Rattle.std.specs.List.{AllByRecursion}
 
 -- a message that was claimed came
-claimed_came : (commands : List Numbered) (i n : ℕ) (h : List Event) → AtEach (λ b e. ClaimAt commands b e.what) h →
+pub claimed_came : (commands : List Numbered) (i n : ℕ) (h : List Event) → AtEach (λ b e. ClaimAt commands b e.what) h →
     happened (is_claim i n) h ≡ true → is_known_message h i n ≡ true
 claimed_came commands i n h each =
     history_induction (λ b e. ClaimAt commands b e.what)
