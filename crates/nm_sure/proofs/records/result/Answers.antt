@@ -1,5 +1,5 @@
 -- A receive shows its send.
-use Rattle.std.proofs.Common.{◌≡◌, ◌-◌, ℕ, ap, arith, get_or, length, sym, ◌∙◌}
+use Rattle.std.proofs.Common.{◌≡◌, ◌<◌, ◌-◌, ℕ, ap, arith, get_or, length, sym, ◌∙◌}
 use Rattle.std.specs.List.{slice_get}
 use Rattle.std.proofs.lemmas.List.FromFn.{length-map-range_with_len}
 use Rattle.std.proofs.lemmas.Option.{slice_get-get_or}
@@ -36,6 +36,13 @@ bounds-plan-place_of c =
     let low = (partner_in (goal.at.bounds-plan-place_of c).In-Some-index).1 in
     let place = c.place_of.ensures in
     omega (arith, low, place)
+
+pub offset_bounds-plan-place_of : goal.offset_bounds-plan-place_of
+offset_bounds-plan-place_of c =
+    let low = (partner_in (goal.at.offset_bounds-plan-place_of c).In-Some-index).1 in
+    let place = c.place_of.ensures in
+    let few : length c.args.plan.now.lines.now < 65536 = c.args.plan.now.right.limits.few_lines in
+    omega (arith, low, place, few)
 
 pub shown-requires : goal.shown-requires
 shown-requires c =
