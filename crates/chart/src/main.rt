@@ -4,30 +4,9 @@
 use nm_chart::check::chart_check;
 use nm_chart::{Form, chart, chart_part};
 use nm_outside::{RealSink, RealSource};
-use std::io::ErrorKind;
+use nm_shell::{WANT_OF_MEMORY, words};
+use std::io;
 use std::process::ExitCode;
-use std::rt::Env;
-use std::{env, io};
-
-/// The status for want of memory.
-const WANT_OF_MEMORY: u8 = 6;
-
-/// The command line's words without the program's name. Where one is no text, they are an empty one:
-/// then they are not taken either way.
-fn words<R: Env + AllocGlobal>(rt: &R) -> io::Result<Vec<String>> {
-    let mut words = Vec::new(rt.alloc());
-    let all = match env::args(rt) {
-        Err(e) if e.kind() == ErrorKind::InvalidData => {
-            words.push(String::new(rt.alloc()))?;
-            return Ok(words);
-        }
-        all => all?,
-    };
-    for word in all.skip(1) {
-        words.push(word)?;
-    }
-    Ok(words)
-}
 
 fn main(rt: HostRuntime) -> ExitCode {
     let Ok(words) = words(&rt) else {

@@ -6,11 +6,10 @@ use Rattle.nm_outside.specs.Told.{Appends, AppendsPart, Rose}
 use Rattle.nm_report.specs.declared.records.RunRecord.{RunRecord}
 use Rattle.nm_chart.specs.Answers.{Charts, IsAnswer, IsAnswerTo, Tells, WasQuiet, WasRead, status_of}
 use Rattle.nm_chart.specs.Given.{IsReadFor}
-use Rattle.nm_check.specs.Done.{Ending}
+use Rattle.nm_shell.specs.Done.{Ending, OrFails, OrUnwritten, unread}
 use Rattle.nm_chart.specs.Endings.{IsBadTrace, IsDrawn, IsRefused, IsStatus, IsTrace, IsTraceOfOne, usage}
-use Rattle.nm_check.specs.Answers.{read_of, unread}
-use Rattle.nm_check.specs.Endings.{OrFails, OrUnwritten}
-use Rattle.nm_check.proofs.FailLemmas.{to_fails}
+use Rattle.nm_shell.specs.Inputs.{read_of}
+use Rattle.nm_shell.proofs.FailLemmas.{to_fails}
 use Rattle.nm_chart.specs.declared.answers.Response.{Response}
 use Rattle.nm_chart.specs.declared.answers.Response.TheVariants.{Usage, Unread, Refused, Drawn}
 use Rattle.nm_chart.proofs.WidenedLemmas.{picture_of_each}

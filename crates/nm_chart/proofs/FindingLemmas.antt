@@ -2,7 +2,8 @@
 use Rattle.std.proofs.Common.{◌≡◌, ℕ, ◌≤◌, List, Option, Some, None, arith, length, subst, take}
 use Rattle.std.specs.Option.{IfSome}
 use Rattle.nm_script.specs.declared.command_line.CommandLine.{CommandLine}
-use Rattle.nm_check.specs.Answers.{IsAsked, read_of}
+use Rattle.nm_check.specs.Answers.{IsAsked}
+use Rattle.nm_shell.specs.Inputs.{read_of}
 use Rattle.nm_check.specs.Found.{IsFound}
 use Rattle.nm_check.specs.declared.breaks.finding.Found.{Found}
 use Rattle.nm_check.specs.declared.breaks.finding.Found.TheVariants as found

@@ -5,7 +5,7 @@ use Rattle.nm_diagram.specs.declared.frames.Part.{Part}
 use Rattle.nm_report.specs.declared.records.RunRecord.{RunRecord}
 use Rattle.nm_chart.specs.PartWords.{InRange, asked_of}
 use Rattle.nm_chart.specs.Endings.{IsTraceOfOne}
-use Rattle.nm_check.specs.Answers.{read_of}
+use Rattle.nm_shell.specs.Inputs.{read_of}
 use Rattle.nm_chart.specs.Parts.{AreKept, CanBeShown, IsFoundIn, IsOutcome}
 use Rattle.nm_chart.specs.declared.outcomes.Outcome.{Outcome}
 use Rattle.nm_chart.specs.declared.outcomes.Outcome.TheVariants.{Usage, Unread, Refused, Drawn}

@@ -4,10 +4,10 @@ use Rattle.nm_outside.specs.Told.{Rose}
 use Rattle.nm_chart.specs.declared.answers.Response.{Response}
 use Rattle.nm_chart.specs.declared.answers.Response.TheVariants.{Usage, Unread, Refused, Drawn}
 use Rattle.nm_picture.specs.Pictures.{IsPictureOf}
-use Rattle.nm_check.specs.Done.{Ending}
+use Rattle.nm_shell.specs.Done.{Ending, unread}
 use Rattle.nm_chart.specs.Given.{IsReadFor, IsSaid}
 use Rattle.nm_chart.specs.Endings.{IsBadTrace, IsTraceOfOne, usage}
-use Rattle.nm_check.specs.Answers.{read_of, unread}
+use Rattle.nm_shell.specs.Inputs.{read_of}
 use Rattle.nm_check.specs.Texts.{trace_fault_text}
 
 -- the text is that of the answer

@@ -9,10 +9,11 @@ use Rattle.nm_diagram.specs.Frames.{whole}
 use Rattle.nm_picture.specs.declared.flags.Flag.{Flag}
 use Rattle.nm_picture.specs.declared.flags.Flag.TheVariants as flag
 use Rattle.nm_picture.specs.Flags.{IsFlaggedIn}
-use Rattle.nm_check.specs.Done.{Ending}
+use Rattle.nm_shell.specs.Done.{Ending, unread}
 use Rattle.nm_chart.specs.Given.{IsReadFor, IsSaid}
 use Rattle.nm_chart.specs.Endings.{usage}
-use Rattle.nm_check.specs.Answers.{IsAsked, NotAsked, read_of, unread, verdict_status}
+use Rattle.nm_check.specs.Answers.{IsAsked, NotAsked, verdict_status}
+use Rattle.nm_shell.specs.Inputs.{read_of}
 use Rattle.nm_check.specs.Found.{IsFound}
 use Rattle.nm_check.specs.declared.breaks.finding.Found.{Found}
 use Rattle.nm_check.specs.declared.breaks.finding.Found.TheVariants as found

@@ -1,6 +1,6 @@
 -- What is said of each answer, whatever it is.
 use Rattle.std.specs.Prelude.{◌≡◌, ℕ, List, IfSome, Option, Some, drop}
-use Rattle.nm_check.specs.Done as done
+use Rattle.nm_shell.specs.Done as done
 
 -- What was read for an answer. Where no read failed the count of faults of the source is as it was, and where it was
 -- read, then to its end or to the limit.

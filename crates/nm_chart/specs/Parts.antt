@@ -8,7 +8,7 @@ use Rattle.nm_diagram.specs.declared.frames.Part.{Part}
 use Rattle.nm_diagram.specs.Frames.{IsSilent}
 use Rattle.nm_picture.specs.Pictures.{IsPictureIn}
 use Rattle.nm_page.specs.Pages.{IsPageIn}
-use Rattle.nm_check.specs.Done.{Ending}
+use Rattle.nm_shell.specs.Done.{Ending, unread}
 use Rattle.nm_chart.specs.Given.{IsReadFor, IsSaid}
 use Rattle.nm_chart.specs.PartWords.{InRange, asked_of}
 use Rattle.nm_chart.specs.declared.outcomes.Form.{Form}
@@ -17,7 +17,7 @@ use Rattle.nm_chart.specs.declared.outcomes.Outcome.{Outcome}
 use Rattle.nm_chart.specs.declared.outcomes.Outcome.TheVariants.{Usage, Unread, Refused, Drawn}
 use Rattle.nm_chart.specs.Endings.{IsBadTrace, IsTraceOfOne, usage}
 use Rattle.nm_check.specs.Texts.{trace_fault_text}
-use Rattle.nm_check.specs.Answers.{read_of, unread}
+use Rattle.nm_shell.specs.Inputs.{read_of}
 
 -- what is left of a rank: all where it is chosen, and nothing where it is not
 abbrev pub IsKept : Bool → RankAccount → RankAccount → Type 0

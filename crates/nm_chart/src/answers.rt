@@ -6,8 +6,9 @@ ghost use Rattle.nm_chart.specs.Answers.{CanBeDrawn, Tells, status_of};
 use nm_check::checked::trace_fault_text;
 use nm_picture::picture;
 use nm_report::RunRecord;
+use nm_shell::line;
 use nm_types::Memory;
-use std::alloc::{AllocError, Global};
+use std::alloc::Global;
 
 /// What there is to say.
 #[derive(Drop)]
@@ -27,13 +28,6 @@ pub const USAGE: &str =
     "usage: chart [--html] [--from STAMP] [--to STAMP] [--ranks A,B,..] [--of N] <TRACE >PICTURE
        chart check [--cells N] [--eager N] <SCRIPT_AND_TRACE >PICTURE
 ";
-
-/// The bytes of a line.
-pub fn line(alloc: Global, text: &str) -> Result<Vec<u8>, AllocError>
-    ensures { IfOk result (λ bytes. bytes.items ≡ text.now) }
-{
-    Vec::from_slice(alloc, text.as_bytes())
-}
 
 /// The text of an answer, whole and in memory.
 pub fn text(alloc: Global, answer: &Response) -> Result<Vec<u8>, Memory>

@@ -1,35 +1,26 @@
 //! The whole program: words and a trace in, a picture and a status out.
 
 ghost use Rattle.std.specs.Prelude.{◌≡◌, ◌⊎◌, [], map, string_bytes, IfOk, IfSome};
-ghost use Rattle.nm_outside.specs.Told.{LosesAtMost, Rose};
-ghost use Rattle.nm_chart.specs.Answers.{CanBeDrawn, Charts, IsAnswer, IsAnswerTo, Tells, WasQuiet};
-ghost use Rattle.nm_chart.specs.Answers.{WasRead, status_of};
-ghost use Rattle.nm_check.specs.Done.{IsDone};
-ghost use Rattle.nm_chart.specs.Given.{IsReadFor, IsSaid};
+ghost use Rattle.nm_outside.specs.Told.{LosesAtMost};
+ghost use Rattle.nm_chart.specs.Answers.{CanBeDrawn, Charts, IsAnswer, IsAnswerTo, WasQuiet, WasRead};
+ghost use Rattle.nm_shell.specs.Done.{IsDone};
+ghost use Rattle.nm_chart.specs.Given.{IsReadFor};
 ghost use Rattle.nm_chart.specs.Endings.{IsDrawn};
-ghost use Rattle.nm_check.specs.Answers.{read_of};
+ghost use Rattle.nm_shell.specs.Inputs.{read_of};
 
 use crate::answers::{Response, status, text};
-use nm_outside::{Sink, Source, Unread, read_up_to, write_all};
+use nm_outside::{Sink, Source, Unread, read_up_to};
+use nm_shell::{MAX_INPUT, WANT_OF_MEMORY, deliver};
 use nm_trace::{TraceFault, read_trace};
 use nm_types::{Memory, Shape};
 use std::alloc::Global;
-
-/// The most bytes of a trace.
-pub const MAX_TRACE: usize = 67108864;
-
-/// The status where the sink failed.
-pub const SINK_FAILED: u8 = 5;
-
-/// The status for want of memory.
-pub const WANT_OF_MEMORY: u8 = 6;
 
 /// The record whose trace the bytes are, or their first bad line.
 pub fn read_bytes(alloc: Global, bytes: &[u8]) -> Result<Response, Memory>
     ensures answer { IfOk result (IsAnswerTo bytes.now) }
     ensures drawn { IfOk result CanBeDrawn }
 {
-    if bytes.len() > MAX_TRACE {
+    if bytes.len() > MAX_INPUT {
         return Ok(Response::Refused { line: 0 });
     }
     let widest = Shape::new(64, 1, 0).unwrap();
@@ -57,23 +48,10 @@ fn find_answer<S: Source>(
     if !words.is_empty() {
         return Ok(Response::Usage);
     }
-    match read_up_to(alloc, source, MAX_TRACE + 1) {
+    match read_up_to(alloc, source, MAX_INPUT + 1) {
         Ok(bytes) => read_bytes(alloc, &bytes),
         Err(Unread::Failed) => Ok(Response::Unread),
         Err(Unread::Memory) => Err(Memory),
-    }
-}
-
-// Writes what is due to the sink, and answers the status.
-fn deliver<K: Sink>(sink: &mut K, due: &[u8], answer: &Response) -> u8
-    requires { Tells answer.now due.now }
-    ensures said { IsSaid (Tells answer.now) (status_of answer.now) result (K.taken sink.old)
-        (K.taken sink.new) (Rose (K.faults sink.old) (K.faults sink.new)) }
-    ensures quiet { (result ≡ 5) ⊎ (K.faults sink.new ≡ K.faults sink.old) }
-{
-    match write_all(sink, due) {
-        Ok(()) => status(answer),
-        Err(_) => SINK_FAILED,
     }
 }
 
@@ -122,5 +100,5 @@ pub fn chart<S: Source, K: Sink>(
     let Ok(due) = text(alloc, &answer) else {
         return WANT_OF_MEMORY;
     };
-    deliver(sink, &due, &answer)
+    deliver(sink, &due, status(&answer))
 }

@@ -4,15 +4,14 @@ ghost use Rattle.std.specs.Prelude.{◌≡◌, ℕ, ◌≤◌, List, [], Some, I
 ghost use Rattle.nm_types.specs.Sizes.{Sizes};
 ghost use Rattle.nm_report.specs.declared.records.RunRecord.{RunRecord};
 ghost use Rattle.nm_trace.specs.Traces.{IsTraceOf};
-ghost use Rattle.nm_check.specs.Done.{Ending, IsDone};
+ghost use Rattle.nm_shell.specs.Done.{Ending, IsDone, OrFails, OrUnwritten, unread};
 ghost use Rattle.nm_outside.specs.Told.{Appends, AppendsPart, Rose};
 ghost use Rattle.nm_chart.specs.declared.answers.Response.{Response};
 ghost use Rattle.nm_chart.specs.Answers.{Charts, IsAnswer, Tells, WasQuiet, WasRead};
 ghost use Rattle.nm_chart.specs.Given.{IsReadFor};
 ghost use Rattle.nm_chart.specs.Endings.{IsBadTrace, IsRefused, IsStatus, IsTrace};
 ghost use Rattle.nm_chart.specs.Endings.{usage, widest};
-ghost use Rattle.nm_check.specs.Answers.{read_of, unread};
-ghost use Rattle.nm_check.specs.Endings.{OrFails, OrUnwritten};
+ghost use Rattle.nm_shell.specs.Inputs.{read_of};
 ghost use Rattle.nm_chart.specs.Widened.{widened};
 
 /// The trace of a record of any shape is one of the widest shape: of the same record, with silent

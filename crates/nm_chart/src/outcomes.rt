@@ -4,12 +4,13 @@ ghost use Rattle.std.specs.Prelude.{◌≡◌, ◌≤◌, IfOk, length};
 ghost use Rattle.nm_chart.specs.Parts.{CanBeShown, Says, Shows};
 ghost use Rattle.nm_chart.specs.Parts.{outcome_status as outcome_status_lem};
 
-use crate::answers::{USAGE, line};
+use crate::answers::USAGE;
 use nm_check::checked::trace_fault_text;
 use nm_diagram::Part;
 use nm_page::page_in;
 use nm_picture::picture_in;
 use nm_report::RunRecord;
+use nm_shell::line;
 use nm_types::Memory;
 use std::alloc::Global;
 

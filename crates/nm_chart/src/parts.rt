@@ -1,19 +1,19 @@
 //! A part of a trace: words and a trace in, a picture of a part and a status out.
 
 ghost use Rattle.std.specs.Prelude.{◌≡◌, ◌⊎◌, None, map, string_bytes, IfOk};
-ghost use Rattle.nm_outside.specs.Told.{LosesAtMost, Rose};
+ghost use Rattle.nm_outside.specs.Told.{LosesAtMost};
 ghost use Rattle.nm_chart.specs.PartWords.{InRange, asked_of};
-ghost use Rattle.nm_check.specs.Done.{IsDone};
-ghost use Rattle.nm_chart.specs.Given.{IsReadFor, IsSaid};
-ghost use Rattle.nm_chart.specs.Parts.{CanBeShown, ChartsPart, IsFoundIn, IsOutcome, Says, WasQuiet};
-ghost use Rattle.nm_chart.specs.Parts.{WasTaken, outcome_status as status_lem};
+ghost use Rattle.nm_shell.specs.Done.{IsDone};
+ghost use Rattle.nm_chart.specs.Given.{IsReadFor};
+ghost use Rattle.nm_chart.specs.Parts.{CanBeShown, ChartsPart, IsFoundIn, IsOutcome, WasQuiet, WasTaken};
 
 use crate::answers::Response;
-use crate::charts::{MAX_TRACE, SINK_FAILED, WANT_OF_MEMORY, read_bytes};
+use crate::charts::read_bytes;
 use crate::choosing::keep_chosen;
 use crate::outcomes::{Form, Outcome, outcome_status, outcome_text};
 use nm_diagram::Part;
-use nm_outside::{Sink, Source, Unread, read_up_to, write_all};
+use nm_outside::{Sink, Source, Unread, read_up_to};
+use nm_shell::{MAX_INPUT, WANT_OF_MEMORY, deliver};
 use nm_types::Memory;
 use std::alloc::Global;
 
@@ -53,23 +53,10 @@ fn find_outcome<S: Source>(
     let Some(part) = asked else {
         return Ok(Outcome::Usage);
     };
-    match read_up_to(alloc, source, MAX_TRACE + 1) {
+    match read_up_to(alloc, source, MAX_INPUT + 1) {
         Ok(bytes) => read_part(alloc, &bytes, part),
         Err(Unread::Failed) => Ok(Outcome::Unread),
         Err(Unread::Memory) => Err(Memory),
-    }
-}
-
-// Writes what is due to the sink, and answers the status.
-fn deliver_outcome<K: Sink>(sink: &mut K, form: Form, due: &[u8], outcome: &Outcome) -> u8
-    requires { Says form outcome.now due.now }
-    ensures said { IsSaid (Says form outcome.now) (status_lem outcome.now) result (K.taken sink.old)
-        (K.taken sink.new) (Rose (K.faults sink.old) (K.faults sink.new)) }
-    ensures quiet { (result ≡ 5) ⊎ (K.faults sink.new ≡ K.faults sink.old) }
-{
-    match write_all(sink, due) {
-        Ok(()) => outcome_status(outcome),
-        Err(_) => SINK_FAILED,
     }
 }
 
@@ -117,5 +104,5 @@ pub fn chart_part<S: Source, K: Sink>(
     let Ok(due) = outcome_text(alloc, form, &outcome) else {
         return WANT_OF_MEMORY;
     };
-    deliver_outcome(sink, form, &due, &outcome)
+    deliver(sink, &due, outcome_status(&outcome))
 }

@@ -11,10 +11,10 @@ use Rattle.nm_check.specs.Found.{IsFound, checked_of}
 use Rattle.nm_check.specs.declared.breaks.finding.Found.{Found}
 use Rattle.nm_check.specs.declared.breaks.finding.Found.TheVariants.{NoTrace, NoScript, BadTrace, Judged}
 use Rattle.nm_check.specs.Answers.{IsAnswer, IsAsked, IsFoundIn, IsFoundOf, AreQuotesOf, IsTraced, IsWritten}
-use Rattle.nm_check.specs.Answers.{NotAsked, SaysVerdict, WasRead, found_status, status_of, text_of, unread, usage}
+use Rattle.nm_check.specs.Answers.{NotAsked, SaysVerdict, WasRead, found_status, status_of, text_of, usage}
+use Rattle.nm_shell.specs.Done.{Ending, OrFails, OrUnwritten, unread}
 use Rattle.nm_check.specs.Answers.{verdict_status}
-use Rattle.nm_check.specs.Done.{Ending}
-use Rattle.nm_check.specs.Endings.{IsSpoken, IsStatus, IsTold, OrFails, OrUnwritten}
+use Rattle.nm_check.specs.Endings.{IsSpoken, IsStatus, IsTold}
 use Rattle.nm_check.specs.Quotes.{quotes_of}
 use Rattle.nm_check.specs.declared.verdict.quotes.Quotes.{Quotes}
 use Rattle.nm_check.specs.declared.verdict.answers.Response.{Response}

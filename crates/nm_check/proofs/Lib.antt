@@ -1,12 +1,9 @@
 mod AgainstLemmas
-pub mod CutLemmas
 mod EndLemmas
 mod EventLemmas
 mod ExactLemmas
-pub mod FailLemmas
 mod FedLemmas
 mod HeldLemmas
-mod InputLemmas
 mod JudgementLemmas
 mod LastLemmas
 mod LineLemmas

@@ -16,7 +16,7 @@ use Rattle.nm_script.specs.Lines.{ended_lines, is_fed, lines_of, text_len}
 use Rattle.nm_script.proofs.LineLemmas.{text_len-lines}
 use Rattle.nm_trace.specs.Lines.{cut_lines, onto_lines, whole_lines}
 use Rattle.nm_trace.specs.Traces.{Begins, IsFirstBad, IsTraceOf}
-use Rattle.nm_check.specs.Inputs.{IsDivider, IsCut}
+use Rattle.nm_shell.specs.Inputs.{IsDivider, IsCut}
 use Rattle.nm_check.specs.Stops.{IsLineStop, IsStop, lines_in, zeroed}
 use Rattle.nm_check.specs.declared.breaks.stops.Stop.{Stop}
 use Rattle.nm_check.specs.declared.breaks.stops.Stop.TheVariants as stop

@@ -3,7 +3,7 @@ use Rattle.std.proofs.Common.{◌≡◌, inl, inr, ℕ, suc, ◌+◌, ◌-◌, �
 use Rattle.std.proofs.Common.{sym, ◌∙◌, ap, subst, arith}
 use Rattle.std.specs.Prelude.{codes, slice_get}
 use Rattle.nm_script.specs.Lines.{ended_lines, lines_of}
-use Rattle.nm_check.specs.Inputs.{IsCut, IsDivider}
+use Rattle.nm_shell.specs.Inputs.{IsCut, IsDivider}
 use Rattle.nm_check.specs.Stops.{lines_in}
 use Rattle.nm_check.proofs.FedLemmas.{Feeds, feeds_each, feeds_last}
 

@@ -1,5 +1,5 @@
 -- What the program answers: a text and a status.
-use Rattle.std.specs.Prelude.{◌≡◌, ℕ, List, IfSome, Option, Some, codes, drop, take}
+use Rattle.std.specs.Prelude.{◌≡◌, ℕ, List, IfSome, Option, Some, codes, drop}
 use Rattle.nm_types.specs.declared.scripts.Line.{Line}
 use Rattle.nm_script.specs.CommandWords.{IsTaken}
 use Rattle.nm_script.specs.declared.command_line.CommandLine.{CommandLine}
@@ -11,9 +11,10 @@ use Rattle.nm_report.specs.declared.records.RunRecord.{RunRecord}
 use Rattle.nm_trace.specs.Traces.{IsTraceOf}
 use Rattle.nm_check.specs.declared.verdicts.Verdict.{Verdict}
 use Rattle.nm_check.specs.declared.verdicts.Verdict.TheVariants.{Holds}
-use Rattle.nm_check.specs.Checks.{IsChecked, IsInput, sizes}
+use Rattle.nm_check.specs.Checks.{IsChecked, sizes}
+use Rattle.nm_shell.specs.Inputs.{IsInput, read_of}
 use Rattle.nm_check.specs.declared.checked.checks.Checked.TheVariants as what
-use Rattle.nm_check.specs.Done.{Ending, IsSaid}
+use Rattle.nm_shell.specs.Done.{Ending, IsSaid, unread}
 use Rattle.nm_check.specs.Found.{IsFound, checked_of}
 use Rattle.nm_check.specs.declared.breaks.finding.Found.{Found}
 use Rattle.nm_check.specs.declared.breaks.finding.Found.TheVariants.{NoTrace, NoScript, BadTrace, Judged}
@@ -23,17 +24,9 @@ use Rattle.nm_check.specs.VerdictTexts.{found_text}
 use Rattle.nm_check.specs.declared.verdict.answers.Response.{Response}
 use Rattle.nm_check.specs.declared.verdict.answers.Response.TheVariants.{Usage, Unread, Told}
 
--- what is read of a source: all of it, or one byte more than a script and its trace may have
-abbrev pub read_of : List ℕ → List ℕ
-read_of bytes = take 67108865 bytes
-
 -- what is said of words that are not taken
 abbrev pub usage : List ℕ
 usage = codes "usage: verdict [--cells N] [--eager N] <SCRIPT_AND_TRACE\n"
-
--- what is said of a source that failed
-abbrev pub unread : List ℕ
-unread = codes "fault read\n"
 
 -- the text of an answer
 abbrev pub text_of : Response → List ℕ

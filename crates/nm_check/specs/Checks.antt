@@ -1,5 +1,5 @@
 -- What is said of a script and a trace in one text.
-use Rattle.std.specs.Prelude.{ℕ, ◌≤◌, ◌<◌, ◌⊎◌, List, length}
+use Rattle.std.specs.Prelude.{ℕ, List}
 use Rattle.nm_types.specs.declared.scripts.Line.{Line}
 use Rattle.nm_types.specs.Sizes.{Sizes}
 use Rattle.nm_script.specs.Rules.{IsFirstFault}
@@ -7,18 +7,13 @@ use Rattle.nm_script.specs.Spelled.{IsTextOf}
 use Rattle.nm_report.specs.declared.records.RunRecord.{RunRecord}
 use Rattle.nm_trace.specs.Traces.{IsFirstBad, IsTraceOf}
 use Rattle.nm_check.specs.Verdicts.{Judges}
-use Rattle.nm_check.specs.Inputs.{HasNoCut, IsOnlyCut}
+use Rattle.nm_shell.specs.Inputs.{HasNoParts, IsInput}
 use Rattle.nm_check.specs.declared.checked.checks.Checked.{Checked}
 use Rattle.nm_check.specs.declared.checked.checks.Checked.TheVariants.{NoTrace, NoScript, BadTrace, Judged}
 
 -- the sizes of a run: so many ranks, cells of each, and this eager limit
 abbrev pub sizes : ℕ → ℕ → ℕ → Sizes
 sizes cells eager ranks = record { ranks = ranks; cells = cells; eager = eager }
-
--- the input is short enough, and has a script and a trace
-pub record IsInput (bytes front rest : List ℕ) : Type 0 where
-  pub short : length bytes ≤ 67108864
-  pub cut : IsOnlyCut bytes front rest
 
 -- the trace is judged by the script's lines, or is none
 abbrev pub IsTraceChecked : Sizes → List Line → List ℕ → Checked → Type 0
@@ -37,6 +32,6 @@ IsScriptChecked cells eager front rest checked =
 
 -- the input is too long or has no line `---`, or its two parts are checked
 abbrev pub IsChecked : ℕ → ℕ → List ℕ → Checked → Type 0
-IsChecked cells eager bytes NoTrace = (67108864 < length bytes) ⊎ HasNoCut bytes
+IsChecked cells eager bytes NoTrace = HasNoParts bytes
 IsChecked cells eager bytes checked =
     (front : List ℕ) × (rest : List ℕ) × IsInput bytes front rest × IsScriptChecked cells eager front rest checked

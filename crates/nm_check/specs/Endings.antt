@@ -26,11 +26,3 @@ IsSpoken status = (status ≡ 0) ⊎ ((status ≡ 3) ⊎ ((status ≡ 8) ⊎ (st
 -- the statuses that there are
 abbrev pub IsStatus : ℕ → Type 0
 IsStatus status = IsSpoken status ⊎ ((status ≡ 2) ⊎ ((status ≡ 4) ⊎ ((status ≡ 5) ⊎ (status ≡ 6))))
-
--- it is so, or a write failed, or memory ran out
-abbrev pub OrUnwritten : Type 0 → ℕ → Type 0
-OrUnwritten holds status = holds ⊎ ((status ≡ 5) ⊎ (status ≡ 6))
-
--- it is so, or a read or a write failed, or memory ran out
-abbrev pub OrFails : Type 0 → ℕ → Type 0
-OrFails holds status = holds ⊎ ((status ≡ 4) ⊎ ((status ≡ 5) ⊎ (status ≡ 6)))

@@ -1,12 +1,12 @@
 -- What is found of a script and a trace in one text.
-use Rattle.std.specs.Prelude.{◌≡◌, ℕ, ◌<◌, ◌⊎◌, List, length}
+use Rattle.std.specs.Prelude.{◌≡◌, ℕ, List}
 use Rattle.nm_types.specs.declared.scripts.Line.{Line}
 use Rattle.nm_types.specs.Sizes.{Sizes}
 use Rattle.nm_script.specs.Rules.{IsFirstFault}
 use Rattle.nm_script.specs.Spelled.{IsTextOf}
 use Rattle.nm_trace.specs.Traces.{IsFirstBad, IsTraceOf}
-use Rattle.nm_check.specs.Checks.{IsInput, sizes}
-use Rattle.nm_check.specs.Inputs.{HasNoCut}
+use Rattle.nm_check.specs.Checks.{sizes}
+use Rattle.nm_shell.specs.Inputs.{HasNoParts, IsInput}
 use Rattle.nm_check.specs.declared.checked.checks.Checked.{Checked}
 use Rattle.nm_check.specs.declared.checked.checks.Checked.TheVariants as checked
 use Rattle.nm_check.specs.Judgements.{IsJudgement}
@@ -41,6 +41,6 @@ IsScriptFound cells eager front rest found =
 
 -- the input is too long or has no line `---`, or its two parts are found to be this
 abbrev pub IsFound : ℕ → ℕ → List ℕ → Found → Type 0
-IsFound cells eager bytes NoTrace = (67108864 < length bytes) ⊎ HasNoCut bytes
+IsFound cells eager bytes NoTrace = HasNoParts bytes
 IsFound cells eager bytes found =
     (front : List ℕ) × (rest : List ℕ) × IsInput bytes front rest × IsScriptFound cells eager front rest found

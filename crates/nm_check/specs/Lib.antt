@@ -2,12 +2,10 @@ pub mod Against
 pub mod Answers
 pub mod CellCounts
 pub mod Checks
-pub mod Done
 pub mod Endings
 pub mod Evidences
 pub mod Found
 pub mod Incidents
-pub mod Inputs
 pub mod Judgements
 pub mod Lines
 pub mod Miscounts

@@ -1,9 +1,9 @@
 //! What is said of a script and a trace in one text, with a line `---` between them.
 //!
 //! # What a contract sees
-//! Bytes as a list of numbers. `specs/Inputs.antt` says where the bytes are cut (`IsCut`: at the
-//! first line `---`), `specs/Checks.antt` what each answer means (`IsChecked`), by the definitions
-//! of `nm_script`, `nm_trace` and `nm_check`, and `specs/Texts.antt` what is said of it.
+//! Bytes as a list of numbers. `specs/Checks.antt` says what each answer means (`IsChecked`), by the
+//! definitions of `nm_shell`, `nm_script`, `nm_trace` and `nm_check`, and `specs/Texts.antt` what is said
+//! of it.
 //! # What is proved
 //! - `check` tells the cases apart in their order: no room or no line `---`, no script before it,
 //!   no trace behind it, else the verdict on the trace.
@@ -14,9 +14,7 @@
 //! on what a change of one line makes of them (`tests/traces`).
 
 mod checks;
-pub(crate) mod inputs;
 mod texts;
 
 pub use checks::{Checked, check};
-pub use inputs::cut;
 pub use texts::{trace_fault_text, verdict_text};

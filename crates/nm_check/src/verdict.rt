@@ -33,4 +33,4 @@ mod sentences;
 mod texts;
 mod verdicts;
 
-pub use verdicts::verdict;
+pub use verdicts::{asked, verdict};

@@ -1,5 +1,8 @@
 //! What can be said of a record.
 
+ghost use Rattle.std.specs.Prelude.{◌≡◌};
+ghost use Rattle.nm_check.specs.Answers.{verdict_status};
+
 use nm_check_rank::clauses::OwnClause;
 use nm_check_ranks::clauses::CarriedClause;
 use nm_check_ranks::rest::clauses::RestClause;
@@ -29,4 +32,16 @@ pub enum Verdict {
     Home,
     /// The record is not marked as done exactly where every rank is at its end.
     Done,
+}
+
+impl Verdict {
+    /// Its status: 0 where the trace holds, else 8.
+    pub fn status(self) -> u8
+        ensures { result ≡ verdict_status self }
+    {
+        match self {
+            Verdict::Holds => 0,
+            _ => 8,
+        }
+    }
 }

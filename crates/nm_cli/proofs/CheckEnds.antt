@@ -8,7 +8,7 @@ use Rattle.nm_script.specs.declared.command_line.CommandLine.{CommandLine}
 use Rattle.nm_script.specs.declared.command_line.Mode.TheVariants.{Check, Parts, Plain, Multi}
 use Rattle.nm_cli.specs.Checks.{IsCheckedAs, IsCheckedEnd, IsWritten, checked_status, checked_text}
 use Rattle.nm_cli.specs.Done.{Ending, Ends}
-use Rattle.nm_check.specs.Endings.{OrFails}
+use Rattle.nm_shell.specs.Done.{OrFails}
 use Rattle.nm_cli.specs.Scripts.{Reads, Runs}
 use Rattle.nm_check.specs.declared.verdicts.Verdict.TheVariants.{Holds}
 use Rattle.nm_check.specs.declared.checked.checks.Checked.{Checked as CheckedText}
@@ -17,7 +17,7 @@ use Rattle.nm_cli.specs.declared.answers.Response.{Response}
 use Rattle.nm_cli.specs.declared.answers.Response.TheVariants.{Usage, Unread, Refused, Ran}
 use Rattle.nm_cli.specs.declared.answers.Response.TheVariants.{Free, Determinate, Checked, NoPlan, Planned, Logged}
 use Rattle.nm_cli.proofs.EndLemmas.{answered_for, or_unread, or_unwritten, other}
-use Rattle.nm_check.proofs.FailLemmas.{to_fails}
+use Rattle.nm_shell.proofs.FailLemmas.{to_fails}
 
 pub check_is : (s : Ending) (a : Response) → Ends s a → (line : CommandLine) → IsTaken s.words line →
     line.mode ≡ Check → OrFails (IsCheckedEnd line s.input s.status s.before s.after) s.status

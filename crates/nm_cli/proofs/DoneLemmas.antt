@@ -1,7 +1,7 @@
 -- What holds of each answer holds of what was done, unless memory ran out.
 use Rattle.std.proofs.Common.{◌≡◌, ℕ, inl, inr, sym, ◌∙◌}
 use Rattle.nm_cli.specs.Done.{Ending, Ends, IsDone, RanShort}
-use Rattle.nm_check.specs.Endings.{OrFails, OrUnwritten}
+use Rattle.nm_shell.specs.Done.{OrFails, OrUnwritten}
 use Rattle.nm_cli.specs.declared.answers.Response.{Response}
 
 pub of_done : {P : Type 0} (e : Ending) → IsDone e → (RanShort e → P) → ((a : Response) → Ends e a → P) → P

@@ -7,14 +7,13 @@ use Rattle.nm_script.specs.declared.command_line.CommandLine.{CommandLine}
 use Rattle.nm_script.specs.declared.command_line.Mode.{Mode}
 use Rattle.nm_cli.specs.Answers.{IsAnswer, IsAnswerTo, NotTaken, end_status, log_of, run_of, status_of, text_of}
 use Rattle.nm_cli.specs.Answers.{IsReadFor, WasRead, usage, ways_of}
-use Rattle.nm_check.specs.Answers.{unread}
+use Rattle.nm_shell.specs.Done.{OrFails, OrUnwritten, unread}
 use Rattle.nm_check.specs.declared.verdicts.Verdict.TheVariants.{Holds}
 use Rattle.nm_check.specs.declared.checked.checks.Checked.{Checked as CheckedText}
 use Rattle.nm_check.specs.declared.checked.checks.Checked.TheVariants.{NoTrace, NoScript, BadTrace, Judged}
 use Rattle.nm_cli.specs.Checks.{checked_status}
 use Rattle.nm_cli.specs.Done.{Ending, Ends}
 use Rattle.nm_cli.specs.Endings.{IsStatus}
-use Rattle.nm_check.specs.Endings.{OrFails, OrUnwritten}
 use Rattle.nm_cli.specs.declared.answers.Response.{Response}
 use Rattle.nm_cli.specs.declared.answers.Response.TheVariants.{Usage, Unread, Refused, Ran, Free, Determinate}
 use Rattle.nm_cli.specs.declared.answers.Response.TheVariants.{Checked, NoPlan, Planned, Logged}

@@ -8,7 +8,7 @@ use Rattle.nm_script.specs.declared.command_line.Mode.TheVariants.{Plain, Check,
 use Rattle.nm_cli.specs.Answers.{end_status}
 use Rattle.nm_cli.specs.Done.{Ending, Ends}
 use Rattle.nm_cli.specs.Endings.{IsFree, IsSure, IsWorkedOut}
-use Rattle.nm_check.specs.Endings.{OrFails}
+use Rattle.nm_shell.specs.Done.{OrFails}
 use Rattle.nm_cli.specs.Plains.{IsNotPlain, IsPlain, free_text}
 use Rattle.nm_cli.specs.Scripts.{Runs}
 use Rattle.nm_cli.specs.declared.answers.Response.{Response}
@@ -17,7 +17,7 @@ use Rattle.nm_cli.specs.declared.answers.Response.TheVariants.{Free, Determinate
 use Rattle.nm_cli.specs.declared.answers.Response.TheVariants.{Logged}
 use Rattle.nm_cli.proofs.EndLemmas.{answered_for, or_unread, or_unwritten, other}
 use Rattle.nm_cli.proofs.EndLemmas.{run_status}
-use Rattle.nm_check.proofs.FailLemmas.{to_fails}
+use Rattle.nm_shell.proofs.FailLemmas.{to_fails}
 use Rattle.nm_cli.proofs.RunEnds.{was_refused}
 
 free_said : (input before after : Option (List ℕ)) (n : ℕ) → IfSome input (IsNotPlain n) →

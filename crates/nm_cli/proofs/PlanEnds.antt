@@ -10,7 +10,7 @@ use Rattle.nm_script.specs.declared.faults.TextFault.TheVariants as plan_fault
 use Rattle.nm_plans.specs.declared.faults.PlanKind.{PlanKind}
 use Rattle.nm_cli.specs.Done.{Ending, Ends}
 use Rattle.nm_cli.specs.Endings.{IsPlanEnded, IsPlanRefused}
-use Rattle.nm_check.specs.Endings.{OrFails}
+use Rattle.nm_shell.specs.Done.{OrFails}
 use Rattle.nm_cli.specs.Plans.{PlanRefuses, plan_fault_text}
 use Rattle.nm_cli.specs.Scripts.{Reads, Runs, read_of, sizes_for}
 use Rattle.nm_cli.specs.declared.answers.Response.{Response}
@@ -18,7 +18,7 @@ use Rattle.nm_cli.specs.declared.answers.Response.TheVariants.{Usage, Unread, Re
 use Rattle.nm_cli.specs.declared.answers.Response.TheVariants.{Free, Determinate, Checked, NoPlan, Planned}
 use Rattle.nm_cli.specs.declared.answers.Response.TheVariants.{Logged}
 use Rattle.nm_cli.proofs.EndLemmas.{answered_for, or_unread, or_unwritten, other}
-use Rattle.nm_check.proofs.FailLemmas.{to_fails}
+use Rattle.nm_shell.proofs.FailLemmas.{to_fails}
 
 refused_said : (input before after : Option (List ℕ)) (n : ℕ) (k : PlanKind) →
     IfSome input (λ bytes. PlanRefuses (read_of bytes) (plan_fault.Bad n k)) →

@@ -16,7 +16,7 @@ use Rattle.nm_world.specs.declared.whole.Ways.{Ways}
 use Rattle.nm_cli.specs.Answers.{Refuses, end_status, run_text}
 use Rattle.nm_cli.specs.Done.{Ending, Ends}
 use Rattle.nm_cli.specs.Endings.{IsRefused, IsReported}
-use Rattle.nm_check.specs.Endings.{OrFails, OrUnwritten}
+use Rattle.nm_shell.specs.Done.{OrFails, OrUnwritten}
 use Rattle.nm_cli.specs.Plains.{IsNotPlain, IsPlain}
 use Rattle.nm_cli.specs.Scripts.{HandsOut, IsAsked, IsKnown, IsRunOfWords, Makes, Reads}
 use Rattle.nm_cli.specs.Scripts.{ReadsSource, Runs, read_of}
@@ -26,7 +26,7 @@ use Rattle.nm_cli.specs.declared.answers.Response.TheVariants.{Free, Determinate
 use Rattle.nm_cli.specs.declared.answers.Response.TheVariants.{Logged}
 use Rattle.nm_cli.proofs.EndLemmas.{answered_for, no_run_status, not_five, or_unread, or_unwritten}
 use Rattle.nm_cli.proofs.EndLemmas.{other, run_status, said_whole, unless_failed}
-use Rattle.nm_check.proofs.FailLemmas.{to_fails}
+use Rattle.nm_shell.proofs.FailLemmas.{to_fails}
 use Rattle.nm_types.proofs.OptionLemmas.{if_all as always}
 
 -- nothing is read for a flood

@@ -10,7 +10,7 @@ use Rattle.nm_multi.specs.Programs.{IsWhole}
 use Rattle.nm_multi.specs.Text.{log_text}
 use Rattle.nm_cli.specs.Done.{Ending, Ends}
 use Rattle.nm_cli.specs.Endings.{IsLogged}
-use Rattle.nm_check.specs.Endings.{OrUnwritten}
+use Rattle.nm_shell.specs.Done.{OrUnwritten}
 use Rattle.nm_cli.specs.Scripts.{Reads, ReadsSource, Runs}
 use Rattle.nm_cli.specs.declared.answers.Response.{Response}
 use Rattle.nm_cli.specs.declared.answers.Response.TheVariants.{Usage, Unread, Refused, Ran}

@@ -32,7 +32,7 @@ use Rattle.nm_plans.specs.Expansion.{expand}
 use Rattle.nm_plans.specs.declared.lines.PlanLine.{PlanLine}
 use Rattle.nm_persist.specs.Report.{run_text as plan_run_text}
 use Rattle.nm_persist.specs.Rules.{IsTextOf as IsPlanText}
-use Rattle.nm_check.specs.Answers.{unread}
+use Rattle.nm_shell.specs.Done.{unread}
 use Rattle.nm_cli.specs.Checks.{IsCheckedAs, IsCheckedIn, checked_status, checked_text}
 use Rattle.nm_cli.specs.Plains.{IsNotPlain, IsPlain, free_text}
 use Rattle.nm_cli.specs.Plans.{IsRunOfPlan, PlanRefuses, plan_fault_text}

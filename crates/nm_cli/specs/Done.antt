@@ -7,7 +7,7 @@ use Rattle.nm_report.specs.declared.records.RunRecord.{RunRecord}
 use Rattle.nm_world.specs.declared.whole.Ways.{Ways}
 use Rattle.nm_multi.specs.Calls.{Logged as Log}
 use Rattle.nm_cli.specs.Answers.{IsAnswer, IsReadFor, NotTaken, log_of, run_of, status_of, text_of, ways_of}
-use Rattle.nm_check.specs.Done.{IsSaid}
+use Rattle.nm_shell.specs.Done.{IsSaid}
 use Rattle.nm_cli.specs.Scripts.{ReadsSource, limit_of}
 use Rattle.nm_cli.specs.declared.answers.Response.{Response}
 

@@ -10,13 +10,13 @@ ghost use Rattle.nm_cli.specs.Answers.{end_status as end_status_lem, status_of, 
 ghost use Rattle.nm_cli.specs.Plans.{plan_fault_text as plan_fault_text_lem, plan_kind_text};
 ghost use Rattle.nm_cli.specs.Plains.{free_text as free_text_lem};
 
-use nm_check::Verdict;
 use nm_check::checked::{Checked, trace_fault_text, verdict_text};
 use nm_multi::CallLog;
 use nm_persist::{Plan, PlanKind};
 use nm_report::RunRecord;
 use nm_script::command_line::Mode;
 use nm_script::{Kind, fault_text};
+use nm_shell::line;
 use nm_sure::PlainRun;
 use nm_types::Memory;
 use nm_world::Ways;
@@ -149,10 +149,7 @@ fn checked_status(checked: Checked) -> u8
         Checked::NoTrace => 9,
         Checked::NoScript { .. } => 3,
         Checked::BadTrace { .. } => 9,
-        Checked::Judged { verdict } => match verdict {
-            Verdict::Holds => 0,
-            _ => 8,
-        },
+        Checked::Judged { verdict } => verdict.status(),
     }
 }
 
@@ -202,10 +199,4 @@ fn plan_kind_name(kind: PlanKind) -> &'static str
         PlanKind::Order => "order",
         PlanKind::Size => "size",
     }
-}
-
-fn line(alloc: Global, text: &str) -> Result<Vec<u8>, AllocError>
-    ensures { IfOk result (λ bytes. bytes.items ≡ text.now) }
-{
-    Vec::from_slice(alloc, text.as_bytes())
 }

@@ -17,6 +17,7 @@ use crate::runs::{answer_script, run_script};
 use nm_outside::{Gate, Source, Unread, read_up_to};
 use nm_script::command_line::{CommandLine, Mode, read};
 use nm_script::flood::flood_script;
+use nm_shell::MAX_INPUT;
 use nm_types::{MAX_TEXT, Memory};
 use std::alloc::Global;
 use std::mem;
@@ -48,7 +49,7 @@ fn limit(mode: &Mode) -> usize
     ensures { result ≡ limit_of mode.now }
 {
     match mode {
-        Mode::Check => 67_108_865,
+        Mode::Check => MAX_INPUT + 1,
         _ => MAX_TEXT as usize + 1,
     }
 }

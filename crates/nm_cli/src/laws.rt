@@ -14,7 +14,7 @@ ghost use Rattle.nm_cli.specs.Answers.{NotTaken, end_status, usage};
 ghost use Rattle.nm_cli.specs.Checks.{IsCheckedEnd, IsWritten};
 ghost use Rattle.nm_cli.specs.Done.{Ending, IsDone};
 ghost use Rattle.nm_cli.specs.Endings.{IsLogged, IsPlanEnded, IsRefused, IsReported, IsWorkedOut};
-ghost use Rattle.nm_check.specs.Endings.{OrFails, OrUnwritten};
+ghost use Rattle.nm_shell.specs.Done.{OrFails, OrUnwritten};
 ghost use Rattle.nm_cli.specs.Plains.{IsDeterminate, sure_text};
 ghost use Rattle.nm_cli.specs.Scripts.{HandsOut, IsKnown, Makes, Reads, ReadsSource, Runs};
 ghost use Rattle.nm_cli.specs.Scripts.{limit_of, read_of, sizes_for};

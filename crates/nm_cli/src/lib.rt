@@ -40,11 +40,10 @@ ghost use Rattle.nm_outside.specs.Told.{Appends, AppendsPart, Rose};
 ghost use Rattle.nm_script.specs.CommandWords.{IsTaken};
 ghost use Rattle.nm_script.specs.declared.command_line.CommandLine.{CommandLine};
 ghost use Rattle.nm_cli.specs.declared.answers.Response.{Response};
-ghost use Rattle.nm_cli.specs.Answers.{IsAnswer, IsReadFor, log_of, run_of, status_of, text_of, ways_of};
-ghost use Rattle.nm_check.specs.Answers.{unread};
+ghost use Rattle.nm_cli.specs.Answers.{IsAnswer, IsReadFor, log_of, run_of, text_of, ways_of};
+ghost use Rattle.nm_shell.specs.Done.{unread};
 ghost use Rattle.nm_cli.specs.Done.{IsDone, TakesInput};
 ghost use Rattle.nm_cli.specs.Endings.{IsReported, IsStatus};
-ghost use Rattle.nm_check.specs.Done.{IsSaid};
 ghost use Rattle.nm_cli.specs.Scripts.{Runs};
 
 mod answers;
@@ -57,8 +56,9 @@ mod runs;
 use answers::{Response, status, text};
 use finding::find_answer;
 use nm_multi::CallLog;
-use nm_outside::{Gate, Sink, Source, write_all};
+use nm_outside::{Gate, Sink, Source};
 use nm_report::RunRecord;
+use nm_shell::{WANT_OF_MEMORY, deliver};
 use nm_world::Ways;
 use std::alloc::Global;
 use std::sync::Wait;
@@ -79,10 +79,6 @@ pub struct Ended {
     /// The calls of several threads on one rank, where their text was due.
     pub log: Option<CallLog>,
 }
-
-const SINK_FAILED: u8 = 5;
-
-const WANT_OF_MEMORY: u8 = 6;
 
 // How it ends with nothing to hand out.
 fn hand_out_nothing(status: u8) -> Ended
@@ -124,19 +120,6 @@ fn hand_out(status: u8, answer: Response) -> Ended
             ..hand_out_nothing(status)
         },
         _ => hand_out_nothing(status),
-    }
-}
-
-// Writes what is due to the sink, and answers the status.
-fn deliver<K: Sink>(sink: &mut K, due: &[u8], answer: &Response) -> u8
-    requires { due.now ≡ text_of answer.now }
-    ensures said { IsSaid (text_of answer.now) (status_of answer.now) result (K.taken sink.old)
-        (K.taken sink.new) (Rose (K.faults sink.old) (K.faults sink.new)) }
-    ensures quiet { (result ≡ 5) ⊎ (K.faults sink.new ≡ K.faults sink.old) }
-{
-    match write_all(sink, due) {
-        Ok(()) => status(answer),
-        Err(_) => SINK_FAILED,
     }
 }
 
@@ -207,6 +190,6 @@ pub fn nemesis<R: Threads + Wait + Sync, S: Source, K: Sink, G: Gate + Sync>(
     let Ok(due) = text(alloc, &answer) else {
         return hand_out_nothing(WANT_OF_MEMORY);
     };
-    let status = deliver(sink, &due, &answer);
+    let status = deliver(sink, &due, status(&answer));
     hand_out(status, answer)
 }

@@ -2,8 +2,8 @@
 use Rattle.std.proofs.Common.{◌≡◌, ℕ, inl, inr, List, Option, Some, None, refl, sym, ◌∙◌, subst, arith}
 use Rattle.std.specs.Option.{IfSome}
 use Rattle.nm_types.proofs.OptionLemmas.{if_each, if_some, no_some, same_some}
-use Rattle.nm_check.specs.Answers.{read_of}
-use Rattle.nm_check.specs.Done.{Ending}
+use Rattle.nm_shell.specs.Inputs.{read_of}
+use Rattle.nm_shell.specs.Done.{Ending}
 use Rattle.nm_lawful.specs.declared.judging.Judged.{Judged as the_judged}
 use Rattle.nm_lawful.specs.declared.judging.Judged.TheVariants as judged
 use Rattle.nm_lawful.specs.Searches.{JudgedSays}

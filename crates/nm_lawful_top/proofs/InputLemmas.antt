@@ -1,12 +1,10 @@
 -- Answers that are right.
-use Rattle.std.proofs.Common.{◌≡◌, ℕ, ◌≤◌, inl, inr, List, length, length-append, codes, subst, ap, ◌∙◌, arith}
+use Rattle.std.proofs.Common.{◌≡◌, ℕ, List, subst}
 use Rattle.std.specs.Prelude.{Option, Some, None}
 use Rattle.std.specs.Option.{IfSome}
 use Rattle.nm_types.specs.declared.scripts.Line.{Line}
 use Rattle.nm_script.specs.Spelled.{IsTextOf}
-use Rattle.nm_check.specs.Answers.{read_of}
-use Rattle.nm_check.specs.Checks.{IsInput}
-use Rattle.nm_check.specs.Inputs.{IsOnlyCut}
+use Rattle.nm_shell.specs.Inputs.{IsInput, read_of}
 use Rattle.nm_lawful.specs.declared.judging.Judged.{Judged as the_judged}
 use Rattle.nm_lawful.specs.declared.moves.Said.{Said}
 use Rattle.nm_lawful.specs.Moves.{report_lem}
@@ -29,16 +27,6 @@ answered_in asked script text ranks lines spelled (BadLine n) h =
     record { ranks = ranks; lines = lines; spelled = spelled; right = h }
 answered_in asked script text ranks lines spelled (Judged j l w) h =
     record { ranks = ranks; lines = lines; spelled = spelled; right = h }
-
--- what stands behind the line `---` is no longer than all
-pub text_short : (bytes front text : List ℕ) → length bytes ≤ 67108864 → IsOnlyCut bytes front text →
-    length text ≤ 67108864
-text_short bytes front text short only =
-    let all = ap length only.cut.split ∙ length-append front only.cut.behind in
-    elim only.cut.follows [
-      | inl is ↦ let n = ap length is ∙ length-append (codes "---\n") text in omega (arith, all, short, n)
-      | inr is ↦ let n = ap length is.1 in omega (arith, n)
-    ]
 
 -- an answer to the parts of the bytes is one to the bytes
 pub answered_to : (asked : Asked) (bytes script text : List ℕ) → IsInput bytes script text → (answer : Response) →

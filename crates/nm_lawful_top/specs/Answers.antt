@@ -1,14 +1,12 @@
 -- What the program answers: a text and a status.
-use Rattle.std.specs.Prelude.{◌≡◌, ℕ, ◌<◌, ◌⊎◌, List, Option, Ok, Err, IfSome, length}
+use Rattle.std.specs.Prelude.{◌≡◌, ℕ, List, Option, Ok, Err, IfSome}
 use Rattle.nm_outside.specs.Told.{Rose}
 use Rattle.nm_types.specs.declared.scripts.Line.{Line}
 use Rattle.nm_script.specs.Rules.{IsFirstFault}
 use Rattle.nm_script.specs.Spelled.{IsTextOf}
 use Rattle.nm_script.specs.FaultTexts.{fault_text}
-use Rattle.nm_check.specs.Answers.{read_of, unread}
-use Rattle.nm_check.specs.Checks.{IsInput}
-use Rattle.nm_check.specs.Done.{Ending, IsSaid}
-use Rattle.nm_check.specs.Inputs.{HasNoCut}
+use Rattle.nm_shell.specs.Inputs.{HasNoParts, IsInput, read_of}
+use Rattle.nm_shell.specs.Done.{Ending, IsSaid, unread}
 use Rattle.nm_lawful.specs.declared.judging.Judged.{Judged as the_judged}
 use Rattle.nm_lawful.specs.Moves.{Report}
 use Rattle.nm_lawful.specs.Searches.{JudgedSays}
@@ -81,7 +79,7 @@ pub record IsParted (asked : Asked) (bytes : List ℕ) (answer : Response) : Typ
 abbrev pub IsDueTo : Asked → List ℕ → Response → Type 0
 IsDueTo asked bytes Usage = ⊥
 IsDueTo asked bytes Unread = ⊥
-IsDueTo asked bytes NoAnswers = (67108864 < length bytes) ⊎ HasNoCut bytes
+IsDueTo asked bytes NoAnswers = HasNoParts bytes
 IsDueTo asked bytes answer = IsParted asked bytes answer
 
 -- an answer to words that are taken is right: by the bytes of the source where it tells them, and by its

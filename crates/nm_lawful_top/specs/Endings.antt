@@ -2,8 +2,7 @@
 use Rattle.std.specs.Prelude.{◌≡◌, ℕ, List, Ok}
 use Rattle.nm_types.specs.declared.scripts.Line.{Line}
 use Rattle.nm_script.specs.Spelled.{IsTextOf}
-use Rattle.nm_check.specs.Answers.{read_of}
-use Rattle.nm_check.specs.Checks.{IsInput}
+use Rattle.nm_shell.specs.Inputs.{IsInput, read_of}
 use Rattle.nm_lawful.specs.Lawful.{IsLawful}
 use Rattle.nm_lawful.specs.Moves.{Report}
 use Rattle.nm_lawful_top.specs.declared.words.Asked.{Asked}

@@ -8,14 +8,11 @@ ghost use Rattle.nm_lawful_top.specs.Readings.{reading_of};
 use crate::readings::{Form, Lines, Report};
 use crate::responses::{Response, line_of, wait_of};
 use crate::words::Asked;
-use nm_check::checked::cut;
 use nm_lawful::judging::{Case, judge};
 use nm_script::ScriptFault;
+use nm_shell::parts;
 use nm_types::{Memory, Script};
 use std::alloc::Global;
-
-/// The most bytes of a script and answers.
-const MAX_INPUT: usize = 67108864;
 
 // The verdict on what so many lines tell.
 fn verdict(
@@ -86,10 +83,7 @@ fn answer_parts(alloc: Global, asked: Asked, bytes: &[u8], text: &[u8]) -> Resul
 pub fn answer_bytes(alloc: Global, asked: Asked, bytes: &[u8]) -> Result<Response, Memory>
     ensures { IfOk result (IsDueTo asked bytes.now) }
 {
-    if bytes.len() > MAX_INPUT {
-        return Ok(Response::NoAnswers);
-    }
-    match cut(bytes) {
+    match parts(bytes) {
         Some((front, text)) => answer_parts(alloc, asked, front, text),
         None => Ok(Response::NoAnswers),
     }

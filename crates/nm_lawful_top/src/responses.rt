@@ -8,6 +8,7 @@ ghost use Rattle.nm_lawful_top.specs.Texts.{rest_text, unlawful_text};
 use crate::readings::line_at;
 use nm_lawful::judging::Judged;
 use nm_script::{Kind, fault_text};
+use nm_shell::line;
 use nm_types::Memory;
 use std::alloc::{AllocError, Global};
 
@@ -40,13 +41,6 @@ pub enum Response {
 /// What is said of words that are not taken.
 const USAGE: &str = "usage: lawful [--cut any] STATES <SCRIPT_AND_ANSWERS
 ";
-
-/// The bytes of a text.
-fn bytes(alloc: Global, text: &str) -> Result<Vec<u8>, AllocError>
-    ensures { IfOk result (λ bytes. bytes.items ≡ text.now) }
-{
-    Vec::from_slice(alloc, text.as_bytes())
-}
 
 /// What is said of a line that tells nothing.
 fn bad_line(alloc: Global, line: u32) -> Result<Vec<u8>, AllocError>
@@ -130,10 +124,10 @@ pub fn text(alloc: Global, answer: &Response) -> Result<Vec<u8>, Memory>
     ensures { IfOk result (λ text. text.items ≡ text_of answer.now) }
 {
     match answer {
-        Response::Usage => Ok(bytes(alloc, USAGE)?),
-        Response::Unread => Ok(bytes(alloc, "fault read\n")?),
+        Response::Usage => Ok(line(alloc, USAGE)?),
+        Response::Unread => Ok(line(alloc, "fault read\n")?),
         Response::Refused { line, kind } => Ok(fault_text(alloc, *line, *kind)?),
-        Response::NoAnswers => Ok(bytes(alloc, "fault answers 0\n")?),
+        Response::NoAnswers => Ok(line(alloc, "fault answers 0\n")?),
         Response::BadLine { line } => Ok(bad_line(alloc, *line)?),
         Response::Judged { judged, line, wait } => {
             Ok(verdict_text(alloc, *judged, line.as_slice(), *wait)?)

@@ -2,8 +2,8 @@
 
 ghost use Rattle.std.specs.Prelude.{◌≡◌, map, string_bytes, IfOk, IfSome};
 ghost use Rattle.nm_outside.specs.Told.{Rose};
-ghost use Rattle.nm_check.specs.Done.{IsDone, IsSaid};
-ghost use Rattle.nm_lawful_top.specs.Answers.{IsDue, IsDueOf, TellsLawful, status_of, text_of};
+ghost use Rattle.nm_shell.specs.Done.{IsDone};
+ghost use Rattle.nm_lawful_top.specs.Answers.{IsDue, IsDueOf, TellsLawful};
 ghost use Rattle.nm_lawful_top.specs.Endings.{AreLawful, AreUnlawful};
 ghost use Rattle.nm_lawful_top.specs.Words.{IsTaken, NotTaken};
 ghost use Rattle.nm_lawful_top.specs.declared.words.Asked.{Asked};
@@ -11,25 +11,17 @@ ghost use Rattle.nm_lawful_top.specs.declared.words.Asked.{Asked};
 use crate::asking::answer_bytes;
 use crate::responses::{Response, status, text};
 use crate::words::{Asked, read};
-use nm_outside::{Sink, Source, Unread, read_up_to, write_all};
+use nm_outside::{Sink, Source, Unread, read_up_to};
+use nm_shell::{MAX_INPUT, WANT_OF_MEMORY, deliver};
 use nm_types::Memory;
 use std::alloc::Global;
-
-/// The most bytes that are read: one more than a script and answers may have.
-const MAX_READ: usize = 67108865;
-
-/// The status where the sink failed.
-const SINK_FAILED: u8 = 5;
-
-/// The status for want of memory.
-const WANT_OF_MEMORY: u8 = 6;
 
 // Reads the source, and answers words that are taken.
 fn answer_source<S: Source>(alloc: Global, asked: Asked, source: &mut S) -> Result<Response, Memory>
     ensures { IfOk result (IsDueOf asked (S.left source.old) (S.faults source.old)
         (S.faults source.new)) }
 {
-    match read_up_to(alloc, source, MAX_READ) {
+    match read_up_to(alloc, source, MAX_INPUT + 1) {
         Ok(bytes) => answer_bytes(alloc, asked, &bytes),
         Err(Unread::Failed) => Ok(Response::Unread),
         Err(Unread::Memory) => Err(Memory),
@@ -49,18 +41,6 @@ fn find_answer<S: Source>(
     match read(words) {
         Some(asked) => answer_source(alloc, asked, source),
         None => Ok(Response::Usage),
-    }
-}
-
-// Writes what is due to the sink, and answers the status.
-fn deliver<K: Sink>(sink: &mut K, due: &[u8], answer: &Response) -> u8
-    requires { due.now ≡ text_of answer.now }
-    ensures { IsSaid (text_of answer.now) (status_of answer.now) result (K.taken sink.old)
-        (K.taken sink.new) (Rose (K.faults sink.old) (K.faults sink.new)) }
-{
-    match write_all(sink, due) {
-        Ok(()) => status(answer),
-        Err(_) => SINK_FAILED,
     }
 }
 
@@ -110,5 +90,5 @@ pub fn lawful<S: Source, K: Sink>(
     let Ok(due) = text(alloc, &answer) else {
         return WANT_OF_MEMORY;
     };
-    deliver(sink, &due, &answer)
+    deliver(sink, &due, status(&answer))
 }

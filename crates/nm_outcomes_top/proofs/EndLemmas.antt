@@ -6,18 +6,16 @@ use Rattle.nm_types.specs.declared.scripts.Line.{Line}
 use Rattle.nm_script.specs.declared.faults.Kind.{Kind}
 use Rattle.nm_script.specs.Rules.{IsFirstFault}
 use Rattle.nm_script.specs.Spelled.{IsTextOf}
-use Rattle.nm_check.specs.Done.{Ending}
+use Rattle.nm_shell.specs.Done.{Ending, OrFails, OrUnwritten, unread}
 use Rattle.nm_outcomes_top.specs.OptionWords.{IsTaken, NotTaken}
 use Rattle.nm_outcomes_top.specs.declared.words.Asked.{Asked}
 use Rattle.nm_outcomes_top.specs.declared.words.Question.TheVariants as question
-use Rattle.nm_outcomes_top.specs.Answers.{HasNoReport, IsAnswer, IsAnswerOf, IsAnswerTo, IsInputOf}
+use Rattle.nm_outcomes_top.specs.Answers.{IsAnswer, IsAnswerOf, IsAnswerTo, IsInputOf}
 use Rattle.nm_outcomes_top.specs.Answers.{TellsOutcomes, read_of, status_of, text_of}
 use Rattle.nm_outcomes_top.specs.Endings.{IsOutgrown, IsRefused, IsSpoken, IsStatus}
-use Rattle.nm_check.specs.Endings.{OrFails, OrUnwritten}
-use Rattle.nm_check.proofs.FailLemmas.{to_fails}
+use Rattle.nm_shell.proofs.FailLemmas.{to_fails}
 use Rattle.nm_outcomes_top.specs.Endings.{Speaks}
 use Rattle.nm_outcomes_top.specs.Texts.{no_report, outgrown_text, usage}
-use Rattle.nm_check.specs.Answers.{unread}
 use Rattle.nm_outcomes_top.specs.declared.answers.Response.{Response}
 use Rattle.nm_outcomes_top.specs.declared.answers.Response.TheVariants.{NoReport, Outgrown, Refused, Told, Unread, Usage}
 use Rattle.nm_outcomes_top.specs.declared.tellings.Telling.{Telling}
@@ -228,7 +226,7 @@ module _ {s : Ending} where
 
   pub no_report_is : (answer : Response) → TellsOutcomes s answer → (asked : Asked) → IsTaken s.words asked →
       s.status ≡ 9 →
-      IfSome s.input (λ bytes. (asked.question ≡ question.Among) × HasNoReport (read_of asked.question bytes))
+      IfSome s.input (λ bytes. (asked.question ≡ question.Among) × HasNoParts (read_of asked.question bytes))
       × Appends s.before s.after no_report
   no_report_is Usage e asked taken h = absurd (omega (arith, (whole e 9 h (λ f. cc)).0))
   no_report_is Unread e asked taken h = absurd (omega (arith, (whole e 9 h (λ f. cc)).0))

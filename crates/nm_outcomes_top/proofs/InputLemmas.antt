@@ -1,18 +1,18 @@
 -- The two parts of what was read, and answers that are right.
 use Rattle.std.proofs.Common.{◌≡◌, ℕ, inl, inr, List, Option, Some, None, refl, sym, ◌∙◌, subst}
-use Rattle.std.proofs.Common.{arith}
 use Rattle.std.specs.Option.{IfSome}
 use Rattle.nm_types.specs.declared.scripts.Line.{Line}
 use Rattle.nm_types.specs.Sizes.{Sizes}
 use Rattle.nm_script.specs.Spelled.{IsTextOf}
-use Rattle.nm_check.specs.Checks.{IsInput}
+use Rattle.nm_shell.specs.Inputs.{HasNoParts, IsInput}
+use Rattle.nm_shell.proofs.PartLemmas.{no_input as no_parts}
 use Rattle.nm_explored.specs.Met.{AreTooMany}
 use Rattle.nm_listed.specs.Finding.{AreTooLong}
 use Rattle.nm_outcomes_top.specs.OptionWords.{IsTaken, sizes_for}
 use Rattle.nm_outcomes_top.specs.declared.words.Asked.{Asked}
 use Rattle.nm_outcomes_top.specs.declared.words.Question.{Question}
 use Rattle.nm_outcomes_top.specs.declared.words.Question.TheVariants.{All, Trace, Among}
-use Rattle.nm_outcomes_top.specs.Answers.{HasNoReport, IsAnswer, IsAnswerFor, IsAnswerIn, IsAnswerOf, IsAnswerTo}
+use Rattle.nm_outcomes_top.specs.Answers.{IsAnswer, IsAnswerFor, IsAnswerIn, IsAnswerOf, IsAnswerTo}
 use Rattle.nm_outcomes_top.specs.Answers.{IsInputOf, read_of}
 use Rattle.nm_outcomes_top.specs.declared.answers.Response.{Response}
 use Rattle.nm_outcomes_top.specs.declared.answers.Response.TheVariants.{NoReport, Outgrown, Refused, Told, Unread, Usage}
@@ -26,15 +26,11 @@ one_input Among bytes script report s r one other =
     let same = one.cut.only s r other.cut.cut in
     (sym same.0, sym same.1)
 
-no_pair : (bytes script report : List ℕ) → HasNoReport bytes → IsInput bytes script report → ⊥
-no_pair bytes script report (inl long) parts = omega (arith, long, parts.short)
-no_pair bytes script report (inr none) parts = none script report parts.cut.cut
-
 -- where a report is asked of and none is given, the bytes have no parts
-pub no_input : (question : Question) → question ≡ Among → (bytes script report : List ℕ) → HasNoReport bytes →
+pub no_input : (question : Question) → question ≡ Among → (bytes script report : List ℕ) → HasNoParts bytes →
     IsInputOf question bytes script report → ⊥
 no_input question is bytes script report none parts =
-    no_pair bytes script report none (subst (λ (q : Question). IsInputOf q bytes script report) is parts)
+    no_parts bytes script report none (subst (λ (q : Question). IsInputOf q bytes script report) is parts)
 
 -- an answer to the bytes that were read is one to the source
 pub answered : (asked : Asked) (input : Option (List ℕ)) (old new : ℕ) (bytes : List ℕ) →

@@ -1,14 +1,13 @@
 -- What the program answers: a text and a status.
-use Rattle.std.specs.Prelude.{◌≡◌, ℕ, ◌<◌, ◌⊎◌, List, [], Option, IfSome, if◌then◌else◌, length, nat_lt, take}
+use Rattle.std.specs.Prelude.{◌≡◌, ℕ, ◌⊎◌, List, [], Option, IfSome, if◌then◌else◌, nat_lt, take}
 use Rattle.nm_outside.specs.Told.{Rose}
 use Rattle.nm_types.specs.declared.scripts.Line.{Line}
 use Rattle.nm_types.specs.Sizes.{Sizes}
 use Rattle.nm_script.specs.Rules.{IsFirstFault}
 use Rattle.nm_script.specs.Spelled.{IsTextOf}
 use Rattle.nm_script.specs.FaultTexts.{fault_text}
-use Rattle.nm_check.specs.Checks.{IsInput}
-use Rattle.nm_check.specs.Done.{Ending, IsSaid}
-use Rattle.nm_check.specs.Inputs.{HasNoCut}
+use Rattle.nm_shell.specs.Inputs.{HasNoParts, IsInput}
+use Rattle.nm_shell.specs.Done.{Ending, IsSaid, unread}
 use Rattle.nm_outcomes.specs.Outcomes.{AreOutcomes}
 use Rattle.nm_explored.specs.Met.{AreTooMany}
 use Rattle.nm_listed.specs.Finding.{AreTooLong, HasFewer, IsOutcomeTrace}
@@ -26,7 +25,6 @@ use Rattle.nm_outcomes_top.specs.declared.words.Question.{Question}
 use Rattle.nm_outcomes_top.specs.declared.words.Question.TheVariants.{All, Trace, Among}
 use Rattle.nm_outcomes_top.specs.Texts.{fewer_text, is_stuck, no_report, outcomes_text, outgrown_text}
 use Rattle.nm_outcomes_top.specs.Texts.{place_text, stuck_count, usage}
-use Rattle.nm_check.specs.Answers.{unread}
 use Rattle.nm_outcomes_top.specs.OptionWords.{IsTaken, NotTaken, sizes_for}
 
 -- how many bytes are read at most: one more than a script's text may have, or than a script and a report may
@@ -132,10 +130,6 @@ abbrev pub IsInputOf : Question → List ℕ → List ℕ → List ℕ → Type 
 IsInputOf Among bytes script report = IsInput bytes script report
 IsInputOf _ bytes script report = (script ≡ bytes) × (report ≡ [])
 
--- the bytes are too long, or have no line `---`
-abbrev pub HasNoReport : List ℕ → Type 0
-HasNoReport bytes = (67108864 < length bytes) ⊎ HasNoCut bytes
-
 -- the answer is right for the parts of these bytes
 pub record IsParted (asked : Asked) (bytes : List ℕ) (answer : Response) : Type 0 where
   pub script : List ℕ
@@ -147,7 +141,7 @@ pub record IsParted (asked : Asked) (bytes : List ℕ) (answer : Response) : Typ
 abbrev pub IsAnswerTo : Asked → List ℕ → Response → Type 0
 IsAnswerTo asked bytes Usage = ⊥
 IsAnswerTo asked bytes Unread = ⊥
-IsAnswerTo asked bytes NoReport = (asked.question ≡ Among) × HasNoReport bytes
+IsAnswerTo asked bytes NoReport = (asked.question ≡ Among) × HasNoParts bytes
 IsAnswerTo asked bytes answer = IsParted asked bytes answer
 
 -- an answer to words that are taken is right: by the bytes of the source where it tells them, and by its

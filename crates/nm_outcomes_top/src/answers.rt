@@ -6,6 +6,7 @@ ghost use Rattle.nm_outcomes_top.specs.Texts.{outgrown_text};
 
 use crate::tellings::{Telling, telling_status, telling_text};
 use nm_script::{Kind, fault_text};
+use nm_shell::line;
 use nm_types::Memory;
 use std::alloc::{AllocError, Global};
 
@@ -31,13 +32,6 @@ const USAGE: &str = "usage: outcomes [--cells N] [--eager N] STATES <SCRIPT
        outcomes --trace K [--cells N] [--eager N] STATES <SCRIPT
        outcomes --among [--cells N] [--eager N] STATES <SCRIPT_AND_REPORT
 ";
-
-/// The bytes of a line.
-fn line(alloc: Global, text: &str) -> Result<Vec<u8>, AllocError>
-    ensures { IfOk result (λ bytes. bytes.items ≡ text.now) }
-{
-    Vec::from_slice(alloc, text.as_bytes())
-}
 
 /// What is said where there are too many states, or the reports are too long.
 fn outgrown(alloc: Global, states: u32) -> Result<Vec<u8>, AllocError>

@@ -4,7 +4,7 @@
 ghost use Rattle.std.specs.Prelude.{◌≡◌, ℕ, ◌⊎◌, List, IfSome};
 ghost use Rattle.nm_types.specs.declared.scripts.Line.{Line};
 ghost use Rattle.nm_outside.specs.Told.{Appends};
-ghost use Rattle.nm_check.specs.Done.{Ending, IsDone};
+ghost use Rattle.nm_shell.specs.Done.{Ending, IsDone, OrFails, OrUnwritten};
 ghost use Rattle.nm_script.specs.Rules.{IsFirstFault};
 ghost use Rattle.nm_script.specs.Spelled.{IsTextOf};
 ghost use Rattle.nm_script.specs.declared.faults.Kind.{Kind};
@@ -13,7 +13,6 @@ ghost use Rattle.nm_outcomes_top.specs.declared.words.Question.TheVariants as qu
 ghost use Rattle.nm_outcomes_top.specs.Answers.{HasNoReport, IsInputOf, TellsOutcomes, read_of};
 ghost use Rattle.nm_outcomes_top.specs.Endings.{IsAmong, IsFewerSaid, IsNotAmong, IsOutgrown};
 ghost use Rattle.nm_outcomes_top.specs.Endings.{IsRefused, IsTraceSaid, Speaks};
-ghost use Rattle.nm_check.specs.Endings.{OrFails, OrUnwritten};
 ghost use Rattle.nm_outcomes_top.specs.Texts.{no_report, usage};
 ghost use Rattle.nm_outcomes_top.specs.OptionWords.{IsTaken, NotTaken};
 

@@ -2,36 +2,26 @@
 
 ghost use Rattle.std.specs.Prelude.{◌≡◌, ◌⊎◌, map, string_bytes, IfOk, IfSome};
 ghost use Rattle.nm_outside.specs.Told.{Appends, AppendsPart, Rose};
-ghost use Rattle.nm_check.specs.Done.{IsDone, IsSaid};
+ghost use Rattle.nm_shell.specs.Done.{IsDone, unread};
 ghost use Rattle.nm_outcomes_top.specs.declared.answers.Response.{Response};
 ghost use Rattle.nm_outcomes_top.specs.declared.words.Asked.{Asked};
 ghost use Rattle.nm_outcomes_top.specs.declared.words.Question.TheVariants as question;
 ghost use Rattle.nm_outcomes_top.specs.Answers.{IsAnswer, IsAnswerIn, IsAnswerOf, IsAnswerTo};
-ghost use Rattle.nm_outcomes_top.specs.Answers.{TellsOutcomes, limit_of, status_of, text_of};
+ghost use Rattle.nm_outcomes_top.specs.Answers.{TellsOutcomes, limit_of, text_of};
 ghost use Rattle.nm_outcomes_top.specs.Endings.{IsListed, IsStatus};
-ghost use Rattle.nm_check.specs.Answers.{unread};
 ghost use Rattle.nm_outcomes_top.specs.OptionWords.{InRange, IsTaken, NotTaken};
 
 use crate::answers::{Response, status, text};
 use crate::asking::answer_script;
 use crate::words::{Asked, Question, read};
-use nm_check::checked::cut;
-use nm_outside::{Sink, Source, Unread, read_up_to, write_all};
+use nm_outside::{Sink, Source, Unread, read_up_to};
 use nm_script::ScriptFault;
+use nm_shell::{MAX_INPUT, WANT_OF_MEMORY, deliver, parts};
 use nm_types::Memory;
 use std::alloc::Global;
 
 /// The most bytes that are read of a script: one more than its text may have.
 const MAX_SCRIPT_READ: usize = 8388609;
-
-/// The most bytes of a script and a report.
-const MAX_INPUT: usize = 67108864;
-
-/// The status where the sink failed.
-const SINK_FAILED: u8 = 5;
-
-/// The status for want of memory.
-const WANT_OF_MEMORY: u8 = 6;
 
 /// The most bytes that are read.
 fn limit(question: Question) -> usize
@@ -66,10 +56,7 @@ fn answer_pair(alloc: Global, asked: Asked, bytes: &[u8]) -> Result<Response, Me
     requires among { asked.question ≡ question.Among }
     ensures { IfOk result (IsAnswerTo asked bytes.now) }
 {
-    if bytes.len() > MAX_INPUT {
-        return Ok(Response::NoReport);
-    }
-    match cut(bytes) {
+    match parts(bytes) {
         Some((front, report)) => answer_parts(alloc, asked, front, report),
         None => Ok(Response::NoReport),
     }
@@ -112,18 +99,6 @@ fn find_answer<S: Source>(
     match read(alloc, words)? {
         Some(asked) => answer_source(alloc, asked, source),
         None => Ok(Response::Usage),
-    }
-}
-
-// Writes what is due to the sink, and answers the status.
-fn deliver<K: Sink>(sink: &mut K, due: &[u8], answer: &Response) -> u8
-    requires { due.now ≡ text_of answer.now }
-    ensures { IsSaid (text_of answer.now) (status_of answer.now) result (K.taken sink.old)
-        (K.taken sink.new) (Rose (K.faults sink.old) (K.faults sink.new)) }
-{
-    match write_all(sink, due) {
-        Ok(()) => status(answer),
-        Err(_) => SINK_FAILED,
     }
 }
 
@@ -191,5 +166,5 @@ pub fn outcomes<S: Source, K: Sink>(
     let Ok(due) = text(alloc, &answer) else {
         return WANT_OF_MEMORY;
     };
-    deliver(sink, &due, &answer)
+    deliver(sink, &due, status(&answer))
 }

@@ -4,7 +4,7 @@ use Rattle.std.specs.Option.{IfSome}
 use Rattle.nm_types.specs.declared.scripts.Line.{Line}
 use Rattle.nm_types.specs.Sizes.{Sizes}
 use Rattle.nm_script.specs.Spelled.{IsTextOf}
-use Rattle.nm_check.specs.Done.{Ending}
+use Rattle.nm_shell.specs.Done.{Ending}
 use Rattle.nm_explored.specs.Met.{AreTooMany}
 use Rattle.nm_listed.specs.Finding.{AreTooLong}
 use Rattle.nm_outcomes_top.specs.OptionWords.{sizes_for}

@@ -8,8 +8,7 @@ use Rattle.nm_types.specs.Sizes.{Sizes}
 use Rattle.nm_script.specs.Rules.{IsFirstFault}
 use Rattle.nm_script.specs.Spelled.{IsTextOf}
 use Rattle.nm_script.specs.FaultTexts.{fault_text}
-use Rattle.nm_check.specs.Answers.{unread}
-use Rattle.nm_check.specs.Done.{Ending, IsSaid}
+use Rattle.nm_shell.specs.Done.{Ending, IsSaid, unread}
 use Rattle.nm_outcomes.specs.Outcomes.{AreOutcomes}
 use Rattle.nm_outcomes.specs.RankStates.{Spot}
 use Rattle.nm_explored.specs.declared.choices.moves.Turn.{Turn}

@@ -5,6 +5,7 @@ ghost use Rattle.nm_outcomes_top.specs.Texts.{outgrown_text};
 ghost use Rattle.nm_why_top.specs.Answers.{status_of, text_of, told_text, why_status as why_status_lem};
 
 use nm_script::{Kind, fault_text};
+use nm_shell::line;
 use nm_types::Memory;
 use nm_why_texts::{Why, push_why};
 use std::alloc::{AllocError, Global};
@@ -38,13 +39,6 @@ pub enum Response {
 /// What is said of words that are not taken.
 const USAGE: &str = "usage: why [--cells N] [--eager N] STATES <SCRIPT
 ";
-
-/// The bytes of a line.
-fn line(alloc: Global, text: &str) -> Result<Vec<u8>, AllocError>
-    ensures { IfOk result (λ bytes. bytes.items ≡ text.now) }
-{
-    Vec::from_slice(alloc, text.as_bytes())
-}
 
 /// What is said where there are too many states, or the reports are too long.
 fn outgrown(alloc: Global, states: u32) -> Result<Vec<u8>, AllocError>

@@ -1,32 +1,25 @@
 //! The whole program: words and a script in, why it can hang and a status out.
 
 ghost use Rattle.std.specs.Prelude.{◌≡◌, IfOk, IfSome, Some, map, string_bytes};
-ghost use Rattle.nm_check.specs.Answers.{unread};
-ghost use Rattle.nm_check.specs.Done.{IsDone, IsSaid};
+ghost use Rattle.nm_shell.specs.Done.{IsDone};
 ghost use Rattle.nm_outcomes_top.specs.declared.words.Asked.{Asked};
 ghost use Rattle.nm_outcomes_top.specs.declared.words.Question.TheVariants.{All};
 ghost use Rattle.nm_outcomes_top.specs.OptionWords.{InRange};
 ghost use Rattle.nm_outside.specs.Told.{Appends, AppendsPart, Rose};
 ghost use Rattle.nm_why_top.specs.declared.answers.Response.{Response};
-ghost use Rattle.nm_why_top.specs.Answers.{IsAnswer, IsAnswerIn, IsAnswerOf, IsAsked, NotAsked, TellsWhy, status_of};
-ghost use Rattle.nm_why_top.specs.Answers.{text_of};
+ghost use Rattle.nm_why_top.specs.Answers.{IsAnswer, IsAnswerIn, IsAnswerOf, IsAsked, NotAsked, TellsWhy};
 
 use crate::answers::{Response, status, text};
 use crate::asking::answer_script;
 use nm_outcomes_top::words::{Asked, Question, read};
-use nm_outside::{Sink, Source, Unread, read_up_to, write_all};
+use nm_outside::{Sink, Source, Unread, read_up_to};
 use nm_script::ScriptFault;
+use nm_shell::{WANT_OF_MEMORY, deliver};
 use nm_types::Memory;
 use std::alloc::Global;
 
 /// The most bytes that are read of a script: one more than its text may have.
 const MAX_SCRIPT_READ: usize = 8388609;
-
-/// The status where the sink failed.
-const SINK_FAILED: u8 = 5;
-
-/// The status for want of memory.
-const WANT_OF_MEMORY: u8 = 6;
 
 // What is asked, if it is no more than the sizes.
 fn plain(asked: Asked) -> Option<Asked>
@@ -94,18 +87,6 @@ fn find_answer<S: Source>(
     }
 }
 
-// Writes what is due to the sink, and answers the status.
-fn deliver<K: Sink>(sink: &mut K, due: &[u8], answer: &Response) -> u8
-    requires { due.now ≡ text_of answer.now }
-    ensures { IsSaid (text_of answer.now) (status_of answer.now) result (K.taken sink.old)
-        (K.taken sink.new) (Rose (K.faults sink.old) (K.faults sink.new)) }
-{
-    match write_all(sink, due) {
-        Ok(()) => status(answer),
-        Err(_) => SINK_FAILED,
-    }
-}
-
 /// Does all that the program does: reads a script of the source, searches through all its lawful runs, and writes to
 /// the sink whether one of them hangs; if so, the least part of the script that still does what it does, and the single
 /// changes after which no run hangs.
@@ -144,5 +125,5 @@ pub fn why<S: Source, K: Sink>(alloc: Global, words: &[String], source: &mut S, 
     let Ok(due) = text(alloc, &answer) else {
         return WANT_OF_MEMORY;
     };
-    deliver(sink, &due, &answer)
+    deliver(sink, &due, status(&answer))
 }

@@ -3,34 +3,20 @@
 
 use nm_check::verdict::verdict;
 use nm_outside::{RealSink, RealSource};
-use std::io::ErrorKind;
+use nm_shell::{WANT_OF_MEMORY, words};
+use std::io;
 use std::process::ExitCode;
 use std::rt::Env;
-use std::{env, io};
 
-/// The status for want of memory.
-const WANT_OF_MEMORY: u8 = 6;
-
-/// The words of a check, which are those of the command line with their first word for the program's
-/// name. Where one is no text, there is an empty one: then no words are taken either way.
-fn words<R: Env + AllocGlobal>(rt: &R) -> io::Result<Vec<String>> {
-    let mut words = Vec::new(rt.alloc());
-    words.push(String::from_str(rt.alloc(), "check")?)?;
-    let all = match env::args(rt) {
-        Err(e) if e.kind() == ErrorKind::InvalidData => {
-            words.push(String::new(rt.alloc()))?;
-            return Ok(words);
-        }
-        all => all?,
-    };
-    for word in all.skip(1) {
-        words.push(word)?;
-    }
+/// The words of a check: those of the command line behind `check`.
+fn check_words<R: Env + AllocGlobal>(rt: &R) -> io::Result<Vec<String>> {
+    let mut words = words(rt)?;
+    words.insert(0, String::from_str(rt.alloc(), "check")?)?;
     Ok(words)
 }
 
 fn main(rt: HostRuntime) -> ExitCode {
-    let Ok(words) = words(&rt) else {
+    let Ok(words) = check_words(&rt) else {
         return ExitCode::from(WANT_OF_MEMORY);
     };
     let mut source = RealSource::new(rt.stdin());

@@ -1,47 +1,23 @@
 //! The whole program: words, a script and a trace in, a picture and a status out.
 
-ghost use Rattle.std.specs.Prelude.{◌≡◌, ◌⊎◌, map, string_bytes};
-ghost use Rattle.std.specs.Prelude.{IfOk, IfSome, MatchOption};
+ghost use Rattle.std.specs.Prelude.{◌≡◌, ◌⊎◌, IfOk, map, string_bytes};
 ghost use Rattle.nm_script.specs.CommandWords.{InRange};
-ghost use Rattle.nm_outside.specs.Told.{LosesAtMost, Rose};
-ghost use Rattle.nm_check.specs.Done.{IsDone};
-ghost use Rattle.nm_chart.specs.Given.{IsReadFor, IsSaid};
+ghost use Rattle.nm_outside.specs.Told.{LosesAtMost};
+ghost use Rattle.nm_shell.specs.Done.{IsDone};
+ghost use Rattle.nm_chart.specs.Given.{IsReadFor};
 ghost use Rattle.nm_chart.specs.Findings.{CanBeDrawn, CanBeFound, ChartsCheck, IsAnswer, IsAnswerIn};
-ghost use Rattle.nm_chart.specs.Findings.{Says, finding_of as finding_of_lem};
-ghost use Rattle.nm_check.specs.Answers.{IsAsked, NotAsked};
-ghost use Rattle.nm_chart.specs.Findings.{WasQuiet, WasRead, status_of};
+ghost use Rattle.nm_chart.specs.Findings.{WasQuiet, WasRead, finding_of as finding_of_lem};
+ghost use Rattle.nm_check.specs.Answers.{NotAsked};
 
 use crate::check::findings::{Finding, status, text};
 use crate::check::places::flag_of;
 use nm_check::breaks::{Found, find};
-use nm_outside::{Sink, Source, Unread, read_up_to, write_all};
-use nm_script::command_line::{CommandLine, Mode};
+use nm_check::verdict::asked;
+use nm_outside::{Sink, Source, Unread, read_up_to};
+use nm_script::command_line::CommandLine;
+use nm_shell::{MAX_INPUT, WANT_OF_MEMORY, deliver};
 use nm_types::Memory;
 use std::alloc::Global;
-
-/// The most bytes that are read: one more than a script and its trace may have.
-const MAX_READ: usize = 67_108_865;
-
-/// The status where the sink failed.
-const SINK_FAILED: u8 = 5;
-
-/// The status for want of memory.
-const WANT_OF_MEMORY: u8 = 6;
-
-/// The sizes that the words ask for, if they are those of a check.
-fn asked(words: &[String]) -> Option<CommandLine>
-    ensures asked { MatchOption result (NotAsked (map string_bytes words.now))
-        (IsAsked (map string_bytes words.now)) }
-    ensures within { IfSome result InRange }
-{
-    match nm_script::command_line::read(words) {
-        Some(line) => match line.mode {
-            Mode::Check => Some(line),
-            _ => None,
-        },
-        None => None,
-    }
-}
 
 /// What there is to say of what was found.
 fn finding_of(found: Found) -> Finding
@@ -88,23 +64,10 @@ fn find_finding<S: Source>(
     let Some(line) = asked(words) else {
         return Ok(Finding::Usage);
     };
-    match read_up_to(alloc, source, MAX_READ) {
+    match read_up_to(alloc, source, MAX_INPUT + 1) {
         Ok(bytes) => finding_in(alloc, &bytes, line),
         Err(Unread::Failed) => Ok(Finding::Unread),
         Err(Unread::Memory) => Err(Memory),
-    }
-}
-
-/// Writes what is due to the sink, and answers the status.
-fn deliver<K: Sink>(sink: &mut K, due: &[u8], finding: &Finding) -> u8
-    requires { Says finding.now due.now }
-    ensures said { IsSaid (Says finding.now) (status_of finding.now) result (K.taken sink.old)
-        (K.taken sink.new) (Rose (K.faults sink.old) (K.faults sink.new)) }
-    ensures quiet { (result ≡ 5) ⊎ (K.faults sink.new ≡ K.faults sink.old) }
-{
-    match write_all(sink, due) {
-        Ok(()) => status(finding),
-        Err(_) => SINK_FAILED,
     }
 }
 
@@ -150,5 +113,5 @@ pub fn chart_check<S: Source, K: Sink>(
     let Ok(due) = text(alloc, &finding) else {
         return WANT_OF_MEMORY;
     };
-    deliver(sink, &due, &finding)
+    deliver(sink, &due, status(&finding))
 }

@@ -1,15 +1,14 @@
 //! What there is to say of the words and the source, and how it is said.
 
 ghost use Rattle.std.specs.Prelude.{◌≡◌, IfOk};
-ghost use Rattle.nm_check.specs.Answers.{verdict_status as verdict_status_lem};
-ghost use Rattle.nm_chart.specs.Findings.{CanBeDrawn, Says, fault_text};
-ghost use Rattle.nm_chart.specs.Findings.{status_of};
+ghost use Rattle.nm_chart.specs.Findings.{CanBeDrawn, Says, fault_text, status_of};
 
 use crate::answers::USAGE;
 use nm_check::Verdict;
 use nm_diagram::Part;
 use nm_picture::{Flag, flagged_picture};
 use nm_report::RunRecord;
+use nm_shell::line;
 use nm_types::Memory;
 use std::alloc::{AllocError, Global};
 
@@ -37,13 +36,6 @@ pub enum Finding {
     },
 }
 
-/// The bytes of a line.
-fn line_of(alloc: Global, text: &str) -> Result<Vec<u8>, AllocError>
-    ensures { IfOk result (λ bytes. bytes.items ≡ text.now) }
-{
-    Vec::from_slice(alloc, text.as_bytes())
-}
-
 /// The line of a fault of the script or of the trace.
 fn fault(alloc: Global, of: &'static str, line: u32) -> Result<Vec<u8>, AllocError>
     ensures { IfOk result (λ bytes. bytes.items ≡ fault_text of.now line) }
@@ -58,21 +50,11 @@ pub fn text(alloc: Global, finding: &Finding) -> Result<Vec<u8>, Memory>
     ensures { IfOk result (λ text. Says finding.now text.items) }
 {
     match finding {
-        Finding::Usage => Ok(line_of(alloc, USAGE)?),
-        Finding::Unread => Ok(line_of(alloc, "fault read\n")?),
+        Finding::Usage => Ok(line(alloc, USAGE)?),
+        Finding::Unread => Ok(line(alloc, "fault read\n")?),
         Finding::NoScript { line } => Ok(fault(alloc, "script", *line)?),
         Finding::NoTrace { line } => Ok(fault(alloc, "trace", *line)?),
         Finding::Drawn { run, flag, .. } => flagged_picture(alloc, run, Part::whole(), *flag),
-    }
-}
-
-/// The status of a verdict: whether the trace holds.
-fn verdict_status(verdict: Verdict) -> u8
-    ensures { result ≡ verdict_status_lem verdict }
-{
-    match verdict {
-        Verdict::Holds => 0,
-        _ => 8,
     }
 }
 
@@ -81,7 +63,7 @@ pub fn status(finding: &Finding) -> u8
     ensures { result ≡ status_of finding.now }
 {
     match finding {
-        Finding::Drawn { verdict, .. } => verdict_status(*verdict),
+        Finding::Drawn { verdict, .. } => verdict.status(),
         Finding::Usage => 2,
         Finding::NoScript { .. } => 3,
         Finding::Unread => 4,

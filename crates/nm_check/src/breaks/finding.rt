@@ -8,20 +8,18 @@ ghost use Rattle.nm_report.specs.declared.records.RunRecord as the_record;
 ghost use Rattle.nm_trace.specs.Traces.{IsTraceOf};
 ghost use Rattle.nm_check.specs.declared.verdicts.Verdict.TheVariants.{Holds};
 ghost use Rattle.nm_check.specs.declared.checked.checks.Checked.TheVariants as checked;
-ghost use Rattle.nm_check.specs.Checks.{IsChecked, IsInput, sizes};
+ghost use Rattle.nm_check.specs.Checks.{IsChecked, sizes};
+ghost use Rattle.nm_shell.specs.Inputs.{IsInput};
 ghost use Rattle.nm_check.specs.Found.{IsFound, IsScriptFound, IsTraceFound, checked_of};
 
 use crate::breaks::judgements::{Judgement, judged};
 use crate::breaks::stops::{Stop, lines_in, stop_at};
-use crate::checked::inputs::cut;
 use nm_report::RunRecord;
 use nm_script::{Kind, ScriptFault};
+use nm_shell::parts;
 use nm_trace::{TraceFault, read_trace};
 use nm_types::{Memory, Script, Shape};
 use std::alloc::Global;
-
-/// The most bytes of a script and a trace.
-const MAX_INPUT: usize = 67_108_864;
 
 /// What there is to say of a script and a trace.
 #[derive(Drop)]
@@ -131,11 +129,8 @@ pub fn find(alloc: Global, bytes: &[u8], cells: u8, eager: u16) -> Result<Found,
         IsTraceOf (sizes cells eager ranks) rest run → IsRunIn (sizes cells eager ranks) lines run →
         IfOk result (λ found. checked_of found ≡ checked.Judged Holds) }
 {
-    if bytes.len() > MAX_INPUT {
-        return Ok(Found::NoTrace);
+    match parts(bytes) {
+        Some((front, rest)) => find_in_script(alloc, front, rest, cells, eager),
+        None => Ok(Found::NoTrace),
     }
-    let Some((front, rest)) = cut(bytes) else {
-        return Ok(Found::NoTrace);
-    };
-    find_in_script(alloc, front, rest, cells, eager)
 }

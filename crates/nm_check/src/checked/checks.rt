@@ -8,7 +8,8 @@ ghost use Rattle.nm_report.specs.declared.records.RunRecord as the_record;
 ghost use Rattle.nm_trace.specs.Traces.{IsTraceOf};
 ghost use Rattle.nm_check.specs.declared.verdicts.Verdict.TheVariants.{Holds};
 ghost use Rattle.nm_check.specs.declared.checked.checks.Checked.TheVariants.{Judged};
-ghost use Rattle.nm_check.specs.Checks.{IsChecked, IsInput, sizes};
+ghost use Rattle.nm_check.specs.Checks.{IsChecked, sizes};
+ghost use Rattle.nm_shell.specs.Inputs.{IsInput};
 ghost use Rattle.nm_check.specs.Found.{checked_of as checked_of_lem};
 
 use crate::Verdict;

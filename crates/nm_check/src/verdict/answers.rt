@@ -3,10 +3,10 @@
 ghost use Rattle.std.specs.Prelude.{◌≡◌, IfOk};
 ghost use Rattle.nm_check.specs.Answers.{found_status as found_status_lem, status_of, text_of};
 
-use crate::Verdict;
 use crate::breaks::Found;
 use crate::verdict::quotes::Quotes;
 use crate::verdict::texts::found_text;
+use nm_shell::line;
 use std::alloc::{AllocError, Global};
 
 /// What there is to say.
@@ -23,13 +23,6 @@ pub enum Response {
 /// What is said of words that are not taken.
 const USAGE: &str = "usage: verdict [--cells N] [--eager N] <SCRIPT_AND_TRACE
 ";
-
-/// The bytes of a line.
-fn line(alloc: Global, text: &str) -> Result<Vec<u8>, AllocError>
-    ensures { IfOk result (λ bytes. bytes.items ≡ text.now) }
-{
-    Vec::from_slice(alloc, text.as_bytes())
-}
 
 /// The text of an answer, whole and in memory.
 pub fn text(alloc: Global, answer: &Response) -> Result<Vec<u8>, AllocError>
@@ -50,10 +43,7 @@ fn found_status(found: &Found) -> u8
         Found::NoTrace => 9,
         Found::NoScript { .. } => 3,
         Found::BadTrace { .. } => 9,
-        Found::Judged { judgement, .. } => match judgement.verdict {
-            Verdict::Holds => 0,
-            _ => 8,
-        },
+        Found::Judged { judgement, .. } => judgement.verdict.status(),
     }
 }
 

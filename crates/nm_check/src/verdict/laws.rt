@@ -4,8 +4,8 @@ ghost use Rattle.std.specs.Prelude.{◌≡◌, Some, IfSome, IsSomeAnd, drop};
 ghost use Rattle.nm_script.specs.declared.command_line.CommandLine.{CommandLine};
 ghost use Rattle.nm_outside.specs.Told.{Appends};
 ghost use Rattle.nm_check.specs.Answers.{AreAsked, IsAsked, IsWritten, NotAsked, SaysVerdict, usage};
-ghost use Rattle.nm_check.specs.Done.{Ending, IsDone};
-ghost use Rattle.nm_check.specs.Endings.{IsStatus, OrFails, OrUnwritten};
+ghost use Rattle.nm_shell.specs.Done.{Ending, IsDone, OrFails, OrUnwritten};
+ghost use Rattle.nm_check.specs.Endings.{IsStatus};
 
 /// Status 2 comes exactly where the words are not taken.
 pub fn words_are_taken_or_not()

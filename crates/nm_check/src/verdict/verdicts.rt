@@ -5,30 +5,21 @@ ghost use Rattle.nm_script.specs.CommandWords.{InRange};
 ghost use Rattle.nm_script.specs.declared.command_line.CommandLine as the_line;
 ghost use Rattle.nm_outside.specs.Told.{Appends, AppendsPart, LosesAtMost, Rose};
 ghost use Rattle.nm_check.specs.declared.verdict.answers.Response.{Response};
-ghost use Rattle.nm_check.specs.Answers.{IsAnswer, IsAsked, IsRead, NotAsked, SaysVerdict};
-ghost use Rattle.nm_check.specs.Answers.{status_of, text_of, unread};
-ghost use Rattle.nm_check.specs.Done.{IsDone, IsSaid};
+ghost use Rattle.nm_check.specs.Answers.{IsAnswer, IsAsked, IsRead, NotAsked, SaysVerdict, text_of};
+ghost use Rattle.nm_shell.specs.Done.{IsDone, unread};
 ghost use Rattle.nm_check.specs.Endings.{IsSpoken, IsTold};
 
 use crate::breaks::find;
 use crate::verdict::answers::{Response, status, text};
 use crate::verdict::quotes::quoted;
-use nm_outside::{Sink, Source, Unread, read_up_to, write_all};
+use nm_outside::{Sink, Source, Unread, read_up_to};
 use nm_script::command_line::{CommandLine, Mode};
+use nm_shell::{MAX_INPUT, WANT_OF_MEMORY, deliver};
 use nm_types::Memory;
 use std::alloc::Global;
 
-/// The most bytes that are read: one more than a script and its trace may have.
-const MAX_READ: usize = 67_108_865;
-
-/// The status where the sink failed.
-const SINK_FAILED: u8 = 5;
-
-/// The status for want of memory.
-const WANT_OF_MEMORY: u8 = 6;
-
 /// The sizes that the words ask for, if they are those of a check.
-fn asked(words: &[String]) -> Option<CommandLine>
+pub fn asked(words: &[String]) -> Option<CommandLine>
     ensures asked { MatchOption result (NotAsked (map string_bytes words.now))
         (IsAsked (map string_bytes words.now)) }
     ensures only { (line : the_line.CommandLine) → IsAsked (map string_bytes words.now) line →
@@ -60,7 +51,7 @@ fn find_answer<S: Source>(
     let Some(line) = asked(words) else {
         return Ok(Response::Usage);
     };
-    match read_up_to(alloc, source, MAX_READ) {
+    match read_up_to(alloc, source, MAX_INPUT + 1) {
         Ok(bytes) => {
             let found = find(alloc, &bytes, line.cells, line.eager)?;
             let quotes = quoted(alloc, &bytes, &found)?;
@@ -68,19 +59,6 @@ fn find_answer<S: Source>(
         }
         Err(Unread::Failed) => Ok(Response::Unread),
         Err(Unread::Memory) => Err(Memory),
-    }
-}
-
-/// Writes what is due to the sink, and answers the status.
-fn deliver<K: Sink>(sink: &mut K, due: &[u8], answer: &Response) -> u8
-    requires { due.now ≡ text_of answer.now }
-    ensures said { IsSaid (text_of answer.now) (status_of answer.now) result (K.taken sink.old)
-        (K.taken sink.new) (Rose (K.faults sink.old) (K.faults sink.new)) }
-    ensures quiet { (result ≡ 5) ⊎ (K.faults sink.new ≡ K.faults sink.old) }
-{
-    match write_all(sink, due) {
-        Ok(()) => status(answer),
-        Err(_) => SINK_FAILED,
     }
 }
 
@@ -141,5 +119,5 @@ pub fn verdict<S: Source, K: Sink>(
     let Ok(due) = text(alloc, &answer) else {
         return WANT_OF_MEMORY;
     };
-    deliver(sink, &due, &answer)
+    deliver(sink, &due, status(&answer))
 }

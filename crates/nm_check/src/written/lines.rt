@@ -2,7 +2,7 @@
 
 ghost use Rattle.std.specs.Prelude.{◌≡◌, ◌+◌, ◌-◌, ◌≤◌, ℕ, List, slice_get};
 ghost use Rattle.nm_script.specs.Lines.{lines_of};
-ghost use Rattle.nm_check.specs.Checks.{IsInput};
+ghost use Rattle.nm_shell.specs.Inputs.{IsInput};
 ghost use Rattle.nm_check.specs.Stops.{lines_in};
 
 /// A line of a trace, counted from 1, is the one that stands so far behind the lines of the script and

@@ -3,7 +3,7 @@ use Rattle.std.proofs.Common.{◌≡◌, ◌⊎◌, inl, inr, map, refl, string_
 use Rattle.nm_outside.specs.Told.{Rose}
 use Rattle.nm_cli.specs.Answers.{status_of, text_of}
 use Rattle.nm_cli.specs.Done.{Ending, Ends}
-use Rattle.nm_check.specs.Done.{IsSaid}
+use Rattle.nm_shell.specs.Done.{IsSaid}
 use Rattle.nm_cli.proofs.EndLemmas.{not_memory, status_is, unread_is, unwritten_is}
 use Rattle.nm_cli.proofs.RunEnds.{reported_is}
 use Rattle.nm_cli.proofs.nemesis.Goals as goal
@@ -60,7 +60,7 @@ known g c =
       said = subst (λ status. IsSaid (text_of c.in-Ok.answer) (status_of c.in-Ok.answer) status
           (g.K.Sink.taken c.args.sink.now) (g.K.Sink.taken c.deliver-status.new.sink)
           (Rose (g.K.Sink.faults c.args.sink.now) (g.K.Sink.faults c.deliver-status.new.sink)))
-          (sym c.hand_out.ensures.status) c.deliver-status.ensures.said;
+          (sym c.hand_out.ensures.status) (rw (c.deref.ensures.value, c.in-Ok-text.ensures, c.status.ensures) at c.deliver-status.ensures.said);
       run_given = c.hand_out.ensures.run;
       ways_given = c.hand_out.ensures.ways;
       log_given = c.hand_out.ensures.log;

@@ -1,7 +1,7 @@
 -- How the program ends, clause by clause.
 use Rattle.std.proofs.Common.{inl, inr, map, refl, string_bytes}
 use Rattle.nm_chart.specs.Answers.{Charts}
-use Rattle.nm_check.specs.Done.{Ending}
+use Rattle.nm_shell.specs.Done.{Ending}
 use Rattle.nm_chart.proofs.EndLemmas.{drawn_is, none_of}
 use Rattle.nm_chart.proofs.charts.chart.Goals as goal
 use Rattle.nm_chart.proofs.charts.chart.Goals.{Joined-answer-2}
@@ -26,7 +26,11 @@ seen g c =
 -- and what is known of it
 known : (g : Over) (c : Joined-answer-2 g) → Charts (seen g c) c.in-Ok.answer
 known g c =
-    record { right = c.in-Ok.ensures.answer; read = c.in-Ok.ensures.read; said = c.deliver.ensures.said }
+    record {
+      right = c.in-Ok.ensures.answer;
+      read = c.in-Ok.ensures.read;
+      said = (c.in-Ok-text.due.items, c.in-Ok-text.ensures, rw (c.deref.ensures.value, c.status.ensures) at c.deliver.ensures.said);
+    }
 
 pub returns-clause-drawn : goal.returns-clause-drawn
 returns-clause-drawn g c none =

@@ -1,6 +1,6 @@
 -- How the program ends, clause by clause.
 use Rattle.std.proofs.Common.{inr, map, string_bytes}
-use Rattle.nm_check.specs.Done.{Ending}
+use Rattle.nm_shell.specs.Done.{Ending}
 use Rattle.nm_lawful_top.specs.Answers.{TellsLawful}
 use Rattle.nm_lawful_top.proofs.EndLemmas.{lawful_is, unlawful_is}
 use Rattle.nm_lawful_top.proofs.tops.lawful.Goals as goal
@@ -25,7 +25,10 @@ seen g c =
 
 -- and what is known of it
 known : (g : Over) (c : Joined-answer-2 g) → TellsLawful (seen g c) c.in-Ok.answer
-known g c = record { right = c.in-Ok.ensures.answer; said = c.deliver.ensures }
+known g c = record {
+  right = c.in-Ok.ensures.answer;
+  said = rw (c.deref.ensures.value, c.in-Ok-text.ensures, c.status.ensures) at c.deliver.ensures.said;
+}
 
 pub returns-clause-lawful : goal.returns-clause-lawful
 returns-clause-lawful g c asked taken zero = lawful_is c.in-Ok.answer (known g c) asked taken zero

@@ -1,5 +1,4 @@
 -- A script and a report, with the line between.
-use Rattle.std.proofs.Common.{arith}
 use Rattle.nm_explored.proofs.TellLemmas.{ok_weaker}
 use Rattle.nm_outcomes_top.proofs.InputLemmas.{answered_to, input_among}
 use Rattle.nm_outcomes_top.proofs.tops.answer_pair.Goals as goal
@@ -9,5 +8,5 @@ returns-in-Some c =
     ok_weaker _ _
     (λ answer right. answered_to c.args.asked c.args.bytes.now c.in-Some.front.now c.in-Some.report.now
     (input_among c.args.asked.question c.args.bytes.now c.in-Some.front.now c.in-Some.report.now c.requires.among
-    (record { short = omega (arith, c.if-bytes-gt-MAX_INPUT.false); cut = c.in-Some.ensures })) answer right)
+    c.in-Some.ensures) answer right)
     c.answer_parts.result c.answer_parts.ensures

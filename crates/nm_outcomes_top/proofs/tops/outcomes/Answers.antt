@@ -1,6 +1,6 @@
 -- How the program ends, clause by clause.
 use Rattle.std.proofs.Common.{inl, inr, map, string_bytes}
-use Rattle.nm_check.specs.Done.{Ending}
+use Rattle.nm_shell.specs.Done.{Ending}
 use Rattle.nm_outcomes_top.specs.Answers.{TellsOutcomes}
 use Rattle.nm_outcomes_top.proofs.EndLemmas.{not_six, status_is, told_is, unread_is, unwritten_is, weaker}
 use Rattle.nm_outcomes_top.proofs.TellingLemmas.{listed_of}
@@ -26,7 +26,10 @@ seen g c =
 
 -- and what is known of it
 known : (g : Over) (c : Joined-answer-3 g) → TellsOutcomes (seen g c) c.in-Ok.answer
-known g c = record { right = c.in-Ok.ensures.answer; said = c.deliver.ensures }
+known g c = record {
+  right = c.in-Ok.ensures.answer;
+  said = rw (c.deref.ensures.value, c.in-Ok-text.ensures, c.status.ensures) at c.deliver.ensures.said;
+}
 
 pub returns-clause-listed : goal.returns-clause-listed
 returns-clause-listed g c asked taken is small =

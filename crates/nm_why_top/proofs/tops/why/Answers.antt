@@ -1,6 +1,6 @@
 -- How the program ends, clause by clause.
 use Rattle.std.proofs.Common.{inr, map, string_bytes}
-use Rattle.nm_check.specs.Done.{Ending}
+use Rattle.nm_shell.specs.Done.{Ending}
 use Rattle.nm_why_top.specs.Answers.{TellsWhy}
 use Rattle.nm_why_top.proofs.AnswerLemmas.{not_six}
 use Rattle.nm_why_top.proofs.tops.why.Goals as goal
@@ -25,7 +25,10 @@ seen g c =
 
 -- and what is known of it
 known : (g : Over) (c : Joined-answer-3 g) → TellsWhy (seen g c) c.in-Ok.answer
-known g c = record { right = c.in-Ok.ensures.answer; said = c.deliver.ensures }
+known g c = record {
+  right = c.in-Ok.ensures.answer;
+  said = rw (c.deref.ensures.value, c.in-Ok-text.ensures, c.status.ensures) at c.deliver.ensures.said;
+}
 
 pub returns-clause-done : goal.returns-clause-done
 returns-clause-done g c = inr (c.in-Ok.answer, known g c)

@@ -1,7 +1,8 @@
 -- What was read is judged.
 use Rattle.std.proofs.Common.{◌≡◌, ℕ, List, Some, refl, sym, ◌∙◌, ap, subst}
 use Rattle.nm_script.specs.declared.command_line.CommandLine.{CommandLine}
-use Rattle.nm_check.specs.Checks.{IsChecked, IsInput}
+use Rattle.nm_check.specs.Checks.{IsChecked}
+use Rattle.nm_shell.specs.Inputs.{IsInput}
 use Rattle.nm_check.specs.Found.{IsFound, checked_of}
 use Rattle.nm_check.specs.Quotes.{quotes_of}
 use Rattle.nm_check.proofs.EndLemmas.{found_of, quotes_read}

@@ -2,7 +2,7 @@
 use Rattle.std.proofs.Common.{inr, map}
 use Rattle.std.specs.Prelude.{string_bytes}
 use Rattle.nm_check.specs.Answers.{SaysVerdict}
-use Rattle.nm_check.specs.Done.{Ending}
+use Rattle.nm_shell.specs.Done.{Ending}
 use Rattle.nm_check.proofs.EndLemmas.{not_six, told_is, unread_is, unwritten_is}
 use Rattle.nm_check.proofs.verdict.verdicts.verdict.Goals as goal
 use Rattle.nm_check.proofs.verdict.verdicts.verdict.Goals.{Joined-answer-5}
@@ -27,7 +27,11 @@ seen g c =
 -- and what is known of it
 known : (g : Over) (c : Joined-answer-5 g) → SaysVerdict (seen g c) c.in-Ok.answer
 known g c =
-    record { right = c.in-Ok.ensures.answer; read = c.in-Ok.ensures.read; said = c.deliver.ensures.said }
+    record {
+      right = c.in-Ok.ensures.answer;
+      read = c.in-Ok.ensures.read;
+      said = rw (c.deref.ensures.value, c.in-Ok-text.ensures, c.status.ensures) at c.deliver.ensures.said;
+    }
 
 pub returns-clause-told : goal.returns-clause-told
 returns-clause-told g c = told_is c.in-Ok.answer (known g c)

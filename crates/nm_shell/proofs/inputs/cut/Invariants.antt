@@ -1,6 +1,6 @@
 use Rattle.std.proofs.Common.{length}
-use Rattle.nm_check.proofs.CutLemmas.{Reached}
-use Rattle.nm_check.proofs.checked.inputs.cut.Given as goal
+use Rattle.nm_shell.proofs.CutLemmas.{Reached}
+use Rattle.nm_shell.proofs.inputs.cut.Given as goal
 
 -- no line so far is the one between
 abbrev pub invariant-loop-rest : goal.invariant-loop-rest

@@ -1,6 +1,6 @@
 use Rattle.std.proofs.Common.{◌≢◌, take}
 use Rattle.std.specs.List.{AllByRecursion}
-use Rattle.nm_check.proofs.checked.inputs.first_line.Given as goal
+use Rattle.nm_shell.proofs.inputs.first_line.Given as goal
 
 -- no line feed so far
 abbrev pub invariant-loop-at : goal.invariant-loop-at

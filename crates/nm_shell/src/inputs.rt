@@ -1,9 +1,11 @@
-//! A script and a trace in one text, with a line `---` between them.
+//! A script and another text in one, with a line `---` between them.
 
-ghost use Rattle.std.specs.Prelude.{◌≡◌, ◌≢◌, ◌++◌, ◌∷◌, MatchOption, codes};
+ghost use Rattle.std.specs.Prelude.{◌≡◌, ◌≢◌, ◌++◌, ◌∷◌, MatchBool, MatchOption, codes};
 ghost use Rattle.std.specs.List.{AllByRecursion};
-ghost use Rattle.nm_lookups.specs.Deciding.{Decides};
-ghost use Rattle.nm_check.specs.Inputs.{HasNoCut, IsOnlyCut};
+ghost use Rattle.nm_shell.specs.Inputs.{HasNoCut, HasNoParts, IsInput, IsOnlyCut};
+
+/// The most bytes of both.
+pub const MAX_INPUT: usize = 67_108_864;
 
 /// The first line, without its line feed, and what stands behind its line feed, if it has one.
 fn first_line(bytes: &[u8]) -> (&[u8], Option<&[u8]>)
@@ -21,13 +23,13 @@ fn first_line(bytes: &[u8]) -> (&[u8], Option<&[u8]>)
 
 /// Whether a line is the one between.
 fn is_between(line: &[u8]) -> bool
-    ensures { Decides result (line.now ≡ codes "---") }
+    ensures { MatchBool result (line.now ≡ codes "---") (line.now ≢ codes "---") }
 {
     line == b"---".as_slice()
 }
 
 /// What stands before the first line `---`, and behind it.
-pub fn cut(bytes: &[u8]) -> Option<(&[u8], &[u8])>
+fn cut(bytes: &[u8]) -> Option<(&[u8], &[u8])>
     ensures { MatchOption result (HasNoCut bytes.now) (λ x. IsOnlyCut bytes.now x.0.now x.1.now) }
 {
     let mut rest = bytes;
@@ -45,4 +47,14 @@ pub fn cut(bytes: &[u8]) -> Option<(&[u8], &[u8])>
             None => return None,
         }
     }
+}
+
+/// What stands before the first line `---`, and behind it, where the bytes are short enough and have one.
+pub fn parts(bytes: &[u8]) -> Option<(&[u8], &[u8])>
+    ensures { MatchOption result (HasNoParts bytes.now) (λ x. IsInput bytes.now x.0.now x.1.now) }
+{
+    if bytes.len() > MAX_INPUT {
+        return None;
+    }
+    cut(bytes)
 }

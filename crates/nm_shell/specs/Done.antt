@@ -1,6 +1,6 @@
 -- How a call of a program ends that answers words and a source with a text: one relation of what is seen of it,
 -- whatever its answers are.
-use Rattle.std.specs.Prelude.{◌≡◌, ℕ, ◌⊎◌, List, Option}
+use Rattle.std.specs.Prelude.{◌≡◌, ℕ, ◌⊎◌, List, Option, codes}
 use Rattle.nm_outside.specs.Told.{Appends, AppendsPart}
 
 -- What is seen of a call: its words, what the source told and has left, with its counts of faults, what the sink
@@ -30,3 +30,15 @@ pub record RanShort (e : Ending) : Type 0 where
 -- it ended with one of these answers, or memory ran out
 abbrev pub IsDone : {A : Type 0} → (Ending → A → Type 0) → Ending → Type 0
 IsDone {A} Ends e = RanShort e ⊎ ((answer : A) × Ends e answer)
+
+-- what is said of a source that failed
+abbrev pub unread : List ℕ
+unread = codes "fault read\n"
+
+-- it is so, or a write failed, or memory ran out
+abbrev pub OrUnwritten : Type 0 → ℕ → Type 0
+OrUnwritten holds status = holds ⊎ ((status ≡ 5) ⊎ (status ≡ 6))
+
+-- it is so, or a read or a write failed, or memory ran out
+abbrev pub OrFails : Type 0 → ℕ → Type 0
+OrFails holds status = holds ⊎ ((status ≡ 4) ⊎ ((status ≡ 5) ⊎ (status ≡ 6)))

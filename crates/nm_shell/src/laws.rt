@@ -1,10 +1,10 @@
-//! A script and what stands behind it, in one text.
+//! What is cut where it was put together. The law is the contract of a function that does nothing.
 
 ghost use Rattle.std.specs.Prelude.{◌≤◌, ◌++◌, ℕ, List, codes, length};
 ghost use Rattle.nm_types.specs.declared.scripts.Line as script_line;
 ghost use Rattle.nm_script.specs.Lines.{with_feed};
 ghost use Rattle.nm_script.specs.Spelled.{IsTextOf};
-ghost use Rattle.nm_check.specs.Checks.{IsInput};
+ghost use Rattle.nm_shell.specs.Inputs.{IsInput};
 
 use nm_script::laws::read_is_written;
 

@@ -1,9 +1,10 @@
 -- The lines of a script are not the one between.
-use Rattle.std.proofs.Common.{◌++◌, inl, sym, ◌∙◌, subst, codes}
+use Rattle.std.proofs.Common.{◌++◌, inl, refl, sym, ◌∙◌, subst, codes}
 use Rattle.nm_script.proofs.ReadLemmas.{script_lines}
-use Rattle.nm_check.specs.Inputs.{IsOnlyCut}
-use Rattle.nm_check.proofs.InputLemmas.{cut_off, script_before, text_of_lines}
-use Rattle.nm_check.proofs.written.inputs.scripts_are_cut_off.Goals as goal
+use Rattle.nm_shell.specs.Inputs.{IsOnlyCut}
+use Rattle.nm_shell.proofs.CutLemmas.{cut_off}
+use Rattle.nm_shell.proofs.ScriptLemmas.{script_before, text_of_lines}
+use Rattle.nm_shell.proofs.laws.scripts_are_cut_off.Goals as goal
 
 pub returns-clause-input : goal.returns-clause-input
 returns-clause-input c ranks lines script rest text short =
@@ -13,7 +14,7 @@ returns-clause-input c ranks lines script rest text short =
     record {
       short = short;
       cut = subst (λ front. IsOnlyCut (front ++ (codes "---\n" ++ rest)) front rest) written
-          (cut_off (script_lines ranks lines) rest before);
+          (cut_off (script_lines ranks lines) (codes "---\n" ++ rest) rest before (inl refl));
     }
 
 pub returns-clause-script : goal.returns-clause-script

@@ -1,8 +1,8 @@
 use Rattle.std.proofs.Common.{◌≡◌, ◌≢◌, ◌++◌, ◌∷◌, [], ℕ, List, inl, inr, length, take, ◌-◌, refl, ◌∙◌, ap, sym, subst}
 use Rattle.std.specs.Prelude.{codes}
-use Rattle.nm_check.specs.Inputs.{IsOnlyCut}
-use Rattle.nm_check.proofs.CutLemmas.{cut_here, none_behind, none_last, reached_more, reached_none}
-use Rattle.nm_check.proofs.checked.inputs.cut.Goals as goal
+use Rattle.nm_shell.specs.Inputs.{IsOnlyCut}
+use Rattle.nm_shell.proofs.CutLemmas.{cut_here, none_behind, none_last, reached_more, reached_none}
+use Rattle.nm_shell.proofs.inputs.cut.Goals as goal
 
 pub loop-rest-init : goal.loop-rest-init
 loop-rest-init c = reached_none c.args.bytes.now
@@ -30,8 +30,7 @@ loop-rest-preserved c =
     let parts : c.loop-rest.rest.now ≡ c.first_line.result.0.now ++ 10 ∷ c.in-Some-behind.others.now =
     rw c.in-Some-behind.is at c.first_line.ensures.parts in
     reached_more c.args.bytes.now c.loop-rest.rest.now c.first_line.result.0.now c.in-Some-behind.others.now
-    c.loop-rest.invariant c.first_line.ensures.one
-    other parts
+    c.loop-rest.invariant (record { one = c.first_line.ensures.one; other = other }) parts
 
 pub returns-in-None-behind : goal.returns-in-None-behind
 returns-in-None-behind c =
@@ -39,4 +38,4 @@ returns-in-None-behind c =
     let parts : c.loop-rest.rest.now ≡ c.first_line.result.0.now =
     rw c.in-None-behind.is at c.first_line.ensures.parts in
     none_last c.args.bytes.now c.loop-rest.rest.now c.first_line.result.0.now c.loop-rest.invariant
-    c.first_line.ensures.one other parts
+    (record { one = c.first_line.ensures.one; other = other }) parts

@@ -1,5 +1,5 @@
--- A script and a trace in one text, with a line `---` between them.
-use Rattle.std.specs.Prelude.{◌≡◌, ◌≢◌, ℕ, ◌⊎◌, List, [], ◌++◌, codes}
+-- A script and another text in one, with a line `---` between them.
+use Rattle.std.specs.Prelude.{◌≡◌, ◌≢◌, ◌<◌, ◌≤◌, ℕ, ◌⊎◌, List, [], ◌++◌, codes, length, take}
 use Rattle.std.specs.List.{AllByRecursion}
 use Rattle.nm_script.specs.Lines.{ended_lines}
 
@@ -29,3 +29,16 @@ HasNoCut bytes = (front rest : List ℕ) → ¬ (IsCut bytes front rest)
 pub record IsOnlyCut (bytes front rest : List ℕ) : Type 0 where
   pub cut : IsCut bytes front rest
   pub only : (f r : List ℕ) → IsCut bytes f r → (f ≡ front) × (r ≡ rest)
+
+-- what is read of a source: all of it, or one byte more than both parts may have
+abbrev pub read_of : List ℕ → List ℕ
+read_of bytes = take 67108865 bytes
+
+-- the bytes are short enough, and have the two parts
+pub record IsInput (bytes front rest : List ℕ) : Type 0 where
+  pub short : length bytes ≤ 67108864
+  pub cut : IsOnlyCut bytes front rest
+
+-- the bytes are too long, or have no line `---`
+abbrev pub HasNoParts : List ℕ → Type 0
+HasNoParts bytes = (67108864 < length bytes) ⊎ HasNoCut bytes

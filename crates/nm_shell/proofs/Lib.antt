@@ -1,0 +1,4 @@
+mod CutLemmas
+pub mod FailLemmas
+pub mod PartLemmas
+mod ScriptLemmas
