@@ -1,7 +1,6 @@
 //! The whole program: words, a script and answers in, a verdict and a status out.
 
 ghost use Rattle.std.specs.Prelude.{◌≡◌, map, string_bytes, IfOk, IfSome};
-ghost use Rattle.nm_outside.specs.Told.{Rose};
 ghost use Rattle.nm_shell.specs.Done.{IsDone};
 ghost use Rattle.nm_lawful_top.specs.Answers.{IsDue, IsDueOf, TellsLawful};
 ghost use Rattle.nm_lawful_top.specs.Endings.{AreLawful, AreUnlawful};

@@ -5,12 +5,13 @@ ghost use Rattle.std.specs.Prelude.{◌≡◌, ℕ, ◌⊎◌, List, IfSome};
 ghost use Rattle.nm_types.specs.declared.scripts.Line.{Line};
 ghost use Rattle.nm_outside.specs.Told.{Appends};
 ghost use Rattle.nm_shell.specs.Done.{Ending, IsDone, OrFails, OrUnwritten};
+ghost use Rattle.nm_shell.specs.Inputs.{HasNoParts};
 ghost use Rattle.nm_script.specs.Rules.{IsFirstFault};
 ghost use Rattle.nm_script.specs.Spelled.{IsTextOf};
 ghost use Rattle.nm_script.specs.declared.faults.Kind.{Kind};
 ghost use Rattle.nm_outcomes_top.specs.declared.words.Asked.{Asked};
 ghost use Rattle.nm_outcomes_top.specs.declared.words.Question.TheVariants as question;
-ghost use Rattle.nm_outcomes_top.specs.Answers.{HasNoReport, IsInputOf, TellsOutcomes, read_of};
+ghost use Rattle.nm_outcomes_top.specs.Answers.{IsInputOf, TellsOutcomes, read_of};
 ghost use Rattle.nm_outcomes_top.specs.Endings.{IsAmong, IsFewerSaid, IsNotAmong, IsOutgrown};
 ghost use Rattle.nm_outcomes_top.specs.Endings.{IsRefused, IsTraceSaid, Speaks};
 ghost use Rattle.nm_outcomes_top.specs.Texts.{no_report, usage};
@@ -73,6 +74,6 @@ pub fn one_is_looked_up()
         IfSome e.input (IsNotAmong asked e.before e.after) }
     ensures no_report { (e : Ending) → IsDone TellsOutcomes e → (asked : Asked) → IsTaken e.words asked →
         e.status ≡ 9 → IfSome e.input (λ bytes. (asked.question ≡ question.Among)
-        × HasNoReport (read_of asked.question bytes))
+        × HasNoParts (read_of asked.question bytes))
         × Appends e.before e.after no_report }
 {}

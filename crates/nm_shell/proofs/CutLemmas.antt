@@ -8,7 +8,7 @@ use Rattle.std.proofs.lemmas.List.{drop_all}
 use Rattle.std.proofs.lemmas.List.Concat.{flat_map-append, flat_map-cons}
 use Rattle.nm_types.proofs.ListLemmas.{all_push}
 use Rattle.nm_script.specs.Lines.{ended_lines}
-use Rattle.nm_shell.specs.Inputs.{IsDivider, HasNoCut, IsBefore, IsCut, IsOnlyCut}
+use Rattle.nm_shell.specs.Inputs.{IsDivider, HasNoCut, IsBefore, IsOnlyCut}
 
 abbrev pub HasNoFeed : List ℕ → Type 0
 HasNoFeed line = AllByRecursion (λ b. b ≢ 10) line

@@ -5,7 +5,6 @@ ghost use Rattle.nm_shell.specs.Done.{IsDone};
 ghost use Rattle.nm_outcomes_top.specs.declared.words.Asked.{Asked};
 ghost use Rattle.nm_outcomes_top.specs.declared.words.Question.TheVariants.{All};
 ghost use Rattle.nm_outcomes_top.specs.OptionWords.{InRange};
-ghost use Rattle.nm_outside.specs.Told.{Appends, AppendsPart, Rose};
 ghost use Rattle.nm_why_top.specs.declared.answers.Response.{Response};
 ghost use Rattle.nm_why_top.specs.Answers.{IsAnswer, IsAnswerIn, IsAnswerOf, IsAsked, NotAsked, TellsWhy};
 

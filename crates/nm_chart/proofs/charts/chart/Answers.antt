@@ -1,5 +1,5 @@
 -- How the program ends, clause by clause.
-use Rattle.std.proofs.Common.{inl, inr, map, refl, string_bytes}
+use Rattle.std.proofs.Common.{inr, map, string_bytes}
 use Rattle.nm_chart.specs.Answers.{Charts}
 use Rattle.nm_shell.specs.Done.{Ending}
 use Rattle.nm_chart.proofs.EndLemmas.{drawn_is, none_of}

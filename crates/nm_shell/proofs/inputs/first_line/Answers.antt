@@ -1,5 +1,4 @@
-use Rattle.std.proofs.Common.{◌≢◌, ℕ, List, get_or, subst, sym, take}
-use Rattle.std.specs.List.{AllByRecursion}
+use Rattle.std.proofs.Common.{◌≢◌, get_or, subst, sym, take}
 use Rattle.std.proofs.lemmas.List.{get_or_default, take_all}
 use Rattle.nm_types.proofs.ListLemmas.{all_push, take_next}
 use Rattle.nm_shell.proofs.CutLemmas.{HasNoFeed}
