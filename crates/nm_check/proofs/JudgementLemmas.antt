@@ -5,6 +5,10 @@ use Rattle.nm_report.specs.declared.records.RunRecord.{RunRecord}
 use Rattle.nm_report.specs.Ends.{ends_of, packets_of}
 use Rattle.nm_check_ranks.specs.declared.rest.clauses.RestClause.{RestClause}
 use Rattle.nm_check_ranks.specs.declared.rest.clauses.RestClause.TheVariants as rest
+use Rattle.nm_check_ranks.specs.declared.rest.firsts.EventRule.TheVariants as rule
+use Rattle.nm_check_ranks.specs.declared.rest.resting.RestBreak.{RestBreak}
+use Rattle.nm_check_ranks.specs.declared.rest.resting.RestBreak.TheVariants as kind
+use Rattle.nm_check_ranks.specs.RestBreaks.{clause_of}
 use Rattle.nm_check.specs.Judgements.{IsJudgement, home_at, plain_at}
 use Rattle.nm_check.specs.Miscounts.{IsFirstCounted, IsMiscount}
 use Rattle.nm_check.specs.Places.{IsCountPlace, IsPlace, events_in}
@@ -14,6 +18,15 @@ use Rattle.nm_check.specs.declared.breaks.judgements.Judgement.{Judgement}
 use Rattle.nm_check.specs.declared.breaks.places.Place.{Place}
 use Rattle.nm_check.specs.declared.breaks.places.Place.TheVariants.{Count, LastLine, Nowhere}
 use Rattle.nm_check.specs.declared.verdicts.Verdict.TheVariants.{Holds, Rest, Home, Done}
+
+-- a break that is not of the counts is of another rule
+pub not_counts : (b : RestBreak) → (b ≡ kind.Counts → ⊥) → clause_of b ≡ rest.Counts → ⊥
+not_counts (kind.Event rule.Arrived spot) not same = cc
+not_counts (kind.Event rule.Eager spot) not same = cc
+not_counts (kind.Event rule.Asked spot) not same = cc
+not_counts (kind.Event rule.Recalls spot) not same = cc
+not_counts (kind.Standing i) not same = cc
+not_counts kind.Counts not same = not refl
 
 module _ (count : ℕ) (lines : List Line) (run : RunRecord) where
   -- another rule of rest has no count

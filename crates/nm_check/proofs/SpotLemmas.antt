@@ -13,7 +13,6 @@ use Rattle.nm_history.specs.Quiescence.{EachPair, EachRank, Ended, IsStopped, Pa
 use Rattle.nm_history.specs.Sends.{arrivals, sends}
 use Rattle.nm_report.specs.declared.accounts.RankAccount.{RankAccount}
 use Rattle.nm_report.specs.Ends.{end_of_account, ends_of}
-use Rattle.nm_types.proofs.OptionLemmas.{no_some}
 use Rattle.nm_check_rank.specs.Breaks.{BreaksFirstAt}
 use Rattle.nm_check_rank.specs.FirstBroken.{IsFirstBroken}
 use Rattle.nm_check_ranks.specs.CarriedBreaks.{BreaksBetweenAt}
@@ -22,12 +21,10 @@ use Rattle.nm_check_ranks.specs.Marked.{KeepsLocal}
 use Rattle.nm_check_ranks.specs.declared.clauses.CarriedClause.{CarriedClause}
 use Rattle.nm_check_ranks.specs.declared.firsts.Spot.{Spot}
 use Rattle.nm_check_ranks.specs.RestBreaks.{BreaksRestAt, BreaksStanding, KeepRestAt, rest_clause}
-use Rattle.nm_check_ranks.specs.declared.rest.clauses.RestClause.{RestClause}
-use Rattle.nm_check_ranks.specs.declared.rest.clauses.RestClause.TheVariants as rest
 use Rattle.nm_check_ranks.specs.declared.rest.firsts.EventRule.{EventRule}
 use Rattle.nm_check_ranks.specs.declared.rest.firsts.EventRule.TheVariants as rule
 use Rattle.nm_check.specs.Verdicts.{BreaksCarried, RunsItsOwn}
-use Rattle.nm_check.specs.Places.{IsEventPlace, IsRestPlace, event_rule, events_in}
+use Rattle.nm_check.specs.Places.{IsEventPlace, IsRestPlace, events_in}
 use Rattle.nm_check.specs.declared.breaks.places.Place.{Place}
 use Rattle.nm_check.proofs.EventLemmas.{rank_le}
 
@@ -59,19 +56,6 @@ are_ordered lines ranks each i = by_sender (slice_get ranks i) (each i)
 -- the history of a rank, if there is one
 abbrev events_of : Option Ended → List Event
 events_of o = option_map_or (λ rank. rank.events) o []
-
--- a rule of the messages between two ranks that is broken is not kept
-pub not_carried : (shape : Sizes) (lines : List Line) (ranks : List Ended) (c : CarriedClause) (i j : ℕ) →
-    BreaksCarried shape lines ranks c i j →
-    KeepsCarried i j (commands_of i lines) (commands_of j lines) (history_of ranks i) (history_of ranks j) c → ⊥
-not_carried shape lines ranks c i j breaks = by_ranks (slice_get ranks i) (slice_get ranks j) breaks.first
-  where
-    by_ranks : (a b : Option Ended) → IsSomeAnd a (λ a. IsSomeAnd b (λ b. IsFirstBroken
-        (KeepsCarried i j (commands_of i lines) (commands_of j lines) a.events b.events) carried_order c)) →
-        KeepsCarried i j (commands_of i lines) (commands_of j lines) (events_of a) (events_of b) c → ⊥
-    by_ranks None b there keeps = there
-    by_ranks (Some a) None there keeps = there
-    by_ranks (Some a) (Some b) there keeps = there.broken keeps
 
 -- the event is one of its rank
 pub spot_inside : (lines : List Line) (ranks : List Ended) (i j : ℕ) (c : CarriedClause) (spot : Spot) →
@@ -165,17 +149,6 @@ pub waits_here : (ranks : List Ended) (i : ℕ) (e : Ended) → slice_get ranks 
     option_and_then (λ (e : Ended). e.waits) (slice_get ranks i) ≡ e.waits
 waits_here ranks i e is = ap (λ (o : Option Ended). option_and_then (λ (e : Ended). e.waits) o) is
 
--- the rule that is asked of events
-pub rule_of : (c : RestClause) (o : Option EventRule) → o ≡ event_rule c → IfSome o (λ r. c ≡ rest_clause r)
-rule_of rest.Eager o is = subst (λ (o : Option EventRule). IfSome o (λ r. rest.Eager ≡ rest_clause r)) (sym is) refl
-rule_of rest.Asked o is = subst (λ (o : Option EventRule). IfSome o (λ r. rest.Asked ≡ rest_clause r)) (sym is) refl
-rule_of rest.Recalls o is =
-    subst (λ (o : Option EventRule). IfSome o (λ r. rest.Recalls ≡ rest_clause r)) (sym is) refl
-rule_of rest.Arrived o is =
-    subst (λ (o : Option EventRule). IfSome o (λ r. rest.Arrived ≡ rest_clause r)) (sym is) refl
-rule_of rest.Waits o is = subst (λ (o : Option EventRule). IfSome o (λ r. rest.Waits ≡ rest_clause r)) (sym is) tt
-rule_of rest.Counts o is = subst (λ (o : Option EventRule). IfSome o (λ r. rest.Counts ≡ rest_clause r)) (sym is) tt
-
 -- its place
 pub event_placed : (lines : List Line) (ranks : List Ended) (packets : List Packets) (r : EventRule) (place : Place) →
     IsEventPlace r ranks place → IsRestPlace lines ranks packets (rest_clause r) place
@@ -183,12 +156,3 @@ event_placed lines ranks packets rule.Arrived place is = is
 event_placed lines ranks packets rule.Eager place is = is
 event_placed lines ranks packets rule.Asked place is = is
 event_placed lines ranks packets rule.Recalls place is = is
-
--- there is no other rule but those on waiting and on counts
-pub only_waits : (c : RestClause) → event_rule c ≡ None → (c ≡ rest.Counts → ⊥) → c ≡ rest.Waits
-only_waits rest.Eager none not_counts = absurd (no_some _ (sym none))
-only_waits rest.Asked none not_counts = absurd (no_some _ (sym none))
-only_waits rest.Recalls none not_counts = absurd (no_some _ (sym none))
-only_waits rest.Arrived none not_counts = absurd (no_some _ (sym none))
-only_waits rest.Waits none not_counts = refl
-only_waits rest.Counts none not_counts = absurd (not_counts refl)

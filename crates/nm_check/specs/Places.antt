@@ -71,14 +71,6 @@ abbrev pub IsCountPlace : List Line → List Ended → List Packets → Place �
 IsCountPlace lines ranks packets place =
     (k : ℕ) × DifferFirstAt packets (packets_due lines ranks) k × (place ≡ Count k (events_in ranks + k + 1))
 
--- the rule of rest as one that is asked of each event, if it is
-abbrev pub event_rule : RestClause → Option EventRule
-event_rule rest.Arrived = Some rule.Arrived
-event_rule rest.Eager = Some rule.Eager
-event_rule rest.Asked = Some rule.Asked
-event_rule rest.Recalls = Some rule.Recalls
-event_rule _ = None
-
 -- the place of a rule of rest
 abbrev pub IsRestPlace : List Line → List Ended → List Packets → RestClause → Place → Type 0
 IsRestPlace lines ranks packets rest.Arrived place = IsEventPlace rule.Arrived ranks place

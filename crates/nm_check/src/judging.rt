@@ -1,20 +1,18 @@
 //! The judge of a record.
 
-ghost use Rattle.std.specs.Prelude.{◌≡◌, ◌<◌, IfOk, List, MatchOption, None, length};
+ghost use Rattle.std.specs.Prelude.{◌≡◌, ◌<◌, IfOk, List, MatchOption, length};
 ghost use Rattle.nm_types.specs.declared.scripts.Line as script_line;
 ghost use Rattle.nm_types.specs.Sizes.{Sizes};
-ghost use Rattle.nm_history.specs.Quiescence.{AreQuiescent, EachPair, EachRank};
+ghost use Rattle.nm_history.specs.Quiescence.{EachPair, EachRank};
 ghost use Rattle.nm_history.specs.Run.{IsRunOf};
 ghost use Rattle.nm_report.specs.Ends.{ends_of, packets_of};
 ghost use Rattle.nm_report.specs.Lawful.{IsRunIn};
 ghost use Rattle.nm_check.specs.declared.verdicts.Verdict.TheVariants.{Holds};
-ghost use Rattle.nm_check.specs.OwnFirsts.{IsOwnFirst};
+ghost use Rattle.nm_check.specs.Ranked.{IsTabled, verdict_of as verdict_of_lem};
 ghost use Rattle.nm_check.specs.Verdicts.{Judges, RunsItsOwn};
 ghost use Rattle.nm_check_ranks.specs.CarriedClauses.{PairDelivered};
 ghost use Rattle.nm_check_ranks.specs.Marked.{BreaksPair};
 ghost use Rattle.nm_check_ranks.specs.Tabled.{EachTabled};
-ghost use Rattle.nm_check_rank.specs.FirstBroken.{IsFirstBroken};
-ghost use Rattle.nm_check_ranks.specs.RestClauses.{KeepsRest, rest_order};
 
 use crate::ends::{are_home, is_marked};
 use crate::ranking::{Ranked, judge_ranks};
@@ -22,13 +20,8 @@ use crate::verdicts::Verdict;
 use nm_check_rank::paired::tables::Tables;
 use nm_check_ranks::between::{BrokenPair, first_pair};
 use nm_check_ranks::marking::marks_of;
-use nm_check_ranks::rest::clauses::RestClause;
-use nm_check_ranks::rest::counts::are_counted;
-use nm_check_ranks::rest::over::{are_asked_over, are_eager_over};
-use nm_check_ranks::rest::rest::{are_all_answered, has_all_arrived};
-use nm_check_ranks::rest::resting::first_of_rest;
-use nm_check_ranks::rest::waits::are_standing;
-use nm_report::{PairCount, RankAccount, RunRecord};
+use nm_check_ranks::rest::resting::{RestBreak, first_of_rest};
+use nm_report::{RankAccount, RunRecord};
 use nm_types::{Line, Memory, Script};
 use std::alloc::Global;
 
@@ -45,76 +38,76 @@ fn judge_pairs(
     ensures { IfOk result (λ found. MatchOption found
         (EachPair (PairDelivered lines.now) (ends_of ranks.now))
         (λ pair. BreaksPair lines.now (ends_of ranks.now) pair.from pair.broken.to
-        pair.broken.clause)) }
+        pair.broken.first)) }
 {
     let marks = marks_of(alloc, lines, ranks, tables)?;
     Ok(first_pair(&marks))
 }
 
-/// The first rule of rest that is broken.
-fn judge_rest(
-    lines: &[Line],
-    ranks: &[RankAccount],
-    pairs: &[PairCount],
-    tables: &[Tables],
-) -> Option<RestClause>
-    requires few { length ranks.now < 256 }
-    requires tabled { EachTabled lines.now (ends_of ranks.now) tables.now }
-    ensures { MatchOption result
-        (AreQuiescent lines.now (ends_of ranks.now) (packets_of pairs.now))
-        (IsFirstBroken
-        (KeepsRest lines.now (ends_of ranks.now) (packets_of pairs.now)) rest_order) }
-{
-    let arrived = has_all_arrived(tables);
-    let eager = are_eager_over(ranks, tables);
-    let asked = are_asked_over(ranks, tables);
-    let recalls = are_all_answered(ranks, tables);
-    let waits = are_standing(lines, ranks, tables);
-    let counts = are_counted(pairs, ranks, tables);
-    first_of_rest(arrived, eager, asked, recalls, waits, counts)
+/// What breaks first where all ranks run their own commands, and where.
+#[derive(Clone, Copy)]
+pub(crate) enum Tabled {
+    Carried { pair: BrokenPair },
+    Rest { first: RestBreak },
+    Home,
+    Done,
+    Holds,
 }
 
-/// The verdict on a record whose ranks make a run.
-fn judge_ends(run: &RunRecord) -> Verdict
-    ensures between { (lines : List script_line.Line) → IsOwnFirst lines run.now result None }
-    ensures first { (lines : List script_line.Line) →
+/// The verdict of it.
+fn verdict_of(found: Tabled) -> Verdict
+    ensures { result ≡ verdict_of_lem found }
+{
+    match found {
+        Tabled::Carried { pair } => Verdict::Carried {
+            clause: pair.broken.first.clause,
+            from: pair.from,
+            to: pair.broken.to,
+        },
+        Tabled::Rest { first } => Verdict::Rest {
+            clause: first.clause(),
+        },
+        Tabled::Home => Verdict::Home,
+        Tabled::Done => Verdict::Done,
+        Tabled::Holds => Verdict::Holds,
+    }
+}
+
+/// What breaks in a record whose ranks make a run.
+fn judge_ends(run: &RunRecord) -> Tabled
+    ensures { (lines : List script_line.Line) →
         IsRunOf run.now.shape lines (ends_of run.now.ranks) (packets_of run.now.pairs) →
-        Judges lines run.now result }
+        IsTabled lines run.now result }
 {
     if !are_home(run) {
-        return Verdict::Home;
+        return Tabled::Home;
     }
     if !is_marked(run) {
-        return Verdict::Done;
+        return Tabled::Done;
     }
-    Verdict::Holds
+    Tabled::Holds
 }
 
-/// The verdict on a record whose ranks run their own commands, by what is looked up of them.
+/// What breaks first in a record whose ranks run their own commands, by what is looked up of them.
 pub(crate) fn judge_tabled(
     alloc: Global,
     script: &Script,
     run: &RunRecord,
     tables: &[Tables],
-) -> Result<Verdict, Memory>
+) -> Result<Tabled, Memory>
     requires whole { length run.now.ranks ≡ run.now.shape.ranks }
     requires few { length run.now.ranks < 256 }
     requires runs { EachRank (RunsItsOwn run.now.shape script.now.lines) (ends_of run.now.ranks) }
     requires tabled { EachTabled script.now.lines (ends_of run.now.ranks) tables.now }
-    ensures first { IfOk result (Judges script.now.lines run.now) }
-    ensures between { IfOk result (λ verdict. IsOwnFirst script.now.lines run.now verdict None) }
+    ensures { IfOk result (IsTabled script.now.lines run.now) }
 {
     let lines = script.lines.as_slice();
     let ranks = run.ranks.as_slice();
     if let Some(pair) = judge_pairs(alloc, lines, ranks, tables)? {
-        return Ok(Verdict::Carried {
-            clause: pair.broken.clause,
-            from: pair.from,
-            to: pair.broken.to,
-        });
+        return Ok(Tabled::Carried { pair });
     }
-    if let Some(clause) = judge_rest(lines, ranks, run.pairs.as_slice(), tables) {
-        return Ok(Verdict::Rest { clause });
+    if let Some(first) = first_of_rest(lines, ranks, run.pairs.as_slice(), tables) {
+        return Ok(Tabled::Rest { first });
     }
     Ok(judge_ends(run))
 }
@@ -130,7 +123,10 @@ pub fn judge(alloc: Global, script: &Script, run: &RunRecord) -> Result<Verdict,
 {
     let lines = script.lines.as_slice();
     match judge_ranks(alloc, run.shape, lines, run.ranks.as_slice())? {
-        Ranked::Run(tables) => judge_tabled(alloc, script, run, &tables),
+        Ranked::Run(tables) => {
+            let found = judge_tabled(alloc, script, run, &tables)?;
+            Ok(verdict_of(found))
+        }
         Ranked::Breaks { clause, rank, .. } => Ok(Verdict::Own { clause, rank }),
     }
 }

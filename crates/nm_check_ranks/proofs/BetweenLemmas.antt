@@ -1,76 +1,89 @@
--- What the marks decide of the messages between two ranks.
-use Rattle.std.proofs.Common.{◌≡◌, ℕ, ◌<◌, Bool, true, false, List, get_or, subst}
-use Rattle.std.specs.Prelude.{MatchBool}
+-- The first rule of the messages between two ranks that is broken.
+use Rattle.std.proofs.Common.{◌+◌, ℕ, List, [], ◌∷◌}
 use Rattle.nm_types.specs.declared.scripts.Line.{Line}
 use Rattle.nm_types.specs.Commands.{commands_of}
 use Rattle.nm_history.specs.declared.events.Event.{Event}
-use Rattle.nm_history.specs.declared.events.Happened.{Happened}
-use Rattle.nm_history.specs.AtEach.{AtEach}
-use Rattle.nm_history.specs.Delivery.{ArriveInOrder, BodyAt, EachEvent, OutAfterPair, UndoneAfterWithdraw}
-use Rattle.nm_history.specs.Delivery.{WithdrawAfterRecall}
+use Rattle.nm_history.specs.Delivery.{BodyAt, OutAfterPair, UndoneAfterWithdraw, WithdrawAfterRecall}
 use Rattle.nm_history.specs.Growing.{ArrivesNext}
 use Rattle.nm_history.specs.Quiescence.{Ended, history_of}
-use Rattle.nm_history.specs.RankRun.{Always}
-use Rattle.nm_history.specs.Sends.{arrivals, sends}
-use Rattle.nm_check_ranks.specs.Marked.{AreMarks}
-use Rattle.nm_check_ranks.specs.declared.marks.Marks.{Marks}
-use Rattle.nm_check_ranks.proofs.MarkLemmas.{at_each_event}
-use Rattle.nm_check_ranks.proofs.SentLemmas.{each_next, in_order}
+use Rattle.nm_history.specs.Sends.{sends}
 use Rattle.nm_history.proofs.EachLemmas.{each_event}
+use Rattle.nm_check_rank.proofs.FirstBrokenLemmas.{first_broken, kept_none, kept_one}
+use Rattle.nm_check_ranks.specs.CarriedBreaks.{BreaksBetweenAt, read_of}
+use Rattle.nm_check_ranks.specs.CarriedClauses.{KeepsCarried}
+use Rattle.nm_check_ranks.specs.Marked.{IsBreak}
+use Rattle.nm_check_ranks.specs.declared.clauses.CarriedClause.{CarriedClause}
+use Rattle.nm_check_ranks.specs.declared.clauses.CarriedClause.TheVariants.{Messages, Bodies, Outs, Withdrawals}
+use Rattle.nm_check_ranks.specs.declared.firsts.Spot.{Spot}
+use Rattle.nm_check_ranks.proofs.MarkLemmas.{at_each_event}
+use Rattle.nm_check_ranks.proofs.ReadLemmas.{read_kept}
+use Rattle.nm_check_ranks.proofs.SentLemmas.{each_next, in_order}
 
-module _ (lines : List Line) (ranks : List Ended) (i j : ℕ) (hi hj : List Event) where
-  pub messages_decided : (marks : Marks) → history_of ranks i ≡ hi → AreMarks lines ranks j hj marks → i < 256 →
-      MatchBool (get_or marks.arrivals i false) (ArriveInOrder i (sends hi j) (arrivals hj i) → ⊥)
-      (ArriveInOrder i (sends hi j) (arrivals hj i))
-  messages_decided marks is its few =
-      by_mark (get_or marks.arrivals i false)
-      (subst (λ (g : List Event). MatchBool (get_or marks.arrivals i false)
-      (AtEach (λ before e. ArrivesNext i j g before e.stamp e.what) hj → ⊥)
-      (AtEach (λ before e. ArrivesNext i j g before e.stamp e.what) hj)) is (its.arrivals i few))
-    where
-      by_mark : (b : Bool) → MatchBool b (AtEach (λ before e. ArrivesNext i j hi before e.stamp e.what) hj → ⊥)
-          (AtEach (λ before e. ArrivesNext i j hi before e.stamp e.what) hj) →
-          MatchBool b (ArriveInOrder i (sends hi j) (arrivals hj i) → ⊥) (ArriveInOrder i (sends hi j) (arrivals hj i))
-      by_mark true broken = λ right. broken (each_next i j hi hj right)
-      by_mark false each = in_order i j hi hj each
+module _ (lines : List Line) (ranks : List Ended) (i j : ℕ) where
+  abbrev hi : List Event
+  hi = history_of ranks i
 
-  pub bodies_decided : (marks : Marks) → history_of ranks i ≡ hi → AreMarks lines ranks j hj marks → i < 256 →
-      MatchBool (get_or marks.bodies i false)
-      (Always (BodyAt i (commands_of i lines) (sends hi j) (commands_of j lines)) hj → ⊥)
-      (Always (BodyAt i (commands_of i lines) (sends hi j) (commands_of j lines)) hj)
-  bodies_decided marks is its few =
-      subst (λ (g : List Event). MatchBool (get_or marks.bodies i false)
-      (Always (BodyAt i (commands_of i lines) (sends g j) (commands_of j lines)) hj → ⊥)
-      (Always (BodyAt i (commands_of i lines) (sends g j) (commands_of j lines)) hj)) is (its.bodies i few)
+  abbrev hj : List Event
+  hj = history_of ranks j
 
-  pub outs_decided : (marks : Marks) → history_of ranks j ≡ hj → AreMarks lines ranks i hi marks → j < 256 →
-      MatchBool (get_or marks.outs j false) (AtEach (λ before e. OutAfterPair i j hj before e.stamp e.what) hi → ⊥)
-      (AtEach (λ before e. OutAfterPair i j hj before e.stamp e.what) hi)
-  outs_decided marks is its few =
-      subst (λ (g : List Event). MatchBool (get_or marks.outs j false)
-      (AtEach (λ before e. OutAfterPair i j g before e.stamp e.what) hi → ⊥)
-      (AtEach (λ before e. OutAfterPair i j g before e.stamp e.what) hi)) is (its.outs j few)
+  abbrev Keeps : CarriedClause → Type 0
+  Keeps c = KeepsCarried i j (commands_of i lines) (commands_of j lines) hi hj c
 
-  events_decided : (R : ℕ → Happened → Type 0) (h : List Event) (b : Bool) →
-      MatchBool b (AtEach (λ before e. R e.stamp e.what) h → ⊥) (AtEach (λ before e. R e.stamp e.what) h) →
-      MatchBool b (EachEvent R h → ⊥) (EachEvent R h)
-  events_decided R h true broken = λ each. broken (at_each_event R h each)
-  events_decided R h false each = each_event R h each
+  -- a rule that breaks somewhere is not kept
+  not_kept : (c : CarriedClause) (s : Spot) → BreaksBetweenAt lines ranks i j c s → Keeps c → ⊥
+  not_kept Messages s breaks keeps =
+      breaks.broken (in_order i j hi (read_of s.rank (s.at + 1) j hj)
+      (read_kept (λ before e. ArrivesNext i j hi before e.stamp e.what) hj s.rank (s.at + 1) j
+      (each_next i j hi hj keeps)))
+  not_kept Bodies s breaks keeps =
+      breaks.broken (read_kept
+      (λ before e. BodyAt i (commands_of i lines) (sends hi j) (commands_of j lines) before e.what) hj s.rank (s.at + 1)
+      j keeps)
+  not_kept Outs s breaks keeps =
+      breaks.broken (read_kept (λ before e. OutAfterPair i j hj before e.stamp e.what) hi s.rank (s.at + 1) i keeps)
+  not_kept Withdrawals s breaks keeps =
+      breaks.broken (
+        each_event (WithdrawAfterRecall i j hi) (read_of s.rank (s.at + 1) j hj)
+            (read_kept (λ before e. WithdrawAfterRecall i j hi e.stamp e.what) hj s.rank (s.at + 1) j
+            (at_each_event (WithdrawAfterRecall i j hi) hj keeps.asked)),
+        each_event (UndoneAfterWithdraw i j hj) (read_of s.rank (s.at + 1) i hi)
+            (read_kept (λ before e. UndoneAfterWithdraw i j hj e.stamp e.what) hi s.rank (s.at + 1) i
+            (at_each_event (UndoneAfterWithdraw i j hj) hi keeps.answered)),
+      )
 
-  pub withdrawals_decided : (marks : Marks) → history_of ranks i ≡ hi → AreMarks lines ranks j hj marks → i < 256 →
-      MatchBool (get_or marks.withdrawals i false) (EachEvent (WithdrawAfterRecall i j hi) hj → ⊥)
-      (EachEvent (WithdrawAfterRecall i j hi) hj)
-  withdrawals_decided marks is its few =
-      subst (λ (g : List Event). MatchBool (get_or marks.withdrawals i false)
-      (EachEvent (WithdrawAfterRecall i j g) hj → ⊥) (EachEvent (WithdrawAfterRecall i j g) hj)) is
-      (events_decided (WithdrawAfterRecall i j (history_of ranks i)) hj (get_or marks.withdrawals i false)
-      (its.withdrawals i few))
+  -- the first of the rules, behind those that are kept
+  pub messages_break : (s : Spot) → BreaksBetweenAt lines ranks i j Messages s →
+      IsBreak lines ranks i j (record { clause = Messages; spot = s })
+  messages_break s breaks = record {
+    first = first_broken Keeps [] Messages (Bodies ∷ Outs ∷ Withdrawals ∷ []) (kept_none Keeps)
+        (not_kept Messages s breaks);
+    at = breaks;
+  }
 
-  pub answers_decided : (marks : Marks) → history_of ranks j ≡ hj → AreMarks lines ranks i hi marks → j < 256 →
-      MatchBool (get_or marks.answers j false) (EachEvent (UndoneAfterWithdraw i j hj) hi → ⊥)
-      (EachEvent (UndoneAfterWithdraw i j hj) hi)
-  answers_decided marks is its few =
-      subst (λ (g : List Event). MatchBool (get_or marks.answers j false) (EachEvent (UndoneAfterWithdraw i j g) hi →
-      ⊥) (EachEvent (UndoneAfterWithdraw i j g) hi)) is
-      (events_decided (UndoneAfterWithdraw i j (history_of ranks j)) hi (get_or marks.answers j false)
-      (its.answers j few))
+  pub bodies_break : (s : Spot) → Keeps Messages → BreaksBetweenAt lines ranks i j Bodies s →
+      IsBreak lines ranks i j (record { clause = Bodies; spot = s })
+  bodies_break s messages breaks = record {
+    first = first_broken Keeps (Messages ∷ []) Bodies (Outs ∷ Withdrawals ∷ [])
+        (kept_one Keeps Messages [] messages (kept_none Keeps)) (not_kept Bodies s breaks);
+    at = breaks;
+  }
+
+  pub outs_break : (s : Spot) → Keeps Messages → Keeps Bodies → BreaksBetweenAt lines ranks i j Outs s →
+      IsBreak lines ranks i j (record { clause = Outs; spot = s })
+  outs_break s messages bodies breaks = record {
+    first = first_broken Keeps (Messages ∷ Bodies ∷ []) Outs (Withdrawals ∷ [])
+        (kept_one Keeps Messages (Bodies ∷ []) messages (kept_one Keeps Bodies [] bodies (kept_none Keeps)))
+        (not_kept Outs s breaks);
+    at = breaks;
+  }
+
+  pub withdrawals_break : (s : Spot) → Keeps Messages → Keeps Bodies → Keeps Outs →
+      BreaksBetweenAt lines ranks i j Withdrawals s →
+      IsBreak lines ranks i j (record { clause = Withdrawals; spot = s })
+  withdrawals_break s messages bodies outs breaks = record {
+    first = first_broken Keeps (Messages ∷ Bodies ∷ Outs ∷ []) Withdrawals []
+        (kept_one Keeps Messages (Bodies ∷ Outs ∷ []) messages
+        (kept_one Keeps Bodies (Outs ∷ []) bodies (kept_one Keeps Outs [] outs (kept_none Keeps))))
+        (not_kept Withdrawals s breaks);
+    at = breaks;
+  }

@@ -15,18 +15,12 @@ use Rattle.nm_history.proofs.EachLemmas.{each_event}
 use Rattle.nm_check_rank.specs.Breaks.{BreaksFirstAt}
 use Rattle.nm_check_ranks.specs.CarriedBreaks.{BreaksBetweenAt, FirstAt, IsFirstBetween, PartAt, first_read}
 use Rattle.nm_check_ranks.specs.CarriedBreaks.{is_read_before, read_of}
-use Rattle.nm_check_ranks.specs.Marked.{Names, is_rank}
 use Rattle.nm_check_ranks.specs.declared.clauses.CarriedClause.TheVariants as carried
 use Rattle.nm_check_ranks.specs.declared.firsts.Part.TheVariants as part
 use Rattle.nm_check_ranks.specs.declared.firsts.Spot.{Spot}
 use Rattle.nm_check_ranks.proofs.MarkLemmas.{at_each_event}
 use Rattle.nm_check_ranks.proofs.ReadLemmas.{Before, NotBefore, order, read_early, read_kept, read_own}
 use Rattle.nm_check_ranks.proofs.SentLemmas.{each_next, in_order}
-
--- whether a rank is named tells whether the rule breaks with it
-pub named_keeps : (R : ℕ → Type 0) (named : Option ℕ) (y : ℕ) (b : Bool) → b ≡ is_rank named y → Names R named →
-    MatchBool b (R y → ⊥) (R y)
-named_keeps R named y b is names = subst (λ (t : Bool). MatchBool t (R y → ⊥) (R y)) (sym is) (names y)
 
 early : (s t : Spot) (x : ℕ) → t.rank ≡ x → Before s t → (s.rank < x) ⊎ ((s.rank ≡ x) × (s.at ≤ t.at))
 early s t x here (inl low) = inl (omega (arith, low, here))

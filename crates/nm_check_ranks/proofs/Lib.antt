@@ -5,7 +5,6 @@ mod CountingLemmas
 mod FirstLemmas
 pub mod ItemLemmas
 mod MarkLemmas
-mod MarkedLemmas
 mod MiscountLemmas
 mod OverLemmas
 mod PairLemmas

@@ -1,13 +1,13 @@
--- The ranks with which a history breaks a rule, one event after another.
-use Rattle.std.proofs.Common.{◌≡◌, ℕ, ◌+◌, ◌<◌, ◌≤◌, ◌==◌, ◌&&◌, Bool, true, false, cond, Some, None, List, []}
+-- Where a history first breaks a rule with each rank, one event after another.
+use Rattle.std.proofs.Common.{◌≡◌, ℕ, ◌+◌, ◌<◌, ◌≤◌, ◌==◌, ◌&&◌, Bool, true, false, cond, Option, Some, None, List, []}
 use Rattle.std.proofs.Common.{◌∷◌, ◌++◌, length, take, drop, get_or, set, refl, sym, ◌∙◌, ap, subst, arith}
-use Rattle.std.specs.Prelude.{IsSomeAnd, IsTrue, MatchBool}
+use Rattle.std.specs.Prelude.{IsSomeAnd, IsTrue, MatchBool, MatchOption}
 use Rattle.std.specs.Bool.{OnTrue}
 use Rattle.std.specs.List.{slice_get}
 use Rattle.std.proofs.lemmas.Bool.{false≢true}
 use Rattle.std.proofs.lemmas.Bool.Decides.{nat_tests}
 use Rattle.std.proofs.lemmas.Grind.{get_or-set_at}
-use Rattle.std.proofs.lemmas.List.{get_or-set_other, take_all}
+use Rattle.std.proofs.lemmas.List.{get_or-set_other}
 use Rattle.nm_types.specs.declared.messages.Arrival.{Arrival}
 use Rattle.nm_history.specs.declared.events.Event.{Event}
 use Rattle.nm_history.specs.declared.events.Happened.{Happened}
@@ -20,75 +20,62 @@ use Rattle.nm_history.specs.Growing.{ArrivesNext}
 use Rattle.nm_history.specs.Happens.{happened, is_asked_send, is_recall, is_withdraw}
 use Rattle.nm_history.specs.RankRun.{NumberAt}
 use Rattle.nm_history.specs.Sends.{arrivals, envelope, sends}
-use Rattle.nm_history.proofs.AtEachLemmas.{AtEach-front, AtEach-push, AtEach-split}
+use Rattle.nm_history.proofs.AtEachLemmas.{AtEach-split}
 use Rattle.nm_history.proofs.OnceLemmas.{eqb_self}
 use Rattle.nm_history.proofs.AskedLemmas.{asked_sends}
 use Rattle.nm_lookups.specs.Deciding.{Decides}
-use Rattle.nm_lookups.proofs.StepLemmas.{none_yet}
-use Rattle.nm_check_ranks.specs.Marked.{AreMarked, Names}
+use Rattle.nm_lookups.proofs.StepLemmas.{all_kept, goes_on}
+use Rattle.nm_check_rank.specs.Breaks.{BreaksFirstAt}
+use Rattle.nm_check_rank.proofs.BreakLemmas.{breaks_first}
+use Rattle.nm_check_ranks.specs.Marked.{Names, noted}
 use Rattle.nm_types.proofs.NumberLemmas.{same_number}
-use Rattle.nm_types.proofs.ListLemmas.{take_next, split_at}
+use Rattle.nm_types.proofs.ListLemmas.{split_at}
 
-module _ (R : ℕ → List Event → Event → Type 0) where
-  pub none_marked : (h : List Event) (marks : List Bool) → ((i : ℕ) → i < 256 → get_or marks i false ≡ false) →
-      AreMarked R (take 0 h) marks
-  none_marked h marks none i few =
-      subst (λ (b : Bool). MatchBool b (AtEach (R i) (take 0 h) → ⊥) (AtEach (R i) (take 0 h))) (sym (none i few))
-      (none_yet (R i) h)
+-- what is known after so many events of the first that breaks a rule
+abbrev pub SoFar : (List Event → Event → Type 0) → List Event → ℕ → Option ℕ → Type 0
+SoFar R h k found = MatchOption found (AtEach R (take k h)) (BreaksFirstAt (AtEach R) h)
 
-  -- an event that breaks the rule with a rank, where the others keep what they had
-  one_more : (before : List Event) (e : Event) (was : Bool) (breaks : Bool) (i : ℕ) →
-      MatchBool was (AtEach (R i) before → ⊥) (AtEach (R i) before) → MatchBool breaks (R i before e → ⊥)
-      (R i before e) → (now : Bool) →
-      ((breaks ≡ true → now ≡ true) × (breaks ≡ false → now ≡ was)) →
-      MatchBool now (AtEach (R i) (before ++ e ∷ []) → ⊥) (AtEach (R i) (before ++ e ∷ []))
-  one_more before e was true i kept broken now same =
-      subst (λ (b : Bool). MatchBool b (AtEach (R i) (before ++ e ∷ []) → ⊥) (AtEach (R i) (before ++ e ∷ [])))
-      (sym (same.0 refl))
-      (λ each. broken (AtEach-split (R i) before e [] each))
-  one_more before e true false i kept here now same =
-      subst (λ (b : Bool). MatchBool b (AtEach (R i) (before ++ e ∷ []) → ⊥) (AtEach (R i) (before ++ e ∷ [])))
-      (sym (same.1 refl))
-      (λ each. kept (AtEach-front (R i) before e each))
-  one_more before e false false i kept here now same =
-      subst (λ (b : Bool). MatchBool b (AtEach (R i) (before ++ e ∷ []) → ⊥) (AtEach (R i) (before ++ e ∷ [])))
-      (sym (same.1 refl))
-      (AtEach-push (R i) before e kept here)
+module _ (R : List Event → Event → Type 0) (h : List Event) where
+  -- .. and with one event more
+  pub noted_more : (k : ℕ) (e : Event) → k < length h → e ≡ get_or h k e → (breaks : Bool) →
+      MatchBool breaks (R (take k h) e → ⊥) (R (take k h) e) → (found : Option ℕ) → SoFar R h k found →
+      SoFar R h (k + 1) (noted breaks k found)
+  noted_more k e inside is true broken None kept = breaks_first R h k e inside is kept broken
+  noted_more k e inside is true broken (Some j) first = first
+  noted_more k e inside is false here None kept = goes_on R h k e inside is kept here
+  noted_more k e inside is false here (Some j) first = first
 
-  other_rank : (a i : ℕ) → (a == i) ≡ false → i ≡ a → ⊥
-  other_rank a i apart same = let equal : (a == i) ≡ true = grind (arith, nat_tests) in cc
+  pub noted_all : (k : ℕ) → length h ≤ k → (found : Option ℕ) → SoFar R h k found →
+      MatchOption found (AtEach R h) (BreaksFirstAt (AtEach R) h)
+  noted_all k over None kept = all_kept R h k over kept
+  noted_all k over (Some j) first = first
 
-  mark_of : (marks : List Bool) (a i : ℕ) → a < length marks →
-      (((a == i) ≡ true → get_or (set marks a true) i false ≡ true)
-      × ((a == i) ≡ false → get_or (set marks a true) i false ≡ get_or marks i false))
-  mark_of marks a i inside = (
-    λ same. get_or-set_at marks a i true false (sym (same_number a i same)) inside,
-    λ apart. get_or-set_other marks a i true false (other_rank a i apart),
-  )
+other_rank : (a i : ℕ) → (a == i) ≡ false → i ≡ a → ⊥
+other_rank a i apart same = let equal : (a == i) ≡ true = grind (arith, nat_tests) in cc
 
-  -- the next event names a rank
-  pub marked : (h : List Event) (k : ℕ) (e : Event) (marks : List Bool) (a : ℕ) → k < length h → e ≡ get_or h k e →
-      a < length marks →
-      AreMarked R (take k h) marks → Names (λ i. R i (take k h) e) (Some a) → AreMarked R (take (k + 1) h)
-      (set marks a true)
-  marked h k e marks a inside is room before named i few =
-      subst (λ (g : List Event). MatchBool (get_or (set marks a true) i false) (AtEach (R i) g → ⊥) (AtEach (R i) g))
-      (sym (take_next h k e inside is))
-      (one_more (take k h) e (get_or marks i false) (a == i) i (before i few) (named i)
-      (get_or (set marks a true) i false) (mark_of marks a i room))
+-- a rank is noted where it was not
+pub noted_at : (firsts : List (Option ℕ)) (a at y : ℕ) → a < length firsts → get_or firsts a None ≡ None →
+    get_or (set firsts a (Some at)) y None ≡ noted (a == y) at (get_or firsts y None)
+noted_at firsts a at y inside none = by_rank (a == y) refl
+  where
+    by_rank : (b : Bool) → (a == y) ≡ b → get_or (set firsts a (Some at)) y None ≡ noted b at (get_or firsts y None)
+    by_rank true same =
+        let is : a ≡ y = same_number a y same in
+        get_or-set_at firsts a y (Some at) None (sym is) inside
+        ∙ ap (λ (o : Option ℕ). noted true at o) (sym none ∙ ap (λ (n : ℕ). get_or firsts n None) is)
+    by_rank false apart = get_or-set_other firsts a y (Some at) None (other_rank a y apart)
 
-  -- .. or none
-  pub unmarked : (h : List Event) (k : ℕ) (e : Event) (marks : List Bool) → k < length h → e ≡ get_or h k e →
-      AreMarked R (take k h) marks → Names (λ i. R i (take k h) e) None → AreMarked R (take (k + 1) h) marks
-  unmarked h k e marks inside is before named i few =
-      subst (λ (g : List Event). MatchBool (get_or marks i false) (AtEach (R i) g → ⊥) (AtEach (R i) g))
-      (sym (take_next h k e inside is))
-      (one_more (take k h) e (get_or marks i false) false i (before i few) (named i) (get_or marks i false)
-      (λ absurdly. cc, λ same. refl))
-
-  pub all_marked : (h : List Event) (k : ℕ) (marks : List Bool) → length h ≤ k → AreMarked R (take k h) marks →
-      AreMarked R h marks
-  all_marked h k marks over before = subst (λ (g : List Event). AreMarked R g marks) (take_all k h over) before
+-- .. and not where it was
+pub noted_before : (firsts : List (Option ℕ)) (a at y k : ℕ) → get_or firsts a None ≡ Some k →
+    get_or firsts y None ≡ noted (a == y) at (get_or firsts y None)
+noted_before firsts a at y k some = by_rank (a == y) refl
+  where
+    by_rank : (b : Bool) → (a == y) ≡ b → get_or firsts y None ≡ noted b at (get_or firsts y None)
+    by_rank true same =
+        let here : get_or firsts y None ≡ Some k =
+        sym (ap (λ (n : ℕ). get_or firsts n None) (same_number a y same)) ∙ some in
+        here ∙ sym (ap (λ (o : Option ℕ). noted true at o) here)
+    by_rank false apart = refl
 
 at_each_after : (R : ℕ → Happened → Type 0) (before h : List Event) → EachEvent R h →
     AtEachAfter (λ before e. R e.stamp e.what) before h

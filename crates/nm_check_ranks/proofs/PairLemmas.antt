@@ -1,5 +1,5 @@
 -- What holds of the pairs of ranks before one, by sender and then receiver.
-use Rattle.std.proofs.Common.{◌≡◌, ℕ, ◌<◌, Option, Some, None, List, [], ap, refl, sym, ◌∙◌, subst, ⊎_elim}
+use Rattle.std.proofs.Common.{◌≡◌, ℕ, ◌<◌, Option, Some, None, List, [], ap, length, refl, sym, ◌∙◌, subst, ⊎_elim}
 use Rattle.std.specs.Prelude.{IfSome, IsSomeAnd}
 use Rattle.std.specs.Option.{option_map_or}
 use Rattle.std.specs.List.{slice_get}
@@ -8,12 +8,13 @@ use Rattle.nm_history.specs.declared.events.Event.{Event}
 use Rattle.nm_history.specs.Quiescence.{EachPair, EachRank, Ended, history_of}
 use Rattle.nm_types.specs.declared.scripts.Line.{Line}
 use Rattle.nm_types.specs.Commands.{commands_of}
-use Rattle.nm_check_ranks.specs.Marked.{AreMarks, BreaksTo, BreaksPair}
+use Rattle.nm_types.proofs.ListLemmas.{get_some}
+use Rattle.nm_check_ranks.specs.Marked.{BreaksTo, BreaksPair}
 use Rattle.nm_check_rank.specs.FirstBroken.{IsFirstBroken}
 use Rattle.nm_check_ranks.specs.CarriedClauses.{KeepsCarried, PairDelivered, StandsBefore, carried_order}
-use Rattle.nm_check_ranks.specs.declared.marks.Marks.{Marks}
-use Rattle.nm_check_ranks.specs.declared.clauses.CarriedClause.{CarriedClause}
+use Rattle.nm_check_ranks.specs.declared.between.Break.{Break}
 use Rattle.nm_check_ranks.proofs.RankLemmas.{UpTo}
+use Rattle.nm_check_ranks.proofs.TableLemmas.{its_history}
 
 module _ (D : ℕ → ℕ → List Event → List Event → Type 0) (ranks : List Ended) (i j : ℕ) (a : Ended)
     (is : slice_get ranks i ≡ Some a) where
@@ -52,23 +53,21 @@ module _ (D : ℕ → ℕ → List Event → List Event → Type 0) (ranks : Lis
       by_sender (Some x) is_k = λ l. by_receiver x is_k l (slice_get ranks l) refl
 
 -- the first pair of ranks between which a rule is broken, by the first receiver of a sender
-pub breaks_pair : (lines : List Line) (ranks : List Ended) (i j : ℕ) (c : CarriedClause) (marks : Marks) →
-    IsSomeAnd (slice_get ranks i) (λ rank. AreMarks lines ranks i rank.events marks) →
+pub breaks_pair : (lines : List Line) (ranks : List Ended) (i j : ℕ) (b : Break) → i < length ranks →
     UpTo (λ i a. EachRank (λ j b. PairDelivered lines i j a.events b.events) ranks) ranks i →
-    ((rank : Ended) → history_of ranks i ≡ rank.events → AreMarks lines ranks i rank.events marks →
-    BreaksTo lines ranks i rank.events j c) →
-    BreaksPair lines ranks i j c
-breaks_pair lines ranks i j c marks there below breaks = by_rank (slice_get ranks i) refl there
-  where
-    by_rank : (o : Option Ended) → slice_get ranks i ≡ o →
-        IsSomeAnd o (λ rank. AreMarks lines ranks i rank.events marks) → BreaksPair lines ranks i j c
-    by_rank None is there = absurd there
-    by_rank (Some a) is there =
-        let first : BreaksTo lines ranks i a.events j c =
-        breaks a (ap (λ (o : Option Ended). option_map_or (λ rank. rank.events) o []) is) there in
-        record {
-          earlier = pairs_earlier (PairDelivered lines) ranks i j a is below first.earlier;
-          first = subst (λ (o : Option Ended). IsSomeAnd o (λ a. IsSomeAnd (slice_get ranks j)
-              (λ b. IsFirstBroken (KeepsCarried i j (commands_of i lines) (commands_of j lines) a.events b.events)
-              carried_order c))) (sym is) first.first;
-        }
+    BreaksTo lines ranks i j b → BreaksPair lines ranks i j b
+breaks_pair lines ranks i j b inside below to =
+    let own = get_some ranks i inside in
+    let history : history_of ranks i ≡ own.0.events =
+    ap (λ (o : Option Ended). option_map_or (λ rank. rank.events) o []) own.1 in
+    record {
+      earlier = pairs_earlier (PairDelivered lines) ranks i j own.0 own.1 below
+          (subst (λ (h : List Event). EachRank (λ l b. l < j → PairDelivered lines i l h b.events) ranks) history
+          to.earlier);
+      first = its_history ranks i (λ h. IsSomeAnd (slice_get ranks j) (λ y. IsFirstBroken
+          (KeepsCarried i j (commands_of i lines) (commands_of j lines) h y.events) carried_order b.clause)) inside
+          (its_history ranks j (λ g. IsFirstBroken
+          (KeepsCarried i j (commands_of i lines) (commands_of j lines) (history_of ranks i) g) carried_order b.clause)
+          to.inside to.its.first);
+      at = to.its.at;
+    }

@@ -1,20 +1,28 @@
--- The first event at which a rule of rest breaks.
-use Rattle.std.proofs.Common.{◌≡◌, ℕ, Bool, true, false, not, List, refl, sym}
-use Rattle.std.specs.Prelude.{IfSome, IsSomeAnd, MatchOption, Option, Some, None, is_some}
-use Rattle.nm_types.specs.Commands.{commands_of}
-use Rattle.nm_lookups.specs.Deciding.{Decides}
+-- The first rule of rest that is broken, and the first event at which it breaks.
+use Rattle.std.proofs.Common.{◌≡◌, ℕ, List, [], ◌∷◌, Option, Some, None, refl}
+use Rattle.std.specs.Prelude.{All, IfSome, IsSomeAnd, MatchOption}
 use Rattle.std.specs.List.{slice_get}
-use Rattle.std.proofs.lemmas.Bool.{false≢true}
+use Rattle.nm_types.specs.Commands.{commands_of}
 use Rattle.nm_types.specs.declared.scripts.Line.{Line}
-use Rattle.nm_history.specs.Quiescence.{EachRank, Ended, Packets, IsStopped}
+use Rattle.nm_history.specs.Quiescence.{AskedOver, EachRank, EagerOver, Ended, IsStopped, Packets, RecallsAnswered}
 use Rattle.nm_history.proofs.EachLemmas.{each_event}
+use Rattle.nm_check_rank.specs.Breaks.{BreaksFirstAt}
+use Rattle.nm_check_rank.proofs.BreakLemmas.{not_kept}
+use Rattle.nm_check_rank.proofs.FirstBrokenLemmas.{first_broken, kept_none, kept_one}
 use Rattle.nm_check_ranks.specs.Over.{AskedIsOver, EagerIsOver}
-use Rattle.nm_check_ranks.specs.RestBreaks.{AreInOrder, BreaksStanding, KeepRestAt, RestAt, rest_clause}
+use Rattle.nm_check_ranks.specs.RestBreaks.{AreInOrder, BreaksRestAt, BreaksStanding, IsRestBreak, KeepRestAt, RestAt}
+use Rattle.nm_check_ranks.specs.RestBreaks.{rest_clause}
 use Rattle.nm_check_ranks.specs.RestClauses.{KeepsRest}
+use Rattle.nm_check_ranks.specs.declared.firsts.Spot.{Spot}
+use Rattle.nm_check_ranks.specs.declared.rest.clauses.RestClause.{RestClause}
+use Rattle.nm_check_ranks.specs.declared.rest.clauses.RestClause.TheVariants.{Arrived, Eager, Asked, Recalls, Waits, Counts}
 use Rattle.nm_check_ranks.specs.declared.rest.firsts.EventRule.{EventRule}
 use Rattle.nm_check_ranks.specs.declared.rest.firsts.EventRule.TheVariants as rule
+use Rattle.nm_check_ranks.specs.declared.rest.resting.RestBreak.{RestBreak}
+use Rattle.nm_check_ranks.specs.declared.rest.resting.RestBreak.TheVariants as kind
 use Rattle.nm_check_ranks.proofs.CameLemmas.{all_came}
-use Rattle.nm_check_ranks.proofs.OverLemmas.{of_events}
+use Rattle.nm_check_ranks.proofs.MarkLemmas.{at_each_event}
+use Rattle.nm_check_ranks.proofs.OverLemmas.{of_events, of_sends}
 
 -- what holds of each rank by what held
 each_by : (P Q : ℕ → Ended → Type 0) (ranks : List Ended) → ((x : ℕ) (rank : Ended) → P x rank → Q x rank) →
@@ -45,15 +53,45 @@ whole_rule rule.Recalls ranks lines packets ordered each =
     each_by (λ x rank. KeepRestAt rule.Recalls ranks x rank.events rank.events) _ ranks
     (λ x rank here. each_event (RestAt rule.Recalls ranks x rank.events) rank.events here) each
 
--- where there is a first one, not all keep the rule
-pub first_decides : {X P : Type 0} (found : Option X) (none : Bool) (Breaks : X → Type 0) →
-    is_some found ≡ not none → MatchOption found P Breaks → ((x : X) → Breaks x → P → ⊥) → Decides none P
-first_decides None true Breaks is kept never = kept
-first_decides None false Breaks is kept never = absurd (false≢true is)
-first_decides (Some x) true Breaks is first never = absurd (false≢true (sym is))
-first_decides (Some x) false Breaks is first never = never x first
+-- .. and the other way round
+each_rule : (r : EventRule) (ranks : List Ended) (lines : List Line) (packets : List Packets) →
+    (r ≡ rule.Arrived → ⊥) → KeepsRest lines ranks packets (rest_clause r) →
+    EachRank (λ x rank. KeepRestAt r ranks x rank.events rank.events) ranks
+each_rule rule.Arrived ranks lines packets other keeps = absurd (other refl)
+each_rule rule.Eager ranks lines packets other keeps =
+    each_by (λ x a. EachRank (λ j b. EagerOver x j a.events b.events) ranks)
+    (λ x rank. KeepRestAt rule.Eager ranks x rank.events rank.events) ranks
+    (λ x rank here. at_each_event (RestAt rule.Eager ranks x rank.events) rank.events
+    (of_sends (EagerIsOver x rank.events) ranks rank.events here)) keeps
+each_rule rule.Asked ranks lines packets other keeps =
+    each_by (λ x a. EachRank (λ j b. AskedOver x j a.events b.events) ranks)
+    (λ x rank. KeepRestAt rule.Asked ranks x rank.events rank.events) ranks
+    (λ x rank here. at_each_event (RestAt rule.Asked ranks x rank.events) rank.events
+    (of_sends (AskedIsOver x rank.events) ranks rank.events here)) keeps
+each_rule rule.Recalls ranks lines packets other keeps =
+    each_by (λ x rank. RecallsAnswered rank.events) (λ x rank. KeepRestAt rule.Recalls ranks x rank.events rank.events)
+    ranks (λ x rank here. at_each_event (RestAt rule.Recalls ranks x rank.events) rank.events here) keeps
 
-pub not_standing : (lines : List Line) (ranks : List Ended) (i : ℕ) → BreaksStanding lines ranks i →
+-- a rule that breaks at an event is not kept
+not_rest : (r : EventRule) (ranks : List Ended) (lines : List Line) (packets : List Packets) (spot : Spot) →
+    (r ≡ rule.Arrived → ⊥) → BreaksRestAt r ranks spot → KeepsRest lines ranks packets (rest_clause r) → ⊥
+not_rest r ranks lines packets spot other breaks keeps =
+    by_rank (slice_get ranks spot.rank) breaks.first (each_rule r ranks lines packets other keeps spot.rank)
+  where
+    by_rank : (o : Option Ended) →
+        IsSomeAnd o (λ rank. BreaksFirstAt (KeepRestAt r ranks spot.rank rank.events) rank.events spot.at) →
+        IfSome o (λ rank. KeepRestAt r ranks spot.rank rank.events rank.events) → ⊥
+    by_rank None first each = first
+    by_rank (Some rank) first each =
+        not_kept (λ before e. RestAt r ranks spot.rank rank.events e.stamp e.what) rank.events spot.at first each
+
+-- where there is a first one, the rule is not kept
+pub missing : {X P : Type 0} (found : Option X) (Breaks : X → Type 0) → MatchOption found P Breaks → (P → ⊥) →
+    MatchOption found P (λ x. Breaks x × (P → ⊥))
+missing None Breaks kept not = absurd (not kept)
+missing (Some x) Breaks there not = (there, not)
+
+not_standing : (lines : List Line) (ranks : List Ended) (i : ℕ) → BreaksStanding lines ranks i →
     EachRank (λ i rank. IsStopped (commands_of i lines) rank) ranks → ⊥
 not_standing lines ranks i breaks each = by_rank (slice_get ranks i) breaks.first (each i)
   where
@@ -61,3 +99,71 @@ not_standing lines ranks i breaks each = by_rank (slice_get ranks i) breaks.firs
         IfSome o (λ rank. IsStopped (commands_of i lines) rank) → ⊥
     by_rank None there here = there
     by_rank (Some rank) never here = never here
+
+module _ (lines : List Line) (ranks : List Ended) (packets : List Packets) where
+  abbrev Keeps : RestClause → Type 0
+  Keeps c = KeepsRest lines ranks packets c
+
+  abbrev Breaks : RestBreak → Type 0
+  Breaks b = IsRestBreak lines ranks packets b
+
+  -- the first of the rules, behind those that are kept
+  pub arrived_break : (s : Spot) → BreaksRestAt rule.Arrived ranks s → (Keeps Arrived → ⊥) →
+      Breaks (kind.Event rule.Arrived s)
+  arrived_break s breaks broken = record {
+    first = first_broken Keeps [] Arrived (Eager ∷ Asked ∷ Recalls ∷ Waits ∷ Counts ∷ []) (kept_none Keeps) broken;
+    at = breaks;
+  }
+
+  pub eager_break : (s : Spot) → Keeps Arrived → BreaksRestAt rule.Eager ranks s → Breaks (kind.Event rule.Eager s)
+  eager_break s arrived breaks = record {
+    first = first_broken Keeps (Arrived ∷ []) Eager (Asked ∷ Recalls ∷ Waits ∷ Counts ∷ [])
+        (kept_one Keeps Arrived [] arrived (kept_none Keeps))
+        (not_rest rule.Eager ranks lines packets s (λ same. cc) breaks);
+    at = breaks;
+  }
+
+  kept_two : Keeps Arrived → Keeps Eager → All Keeps (Arrived ∷ Eager ∷ [])
+  kept_two arrived eager =
+      kept_one Keeps Arrived (Eager ∷ []) arrived (kept_one Keeps Eager [] eager (kept_none Keeps))
+
+  pub asked_break : (s : Spot) → Keeps Arrived → Keeps Eager → BreaksRestAt rule.Asked ranks s →
+      Breaks (kind.Event rule.Asked s)
+  asked_break s arrived eager breaks = record {
+    first = first_broken Keeps (Arrived ∷ Eager ∷ []) Asked (Recalls ∷ Waits ∷ Counts ∷ [])
+        (kept_two arrived eager) (not_rest rule.Asked ranks lines packets s (λ same. cc) breaks);
+    at = breaks;
+  }
+
+  kept_more : (cs : List RestClause) → Keeps Arrived → Keeps Eager → Keeps Asked → All Keeps cs →
+      All Keeps (Arrived ∷ Eager ∷ Asked ∷ cs)
+  kept_more cs arrived eager asked more =
+      kept_one Keeps Arrived (Eager ∷ Asked ∷ cs) arrived
+      (kept_one Keeps Eager (Asked ∷ cs) eager (kept_one Keeps Asked cs asked more))
+
+  pub recalls_break : (s : Spot) → Keeps Arrived → Keeps Eager → Keeps Asked → BreaksRestAt rule.Recalls ranks s →
+      Breaks (kind.Event rule.Recalls s)
+  recalls_break s arrived eager asked breaks = record {
+    first = first_broken Keeps (Arrived ∷ Eager ∷ Asked ∷ []) Recalls (Waits ∷ Counts ∷ [])
+        (kept_more [] arrived eager asked (kept_none Keeps))
+        (not_rest rule.Recalls ranks lines packets s (λ same. cc) breaks);
+    at = breaks;
+  }
+
+  pub waits_break : (i : ℕ) → Keeps Arrived → Keeps Eager → Keeps Asked → Keeps Recalls →
+      BreaksStanding lines ranks i → Breaks (kind.Standing i)
+  waits_break i arrived eager asked recalls breaks = record {
+    first = first_broken Keeps (Arrived ∷ Eager ∷ Asked ∷ Recalls ∷ []) Waits (Counts ∷ [])
+        (kept_more (Recalls ∷ []) arrived eager asked (kept_one Keeps Recalls [] recalls (kept_none Keeps)))
+        (not_standing lines ranks i breaks);
+    at = breaks;
+  }
+
+  pub counts_break : Keeps Arrived → Keeps Eager → Keeps Asked → Keeps Recalls → Keeps Waits →
+      (Keeps Counts → ⊥) → Breaks kind.Counts
+  counts_break arrived eager asked recalls waits broken = record {
+    first = first_broken Keeps (Arrived ∷ Eager ∷ Asked ∷ Recalls ∷ Waits ∷ []) Counts []
+        (kept_more (Recalls ∷ Waits ∷ []) arrived eager asked
+        (kept_one Keeps Recalls (Waits ∷ []) recalls (kept_one Keeps Waits [] waits (kept_none Keeps)))) broken;
+    at = tt;
+  }

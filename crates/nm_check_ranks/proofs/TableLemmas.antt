@@ -7,12 +7,13 @@ use Rattle.std.proofs.lemmas.List.{length-map}
 use Rattle.std.proofs.lemmas.Option.{MatchOption-from_none, slice_get_past}
 use Rattle.std.specs.Prelude.{Bool}
 use Rattle.nm_types.specs.declared.scripts.Line.{Line}
+use Rattle.nm_types.proofs.ListLemmas.{get_some}
+use Rattle.nm_history.specs.declared.events.Event.{Event}
 use Rattle.nm_history.specs.Quiescence.{Ended, history_of}
 use Rattle.nm_report.specs.declared.accounts.RankAccount.{RankAccount}
 use Rattle.nm_report.specs.Ends.{end_of_account, ends_of}
 use Rattle.nm_report.proofs.EndLemmas.{end_at}
 use Rattle.nm_lookups.specs.Deciding.{Decides}
-use Rattle.nm_check_ranks.specs.Marked.{AreMarks}
 use Rattle.nm_check_rank.specs.Tabled.{AreRankTables}
 use Rattle.nm_check_ranks.specs.Tabled.{AreTabled}
 use Rattle.nm_check_ranks.specs.declared.marks.Marks.{Marks}
@@ -59,28 +60,21 @@ none_asked ranks tables i Q tabled over =
     let many : length tables ≡ length ranks = tabled.1.as_many in
     MatchOption-from_none (slice_get ranks i) Q (slice_get_past ranks i (omega (arith, many, over)))
 
--- what is so of the rank that there is, with its marks
-pub marked_at : (lines : List Line) (ranks : List Ended) (i : ℕ) (marks : Marks) (Q : Ended → Type 0) →
-    IsSomeAnd (slice_get ranks i) (λ rank. AreMarks lines ranks i rank.events marks) →
-    ((rank : Ended) → history_of ranks i ≡ rank.events → AreMarks lines ranks i rank.events marks → Q rank) →
-    IfSome (slice_get ranks i) Q
-marked_at lines ranks i marks Q there f = by_rank (slice_get ranks i) refl there
+-- what is so of the history of the rank that there is
+pub some_history : (ranks : List Ended) (i : ℕ) (Q : List Event → Type 0) → Q (history_of ranks i) →
+    IfSome (slice_get ranks i) (λ rank. Q rank.events)
+some_history ranks i Q here = by_rank (slice_get ranks i) here
   where
-    by_rank : (o : Option Ended) → slice_get ranks i ≡ o →
-        IsSomeAnd o (λ rank. AreMarks lines ranks i rank.events marks) → IfSome o Q
-    by_rank None is there = tt
-    by_rank (Some rank) is there = f rank (ap (λ (o : Option Ended). option_map_or (λ rank. rank.events) o []) is) there
+    by_rank : (o : Option Ended) → Q (option_map_or (λ rank. rank.events) o []) → IfSome o (λ rank. Q rank.events)
+    by_rank None here = tt
+    by_rank (Some rank) here = here
 
-pub marked_some : (lines : List Line) (ranks : List Ended) (i : ℕ) (marks : Marks) (Q : Ended → Type 0) →
-    IsSomeAnd (slice_get ranks i) (λ rank. AreMarks lines ranks i rank.events marks) →
-    ((rank : Ended) → history_of ranks i ≡ rank.events → AreMarks lines ranks i rank.events marks → Q rank) →
-    IsSomeAnd (slice_get ranks i) Q
-marked_some lines ranks i marks Q there f = by_rank (slice_get ranks i) refl there
-  where
-    by_rank : (o : Option Ended) → slice_get ranks i ≡ o →
-        IsSomeAnd o (λ rank. AreMarks lines ranks i rank.events marks) → IsSomeAnd o Q
-    by_rank None is there = absurd there
-    by_rank (Some rank) is there = f rank (ap (λ (o : Option Ended). option_map_or (λ rank. rank.events) o []) is) there
+pub its_history : (ranks : List Ended) (i : ℕ) (Q : List Event → Type 0) → i < length ranks → Q (history_of ranks i) →
+    IsSomeAnd (slice_get ranks i) (λ rank. Q rank.events)
+its_history ranks i Q inside here =
+    let own = get_some ranks i inside in
+    subst (λ (o : Option Ended). IsSomeAnd o (λ rank. Q rank.events)) (sym own.1)
+    (subst Q (ap (λ (o : Option Ended). option_map_or (λ rank. rank.events) o []) own.1) here)
 
 -- no marks: what stands for those of a rank that there is not
 abbrev pub blank : Marks

@@ -6,9 +6,10 @@ use Rattle.nm_history.specs.AtEach.{AtEach}
 use Rattle.nm_types.specs.declared.scripts.Line.{Line}
 use Rattle.nm_types.specs.Commands.{commands_of}
 use Rattle.nm_history.specs.Delivery.{ArriveInOrder}
-use Rattle.nm_history.specs.Quiescence.{EachPair, EachRank, Ended, IsAnswered, IsStopped}
+use Rattle.nm_history.specs.Quiescence.{EachPair, EachRank, Ended, IsAnswered, IsStopped, Packets}
 use Rattle.nm_history.specs.Sends.{arrivals, sends}
 use Rattle.nm_check_rank.specs.Breaks.{BreaksFirstAt}
+use Rattle.nm_check_rank.specs.FirstBroken.{IsFirstBroken}
 use Rattle.nm_check_ranks.specs.declared.firsts.Spot.{Spot}
 use Rattle.nm_check_ranks.specs.Marked.{KeepsLocal}
 use Rattle.nm_check_ranks.specs.Over.{AskedIsOver, EagerIsOver, HasCome, SendKeeps}
@@ -16,6 +17,9 @@ use Rattle.nm_check_ranks.specs.declared.rest.clauses.RestClause.{RestClause}
 use Rattle.nm_check_ranks.specs.declared.rest.clauses.RestClause.TheVariants as rest
 use Rattle.nm_check_ranks.specs.declared.rest.firsts.EventRule.{EventRule}
 use Rattle.nm_check_ranks.specs.declared.rest.firsts.EventRule.TheVariants as rule
+use Rattle.nm_check_ranks.specs.declared.rest.resting.RestBreak.{RestBreak}
+use Rattle.nm_check_ranks.specs.declared.rest.resting.RestBreak.TheVariants as kind
+use Rattle.nm_check_ranks.specs.RestClauses.{KeepsRest, rest_order}
 
 -- what an event of rank x keeps of such a rule, by all that the rank did and all that the other ones did
 abbrev pub RestAt : EventRule → List Ended → ℕ → List Event → ℕ → Happened → Type 0
@@ -51,3 +55,20 @@ rest_clause rule.Recalls = rest.Recalls
 pub record BreaksStanding (lines : List Line) (ranks : List Ended) (i : ℕ) : Type 0 where
   pub earlier : EachRank (λ x rank. x < i → IsStopped (commands_of x lines) rank) ranks
   pub first : IsSomeAnd (slice_get ranks i) (λ rank. ¬ IsStopped (commands_of i lines) rank)
+
+-- the rule of a break
+abbrev pub clause_of : RestBreak → RestClause
+clause_of (kind.Event r spot) = rest_clause r
+clause_of (kind.Standing i) = rest.Waits
+clause_of kind.Counts = rest.Counts
+
+-- the place of a break is the first
+abbrev pub BreaksThere : List Line → List Ended → RestBreak → Type 0
+BreaksThere lines ranks (kind.Event r spot) = BreaksRestAt r ranks spot
+BreaksThere lines ranks (kind.Standing i) = BreaksStanding lines ranks i
+BreaksThere lines ranks kind.Counts = Unit {0}
+
+-- of the rules of rest it is the first that is broken, and it breaks there first
+pub record IsRestBreak (lines : List Line) (ranks : List Ended) (packets : List Packets) (b : RestBreak) : Type 0 where
+  pub first : IsFirstBroken (KeepsRest lines ranks packets) rest_order (clause_of b)
+  pub at : BreaksThere lines ranks b

@@ -13,10 +13,10 @@ ghost use Rattle.nm_history.specs.Sends.{sends, sent_bytes, sent_of};
 ghost use Rattle.nm_report.specs.Ends.{ends_of};
 ghost use Rattle.nm_lookups.specs.Deciding.{Decides};
 ghost use Rattle.nm_check_rank.specs.Tabled.{AreRankTables};
-ghost use Rattle.nm_check_ranks.specs.Marked.{AreMarked, KeepsLocal, Names};
+ghost use Rattle.nm_check_ranks.specs.Marked.{KeepsLocal, Names};
 ghost use Rattle.nm_check_ranks.specs.Tabled.{AreTabled};
 
-use crate::marks::{NAMES, named_unless};
+use crate::marks::named_unless;
 use nm_check_rank::paired::tables::Tables;
 use nm_history::{Event, Happened};
 use nm_lookups::asked::commands::command_of_line;
@@ -193,29 +193,4 @@ pub(crate) fn sender_not_shown(
         }
         _ => None,
     }
-}
-
-/// The senders whose messages rank j does not show as they were sent.
-pub(crate) fn mark_bodies(
-    j: u8,
-    events: &[Event],
-    own: &Tables,
-    lines: &[Line],
-    ranks: &[RankAccount],
-    tables: &[Tables],
-) -> [bool; NAMES]
-    requires own { AreRankTables j lines.now events.now own.now }
-    requires lawful { EachRank KeepsLocal (ends_of ranks.now) }
-    requires tabled { AreTabled (ends_of ranks.now) tables.now }
-    ensures { AreMarked (λ i before e. BodyAt i (commands_of i lines.now)
-        (sends (history_of (ends_of ranks.now) i) j) (commands_of j lines.now) before e.what)
-        events.now result }
-{
-    let mut marks = [false; NAMES];
-    for (k, e) in events.iter().enumerate() {
-        if let Some(i) = sender_not_shown(j, k, e, own, lines, ranks, tables) {
-            marks[i as usize] = true;
-        }
-    }
-    marks
 }

@@ -1,23 +1,22 @@
 //! Where a rule of the messages between two ranks breaks first.
 
-ghost use Rattle.std.specs.Prelude.{◌≡◌, ◌<◌, ℕ, List, MatchOption, Some, length, slice_get, take};
+ghost use Rattle.std.specs.Prelude.{◌≡◌, ◌<◌, ℕ, List, None, Some, slice_get, slice_index_or, take};
+ghost use Rattle.nm_types.specs.declared.scripts.Line as script_line;
 ghost use Rattle.nm_history.specs.declared.events.Event as event;
-ghost use Rattle.nm_history.specs.AtEach.{AtEach};
-ghost use Rattle.nm_history.specs.Quiescence.{EachRank};
+ghost use Rattle.nm_history.specs.Quiescence.{EachRank, Ended};
 ghost use Rattle.nm_history.specs.RankRun.{Always, NumberAt};
 ghost use Rattle.nm_report.specs.Ends.{ends_of};
-ghost use Rattle.nm_check_rank.specs.Breaks.{BreaksFirstAt};
 ghost use Rattle.nm_check_rank.specs.Tabled.{AreRankTables};
 ghost use Rattle.nm_check_ranks.specs.CarriedBreaks as spec;
 ghost use Rattle.nm_check_ranks.specs.CarriedBreaks.{FirstAt, IsFirstBetween, PartAt};
 ghost use Rattle.nm_check_ranks.specs.declared.clauses.CarriedClause.TheVariants as carried;
-ghost use Rattle.nm_check_ranks.specs.Marked.{KeepsLocal, Names, is_rank};
-ghost use Rattle.nm_check_ranks.specs.Tabled.{AreTabled, EachTabled};
+ghost use Rattle.nm_check_ranks.specs.Marked.{AreFirsts, AreMarks, KeepsLocal, Names, is_rank, noted, places_of};
+ghost use Rattle.nm_check_ranks.specs.Tabled.{AreTabled};
 
 use crate::bodies::sender_not_shown;
-use crate::clauses::CarriedClause;
 use crate::marks::{
-    receiver_not_asked, receiver_not_telling, sender_not_followed, sender_not_recalling,
+    Marks, NAMES, receiver_not_asked, receiver_not_telling, sender_not_followed,
+    sender_not_recalling,
 };
 use nm_check_rank::paired::tables::Tables;
 use nm_history::Event;
@@ -46,16 +45,6 @@ pub struct Spot {
     pub at: usize,
 }
 
-/// Whether this rank is named.
-fn is_named(named: Option<u8>, rank: u8) -> bool
-    ensures { result ≡ is_rank named rank }
-{
-    match named {
-        Some(a) => a == rank,
-        None => false,
-    }
-}
-
 /// The rank with which the event at a place of rank x breaks a part of the rules.
 fn broken_with(
     part: Part,
@@ -82,52 +71,64 @@ fn broken_with(
     }
 }
 
-/// The first event of rank x that breaks a part of the rules with rank y.
-fn first_part(
+/// Notes the place at which a history breaks a rule with the named rank, unless it broke it with that
+/// rank before.
+fn note(firsts: &mut [Option<usize>; NAMES], named: Option<u8>, at: usize)
+    ensures { (y : ℕ) → y < 256 →
+        slice_index_or firsts.new y None ≡ noted (is_rank named y) at (slice_index_or firsts.old y None) }
+{
+    if let Some(rank) = named {
+        let place = rank as usize;
+        if firsts[place].is_none() {
+            firsts[place] = Some(at);
+        }
+    }
+}
+
+/// The place at which the history of rank x first breaks a part of the rules, with each other rank.
+pub(crate) fn first_places(
     part: Part,
     x: u8,
-    y: u8,
     events: &[Event],
     own: &Tables,
     lines: &[Line],
     ranks: &[RankAccount],
     tables: &[Tables],
-) -> Option<usize>
+) -> [Option<usize>; NAMES]
     requires numbered { (n : ℕ) × Always (NumberAt n) events.now }
     requires own { AreRankTables x lines.now events.now own.now }
     requires lawful { EachRank KeepsLocal (ends_of ranks.now) }
     requires tabled { AreTabled (ends_of ranks.now) tables.now }
-    ensures { MatchOption result
-        (AtEach (PartAt part lines.now (ends_of ranks.now) x y) events.now)
-        (BreaksFirstAt (AtEach (PartAt part lines.now (ends_of ranks.now) x y)) events.now) }
+    ensures { AreFirsts (PartAt part lines.now (ends_of ranks.now) x) events.now result }
 {
+    let mut firsts = [None; NAMES];
     for (k, e) in events.iter().enumerate() {
         let named = broken_with(part, x, k, e, own, lines, ranks, tables);
-        if is_named(named, y) {
-            return Some(k);
-        }
+        note(&mut firsts, named, k);
     }
-    None
+    firsts
 }
 
-/// The first event of rank x that breaks a part of the rules with rank y, with the rank's own
-/// history and tables.
-fn first_at(
-    part: Part,
-    x: u8,
-    y: u8,
-    lines: &[Line],
-    ranks: &[RankAccount],
-    tables: &[Tables],
-) -> Option<Spot>
-    requires inside { x < length ranks.now }
-    requires lawful { EachRank KeepsLocal (ends_of ranks.now) }
-    requires tabled { EachTabled lines.now (ends_of ranks.now) tables.now }
-    ensures { FirstAt lines.now (ends_of ranks.now) part x y result }
+/// The place at which a rank first breaks a part of the rules with rank y.
+fn place_with(part: Part, y: u8, marks: &Marks) -> Option<usize>
+    ensures { result ≡ slice_index_or (places_of part marks.now) y None }
 {
-    let place = x as usize;
-    let events = ranks[place].history.as_slice();
-    match first_part(part, x, y, events, &tables[place], lines, ranks, tables) {
+    let place = y as usize;
+    match part {
+        Part::Arrivals => marks.arrivals[place],
+        Part::Bodies => marks.bodies[place],
+        Part::Outs => marks.outs[place],
+        Part::Withdrawals => marks.withdrawals[place],
+        Part::Answers => marks.answers[place],
+    }
+}
+
+/// The first event of rank x that breaks a part of the rules with rank y.
+pub(crate) fn first_at(part: Part, x: u8, y: u8, marks: &Marks) -> Option<Spot>
+    ensures { (lines : List script_line.Line) (ranks : List Ended) → AreMarks lines ranks x marks.now →
+        FirstAt lines ranks part x y result }
+{
+    match place_with(part, y, marks) {
         Some(at) => Some(Spot { rank: x, at }),
         None => None,
     }
@@ -155,44 +156,11 @@ fn first_read(a: Option<Spot>, b: Option<Spot>) -> Option<Spot>
 
 /// The first withdrawal at rank j that rank i had not asked for, or answer at rank i that rank j
 /// had not given.
-fn first_withdrawal(
-    i: u8,
-    j: u8,
-    lines: &[Line],
-    ranks: &[RankAccount],
-    tables: &[Tables],
-) -> Option<Spot>
-    requires sender { i < length ranks.now }
-    requires receiver { j < length ranks.now }
-    requires lawful { EachRank KeepsLocal (ends_of ranks.now) }
-    requires tabled { EachTabled lines.now (ends_of ranks.now) tables.now }
-    ensures { IsFirstBetween lines.now (ends_of ranks.now) i j carried.Withdrawals result }
+pub(crate) fn first_withdrawal(i: u8, j: u8, sender: &Marks, receiver: &Marks) -> Option<Spot>
+    ensures { (lines : List script_line.Line) (ranks : List Ended) → AreMarks lines ranks i sender.now →
+        AreMarks lines ranks j receiver.now → IsFirstBetween lines ranks i j carried.Withdrawals result }
 {
-    let asked = first_at(Part::Withdrawals, j, i, lines, ranks, tables);
-    let answered = first_at(Part::Answers, i, j, lines, ranks, tables);
+    let asked = first_at(Part::Withdrawals, j, i, receiver);
+    let answered = first_at(Part::Answers, i, j, sender);
     first_read(asked, answered)
-}
-
-/// The event at which a rule of the messages from rank i to rank j breaks first, as one reads the
-/// events of rank after rank.
-pub fn first_between_at(
-    clause: CarriedClause,
-    i: u8,
-    j: u8,
-    lines: &[Line],
-    ranks: &[RankAccount],
-    tables: &[Tables],
-) -> Option<Spot>
-    requires sender { i < length ranks.now }
-    requires receiver { j < length ranks.now }
-    requires lawful { EachRank KeepsLocal (ends_of ranks.now) }
-    requires tabled { EachTabled lines.now (ends_of ranks.now) tables.now }
-    ensures { IsFirstBetween lines.now (ends_of ranks.now) i j clause result }
-{
-    match clause {
-        CarriedClause::Messages => first_at(Part::Arrivals, j, i, lines, ranks, tables),
-        CarriedClause::Bodies => first_at(Part::Bodies, j, i, lines, ranks, tables),
-        CarriedClause::Outs => first_at(Part::Outs, i, j, lines, ranks, tables),
-        CarriedClause::Withdrawals => first_withdrawal(i, j, lines, ranks, tables),
-    }
 }

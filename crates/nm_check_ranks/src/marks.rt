@@ -1,4 +1,4 @@
-//! The ranks with which each history breaks a rule on messages.
+//! The rank with which an event breaks a rule on messages.
 
 ghost use Rattle.std.specs.Prelude.{◌≡◌, ◌<◌, ◌&&◌, if◌then◌else◌, ℕ, List, Some, None, slice_get};
 ghost use Rattle.std.specs.Prelude.{take, IsSomeAnd, IsTrue};
@@ -10,12 +10,12 @@ ghost use Rattle.nm_history.specs.Delivery.{earlier_than};
 ghost use Rattle.nm_history.specs.Happens.{happened, is_recall, is_withdraw};
 ghost use Rattle.nm_history.specs.Growing.{ArrivesNext};
 ghost use Rattle.nm_history.specs.Quiescence.{EachRank, history_of};
-ghost use Rattle.nm_history.specs.RankRun.{Always, NumberAt};
+ghost use Rattle.nm_history.specs.RankRun.{NumberAt};
 ghost use Rattle.nm_history.specs.Sends.{envelope, sends, sent_of};
 ghost use Rattle.nm_report.specs.Ends.{ends_of};
 ghost use Rattle.nm_lookups.specs.Deciding.{Decides};
 ghost use Rattle.nm_lookups.specs.Placed.{ArePlaces};
-ghost use Rattle.nm_check_ranks.specs.Marked.{AreMarked, KeepsLocal, Names};
+ghost use Rattle.nm_check_ranks.specs.Marked.{KeepsLocal, Names};
 ghost use Rattle.nm_check_ranks.specs.Tabled.{AreTabled};
 
 use crate::hows::is_eager;
@@ -30,15 +30,15 @@ use nm_types::{Arrival, How};
 /// How many ranks a number of 8 bits can name.
 pub const NAMES: usize = 256;
 
-/// The ranks with which a rank's history breaks each rule of the messages between two ranks: those
-/// of the messages that come to it, and those of the messages that it sends.
+/// The place at which a rank's history first breaks each rule of the messages between two ranks, with
+/// each other rank: those of the messages that come to it, and those of the messages that it sends.
 #[derive(Drop)]
 pub struct Marks {
-    pub arrivals: [bool; NAMES],
-    pub bodies: [bool; NAMES],
-    pub outs: [bool; NAMES],
-    pub withdrawals: [bool; NAMES],
-    pub answers: [bool; NAMES],
+    pub arrivals: [Option<usize>; NAMES],
+    pub bodies: [Option<usize>; NAMES],
+    pub outs: [Option<usize>; NAMES],
+    pub withdrawals: [Option<usize>; NAMES],
+    pub answers: [Option<usize>; NAMES],
 }
 
 /// This rank, unless it keeps the rule.
@@ -282,95 +282,4 @@ pub(crate) fn receiver_not_telling(
         }
         _ => None,
     }
-}
-
-/// The senders whose messages did not come to rank j as they were sent.
-pub(crate) fn mark_arrivals(
-    j: u8,
-    events: &[Event],
-    ranks: &[RankAccount],
-    tables: &[Tables],
-) -> [bool; NAMES]
-    requires own { (n : ℕ) × Always (NumberAt n) events.now }
-    requires lawful { EachRank KeepsLocal (ends_of ranks.now) }
-    requires tabled { AreTabled (ends_of ranks.now) tables.now }
-    ensures { AreMarked (λ i before e. ArrivesNext i j
-        (history_of (ends_of ranks.now) i) before e.stamp e.what)
-        events.now result }
-{
-    let mut marks = [false; NAMES];
-    for e in events {
-        if let Some(i) = sender_not_followed(j, e, ranks, tables) {
-            marks[i as usize] = true;
-        }
-    }
-    marks
-}
-
-/// The receivers that had not paired messages that had left rank i.
-pub(crate) fn mark_outs(
-    i: u8,
-    events: &[Event],
-    sent: &Places,
-    ranks: &[RankAccount],
-    tables: &[Tables],
-) -> [bool; NAMES]
-    requires placed { ArePlaces events.now sent.now }
-    requires lawful { EachRank KeepsLocal (ends_of ranks.now) }
-    requires tabled { AreTabled (ends_of ranks.now) tables.now }
-    ensures { AreMarked (λ j before e. OutAfterPair i j
-        (history_of (ends_of ranks.now) j) before e.stamp e.what)
-        events.now result }
-{
-    let mut marks = [false; NAMES];
-    for (k, e) in events.iter().enumerate() {
-        if let Some(j) = receiver_not_asked(i, k, e, sent, ranks, tables) {
-            marks[j as usize] = true;
-        }
-    }
-    marks
-}
-
-/// The senders that had not recalled messages that rank j withdrew.
-pub(crate) fn mark_withdrawals(
-    j: u8,
-    events: &[Event],
-    ranks: &[RankAccount],
-    tables: &[Tables],
-) -> [bool; NAMES]
-    requires lawful { EachRank KeepsLocal (ends_of ranks.now) }
-    requires tabled { AreTabled (ends_of ranks.now) tables.now }
-    ensures { AreMarked (λ i before e. WithdrawAfterRecall i j
-        (history_of (ends_of ranks.now) i) e.stamp e.what)
-        events.now result }
-{
-    let mut marks = [false; NAMES];
-    for e in events {
-        if let Some(i) = sender_not_recalling(j, e, ranks, tables) {
-            marks[i as usize] = true;
-        }
-    }
-    marks
-}
-
-/// The receivers that had not given the answers that rank i took.
-pub(crate) fn mark_answers(
-    i: u8,
-    events: &[Event],
-    ranks: &[RankAccount],
-    tables: &[Tables],
-) -> [bool; NAMES]
-    requires lawful { EachRank KeepsLocal (ends_of ranks.now) }
-    requires tabled { AreTabled (ends_of ranks.now) tables.now }
-    ensures { AreMarked (λ j before e. UndoneAfterWithdraw i j
-        (history_of (ends_of ranks.now) j) e.stamp e.what)
-        events.now result }
-{
-    let mut marks = [false; NAMES];
-    for e in events {
-        if let Some(j) = receiver_not_telling(i, e, ranks, tables) {
-            marks[j as usize] = true;
-        }
-    }
-    marks
 }

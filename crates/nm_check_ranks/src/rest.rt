@@ -4,16 +4,15 @@
 //! `specs/RestClauses.antt` has the rules in their order (`KeepsRest`, `rest_order`), by the
 //! definitions of `nm_history`.
 //! # What is proved
-//! - That all has arrived and that recalls are answered (`rest`), that eager and asked messages are
-//!   over (`over`), that each rank is at its end or waits for what can't come (`waits`), and that
-//!   the counts of packets are those that the histories call for (`counts`), is told exactly.
-//! - The first rule that is broken is named, by what was decided of each (`resting`).
-//! - The first event is found that breaks a rule of rest which is asked of events, and the first
-//!   rank that stands where it may not (`firsts` and `waits`, by `specs/RestBreaks.antt`).
+//! - The first rule that is broken is named, with the first event that breaks it, or the first rank that
+//!   stands where it may not (`resting`, by `specs/RestBreaks.antt`). What each event keeps is told exactly:
+//!   that its message has come and is over (`over`), that its recall is answered (`rest`); and what each
+//!   rank waits for (`waits`).
+//! - That the counts of packets are those that the histories call for is told exactly (`counts`).
 //! - The counts that the histories call for are made as a list, and the place is found at which the
 //!   given ones differ from them first (`miscounts`).
 //!
-//! Each judge walks a history once, with look-ups for each event; that is not proved.
+//! That each rule walks a history once, with look-ups for each event, is not proved.
 //! # What is only tested
 //! Nothing.
 

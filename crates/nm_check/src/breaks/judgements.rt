@@ -1,6 +1,6 @@
 //! A verdict, where the trace breaks its rule first, and what that rests on.
 
-ghost use Rattle.std.specs.Prelude.{◌≡◌, ◌≢◌, ◌+◌, ◌<◌, ◌≤◌, ℕ, IfOk, None, Some, length};
+ghost use Rattle.std.specs.Prelude.{◌≡◌, ◌+◌, ◌<◌, ◌≤◌, ℕ, IfOk, None, Some, length};
 ghost use Rattle.nm_report.specs.Ends.{ends_of};
 ghost use Rattle.nm_report.specs.Lawful.{IsRunIn};
 ghost use Rattle.nm_check_ranks.specs.Tabled.{EachTabled};
@@ -10,7 +10,9 @@ ghost use Rattle.nm_check.specs.Judgements.{happened_at as happened_at_lem, home
 ghost use Rattle.nm_check.specs.OwnFirsts.{IsOwnFirst};
 ghost use Rattle.nm_check.specs.Places.{events_in};
 ghost use Rattle.nm_check.specs.Verdicts.{Judges};
-ghost use Rattle.nm_check.specs.declared.verdicts.Verdict.TheVariants.{Carried, Holds, Own, Rest};
+ghost use Rattle.nm_check.specs.declared.judging.Tabled.TheVariants.{Carried as FoundCarried, Rest as FoundRest};
+ghost use Rattle.nm_check.specs.declared.verdicts.Verdict.TheVariants.{Holds, Own, Rest};
+ghost use Rattle.nm_check.specs.Ranked.{IsTabled};
 
 use crate::breaks::against::against_of;
 use crate::breaks::cells::count_of;
@@ -20,11 +22,13 @@ use crate::breaks::incidents::place_incident;
 use crate::breaks::others::carried_other;
 use crate::breaks::places::{Place, count_line};
 use crate::breaks::placing::{carried_place, own_place, rest_place};
-use crate::judging::judge_tabled;
+use crate::judging::{Tabled, judge_tabled};
 use crate::ranking::{Ranked, judge_ranks};
-use crate::{CarriedClause, OwnClause, RestClause, Verdict};
+use crate::{OwnClause, RestClause, Verdict};
 use nm_check_rank::paired::breaches::Breach;
 use nm_check_rank::paired::tables::Tables;
+use nm_check_ranks::between::BrokenPair;
+use nm_check_ranks::rest::resting::RestBreak;
 use nm_report::RunRecord;
 use nm_types::{Memory, Script};
 use std::alloc::Global;
@@ -91,22 +95,26 @@ fn carried_judgement(
     script: &Script,
     run: &RunRecord,
     tables: &[Tables],
-    clause: CarriedClause,
-    from: u8,
-    to: u8,
+    pair: BrokenPair,
 ) -> Judgement
-    requires judged { Judges script.now.lines run.now (Carried clause from to) }
+    requires found { IsTabled script.now.lines run.now (FoundCarried pair) }
     requires short { events_in (ends_of run.now.ranks) ≤ 67108864 }
     requires tabled { EachTabled script.now.lines (ends_of run.now.ranks) tables.now }
     ensures { (count : ℕ) → IsJudgement count script.now.lines run.now result }
 {
     let lines = script.lines.as_slice();
     let ranks = run.ranks.as_slice();
-    let place = carried_place(script, run, tables, clause, from, to);
+    let from = pair.from;
+    let to = pair.broken.to;
+    let place = carried_place(script, run, pair);
     let other = carried_other(lines, ranks, tables, from, to, place);
     let against = against_of(ranks, place, other);
     Judgement {
-        verdict: Verdict::Carried { clause, from, to },
+        verdict: Verdict::Carried {
+            clause: pair.broken.first.clause,
+            from,
+            to,
+        },
         place,
         why: Evidence {
             other,
@@ -160,19 +168,20 @@ fn rest_judgement(
     script: &Script,
     run: &RunRecord,
     tables: &[Tables],
-    clause: RestClause,
+    first: RestBreak,
 ) -> Result<Judgement, Memory>
-    requires judged { Judges script.now.lines run.now (Rest clause) }
+    requires found { IsTabled script.now.lines run.now (FoundRest first) }
     requires few { length run.now.ranks < 256 }
     requires short { events_in (ends_of run.now.ranks) + length run.now.pairs ≤ 67108864 }
     requires tabled { EachTabled script.now.lines (ends_of run.now.ranks) tables.now }
     ensures { IfOk result
         (λ judgement. (count : ℕ) → IsJudgement count script.now.lines run.now judgement) }
 {
-    match clause {
-        RestClause::Counts => counts_judgement(alloc, script, run, tables),
+    match first {
+        RestBreak::Counts => counts_judgement(alloc, script, run, tables),
         _ => {
-            let place = rest_place(script, run, tables, clause);
+            let clause = first.clause();
+            let place = rest_place(script, run, first);
             Ok(plain(run, Verdict::Rest { clause }, place))
         }
     }
@@ -195,32 +204,27 @@ fn home_judgement(run: &RunRecord, count: u32) -> Judgement
     }
 }
 
-/// The judgement of a verdict on a record whose ranks run their own commands, by what is looked up
-/// of them.
+/// The judgement on a record whose ranks run their own commands, by what is looked up of them.
 fn tabled_judgement(
     alloc: Global,
     script: &Script,
     run: &RunRecord,
-    verdict: Verdict,
+    found: Tabled,
     tables: &[Tables],
     count: u32,
 ) -> Result<Judgement, Memory>
-    requires judged { Judges script.now.lines run.now verdict }
-    requires between { IsOwnFirst script.now.lines run.now verdict None }
+    requires found { IsTabled script.now.lines run.now found }
     requires few { length run.now.ranks < 256 }
     requires short { events_in (ends_of run.now.ranks) + length run.now.pairs ≤ 67108864 }
     requires tabled { EachTabled script.now.lines (ends_of run.now.ranks) tables.now }
     ensures { IfOk result (IsJudgement count script.now.lines run.now) }
 {
-    match verdict {
-        Verdict::Carried { clause, from, to } => {
-            Ok(carried_judgement(script, run, tables, clause, from, to))
-        }
-        Verdict::Rest { clause } => rest_judgement(alloc, script, run, tables, clause),
-        Verdict::Home => Ok(home_judgement(run, count)),
-        Verdict::Done => Ok(plain(run, verdict, Place::LastLine { line: count })),
-        Verdict::Holds => Ok(plain(run, verdict, Place::Nowhere)),
-        Verdict::Own { .. } => Ok(plain(run, verdict, Place::Nowhere)),
+    match found {
+        Tabled::Carried { pair } => Ok(carried_judgement(script, run, tables, pair)),
+        Tabled::Rest { first } => rest_judgement(alloc, script, run, tables, first),
+        Tabled::Home => Ok(home_judgement(run, count)),
+        Tabled::Done => Ok(plain(run, Verdict::Done, Place::LastLine { line: count })),
+        Tabled::Holds => Ok(plain(run, Verdict::Holds, Place::Nowhere)),
     }
 }
 
@@ -243,8 +247,8 @@ pub fn judged(
     let lines = script.lines.as_slice();
     match judge_ranks(alloc, run.shape, lines, run.ranks.as_slice())? {
         Ranked::Run(tables) => {
-            let verdict = judge_tabled(alloc, script, run, &tables)?;
-            tabled_judgement(alloc, script, run, verdict, &tables, count)
+            let found = judge_tabled(alloc, script, run, &tables)?;
+            tabled_judgement(alloc, script, run, found, &tables, count)
         }
         Ranked::Breaks {
             clause,

@@ -168,7 +168,7 @@ pub(crate) fn counts_of(events: &[Event], pairs: &[Pair]) -> [u128; NAMES]
 }
 
 /// Whether the counts of packets are those that the histories of the ranks call for.
-pub fn are_counted(pairs: &[PairCount], ranks: &[RankAccount], tables: &[Tables]) -> bool
+pub(crate) fn are_counted(pairs: &[PairCount], ranks: &[RankAccount], tables: &[Tables]) -> bool
     requires few { length ranks.now < 256 }
     requires tabled { AreTabled (ends_of ranks.now) tables.now }
     ensures { (lines : List script_line.Line) →

@@ -80,7 +80,11 @@ fn first_of_rank(
 }
 
 /// The first event that breaks the rule, rank by rank.
-pub fn first_rest_at(rule: EventRule, ranks: &[RankAccount], tables: &[Tables]) -> Option<Spot>
+pub(crate) fn first_rest_at(
+    rule: EventRule,
+    ranks: &[RankAccount],
+    tables: &[Tables],
+) -> Option<Spot>
     requires few { length ranks.now < 256 }
     requires ordered { rule ≡ event_rule.Arrived → AreInOrder (ends_of ranks.now) }
     requires tabled { AreTabled (ends_of ranks.now) tables.now }

@@ -1,12 +1,10 @@
 //! Whether messages are over: eager ones, and those sent by asking that are paired.
 
-ghost use Rattle.std.specs.Prelude.{◌≡◌, ◌<◌, ◌&&◌, ℕ, not, List, IsTrue, length};
+ghost use Rattle.std.specs.Prelude.{◌≡◌, ◌&&◌, ℕ, not, List, IsTrue};
 ghost use Rattle.std.specs.Bool.{OnTrue};
 ghost use Rattle.nm_history.specs.declared.events.Event as event;
-ghost use Rattle.nm_history.specs.Quiescence.{AskedOver, EachPair, EachRank, EagerOver, Ended};
+ghost use Rattle.nm_history.specs.Quiescence.{Ended};
 ghost use Rattle.nm_history.specs.Quiescence.{is_kept_back, is_over};
-ghost use Rattle.nm_history.specs.Sends.{is_ask};
-ghost use Rattle.nm_report.specs.Ends.{ends_of};
 ghost use Rattle.nm_lookups.specs.Deciding.{Decides};
 ghost use Rattle.nm_lookups.specs.Placed.{ArePlaces};
 ghost use Rattle.nm_check_ranks.specs.Over.{AskedIsOver, EagerIsOver, HasCome, SendKeeps};
@@ -14,11 +12,10 @@ ghost use Rattle.nm_check_ranks.specs.Tabled.{AreTabled};
 
 use crate::hows::{is_asked, is_eager};
 use nm_check_rank::paired::tables::Tables;
-use nm_history::{Event, Happened};
+use nm_history::Happened;
 use nm_lookups::firsts::{is_ever, is_ever_taken};
 use nm_lookups::kinds::{Arrivals, Claims, Outs, Wholes};
 use nm_lookups::places::Places;
-use nm_report::RankAccount;
 
 fn both(a: bool, b: bool) -> bool
     ensures { result ≡ (a && b) }
@@ -138,64 +135,4 @@ pub(crate) fn is_asked_over(i: u8, what: &Happened, sent: &Places, tables: &[Tab
         }
         _ => true,
     }
-}
-
-/// Whether the eager messages of rank i to each rank are over.
-fn eager_over_from(i: u8, events: &[Event], sent: &Places, tables: &[Tables]) -> bool
-    requires { ArePlaces events.now sent.now }
-    ensures { (ranks : List Ended) → AreTabled ranks tables.now →
-        Decides result (EachRank (λ j rank. EagerOver i j events.now rank.events) ranks) }
-{
-    for e in events {
-        if !is_eager_over(i, &e.what, sent, tables) {
-            return false;
-        }
-    }
-    true
-}
-
-/// Whether the messages of rank i that were sent by asking are over where they are paired, and kept
-/// back where they are claimed and not received.
-fn asked_over_from(i: u8, events: &[Event], sent: &Places, tables: &[Tables]) -> bool
-    requires { ArePlaces events.now sent.now }
-    ensures { (ranks : List Ended) → AreTabled ranks tables.now →
-        Decides result (EachRank (λ j rank. AskedOver i j events.now rank.events) ranks) }
-{
-    for e in events {
-        if !is_asked_over(i, &e.what, sent, tables) {
-            return false;
-        }
-    }
-    true
-}
-
-/// Whether each eager message is over.
-pub fn are_eager_over(ranks: &[RankAccount], tables: &[Tables]) -> bool
-    requires few { length ranks.now < 256 }
-    requires tabled { AreTabled (ends_of ranks.now) tables.now }
-    ensures { Decides result (EachPair EagerOver (ends_of ranks.now)) }
-{
-    for (i, rank) in ranks.iter().enumerate() {
-        let events = rank.history.as_slice();
-        if !eager_over_from(i as u8, events, &tables[i].places, tables) {
-            return false;
-        }
-    }
-    true
-}
-
-/// Whether each message that was sent by asking is over where it is paired, and kept back where it
-/// is claimed and not received.
-pub fn are_asked_over(ranks: &[RankAccount], tables: &[Tables]) -> bool
-    requires few { length ranks.now < 256 }
-    requires tabled { AreTabled (ends_of ranks.now) tables.now }
-    ensures { Decides result (EachPair AskedOver (ends_of ranks.now)) }
-{
-    for (i, rank) in ranks.iter().enumerate() {
-        let events = rank.history.as_slice();
-        if !asked_over_from(i as u8, events, &tables[i].places, tables) {
-            return false;
-        }
-    }
-    true
 }

@@ -1,13 +1,9 @@
 //! Whether all has arrived and recalls are answered.
 
-ghost use Rattle.std.specs.Prelude.{◌≡◌, ◌≤◌, ◌||◌, List, IsTrue, is_none, length};
-ghost use Rattle.std.specs.List.{list_all};
+ghost use Rattle.std.specs.Prelude.{◌≡◌, ◌≤◌, ◌||◌, List, IsTrue, length};
 ghost use Rattle.nm_history.specs.declared.events.Event as event;
 ghost use Rattle.nm_history.specs.Quiescence.{EachPair, EachRank, Ended, IsAnswered};
-ghost use Rattle.nm_history.specs.Quiescence.{RecallsAnswered};
 ghost use Rattle.nm_history.specs.Sends.{arrivals, sends};
-ghost use Rattle.nm_report.specs.Cells.{AllCellsFree};
-ghost use Rattle.nm_report.specs.Ends.{are_done, ends_of};
 ghost use Rattle.nm_check_ranks.specs.Tabled.{AreTabled};
 ghost use Rattle.nm_check_rank.specs.Counted.{AreCounted};
 ghost use Rattle.nm_lookups.specs.Deciding.{Decides};
@@ -15,11 +11,10 @@ ghost use Rattle.nm_lookups.specs.Placed.{ArePlaces};
 
 use nm_check_rank::numbers::{Counts, has_arrived};
 use nm_check_rank::paired::tables::Tables;
-use nm_history::{Event, Happened};
+use nm_history::Happened;
 use nm_lookups::firsts::is_before;
 use nm_lookups::kinds::{Late, Undone};
 use nm_lookups::places::Places;
-use nm_report::{RankAccount, RunRecord};
 
 fn is_either(undone: bool, late: bool) -> bool
     ensures { Decides result (IsTrue (undone || late)) }
@@ -42,20 +37,6 @@ pub(crate) fn is_answered(places: &Places, end: usize, what: &Happened) -> bool
     }
 }
 
-/// Whether each recall of a history has its answer.
-pub fn are_answered(events: &[Event], places: &Places) -> bool
-    requires { ArePlaces events.now places.now }
-    ensures { Decides result (RecallsAnswered events.now) }
-{
-    let end = events.len();
-    for e in events {
-        if !is_answered(places, end, &e.what) {
-            return false;
-        }
-    }
-    true
-}
-
 /// Whether all that a rank sent has arrived.
 fn has_arrived_from(i: u8, sent: &Counts, tables: &[Tables]) -> bool
     requires { length tables.now ≤ 256 }
@@ -73,7 +54,7 @@ fn has_arrived_from(i: u8, sent: &Counts, tables: &[Tables]) -> bool
 }
 
 /// Whether all that was sent has arrived.
-pub fn has_all_arrived(tables: &[Tables]) -> bool
+pub(crate) fn has_all_arrived(tables: &[Tables]) -> bool
     requires { length tables.now ≤ 256 }
     ensures { (ranks : List Ended) → AreTabled ranks tables.now →
         Decides result
@@ -81,21 +62,6 @@ pub fn has_all_arrived(tables: &[Tables]) -> bool
 {
     for (i, sent) in tables.iter().enumerate() {
         if !has_arrived_from(i as u8, &sent.counts, tables) {
-            return false;
-        }
-    }
-    true
-}
-
-/// Whether each recall of each rank has its answer.
-pub fn are_all_answered(ranks: &[RankAccount], tables: &[Tables]) -> bool
-    requires { AreTabled (ends_of ranks.now) tables.now }
-    ensures { Decides result
-        (EachRank (λ i rank. RecallsAnswered rank.events) (ends_of ranks.now)) }
-{
-    for (i, rank) in ranks.iter().enumerate() {
-        let events = rank.history.as_slice();
-        if !are_answered(events, &tables[i].places) {
             return false;
         }
     }

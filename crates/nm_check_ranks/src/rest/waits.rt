@@ -67,7 +67,11 @@ fn is_standing(rank: u8, lines: &[Line], account: &RankAccount, tables: &Tables)
 }
 
 /// The first rank that neither is at its end nor waits at its next command, which can't go on.
-pub fn first_not_standing(lines: &[Line], ranks: &[RankAccount], tables: &[Tables]) -> Option<u8>
+pub(crate) fn first_not_standing(
+    lines: &[Line],
+    ranks: &[RankAccount],
+    tables: &[Tables],
+) -> Option<u8>
     requires few { length ranks.now < 256 }
     requires tabled { EachTabled lines.now (ends_of ranks.now) tables.now }
     ensures { MatchOption result
@@ -80,14 +84,4 @@ pub fn first_not_standing(lines: &[Line], ranks: &[RankAccount], tables: &[Table
         }
     }
     None
-}
-
-/// Whether each rank is at its end, or waits at its next command, which can't go on.
-pub fn are_standing(lines: &[Line], ranks: &[RankAccount], tables: &[Tables]) -> bool
-    requires few { length ranks.now < 256 }
-    requires tabled { EachTabled lines.now (ends_of ranks.now) tables.now }
-    ensures { Decides result
-        (EachRank (λ i rank. IsStopped (commands_of i lines.now) rank) (ends_of ranks.now)) }
-{
-    first_not_standing(lines, ranks, tables).is_none()
 }

@@ -3,6 +3,9 @@ use Rattle.std.proofs.lemmas.List.{length-map}
 use Rattle.nm_history.specs.Quiescence.{AreQuiescent, EachPair}
 use Rattle.nm_report.specs.Ends.{end_of_account, ends_of, packets_of}
 use Rattle.nm_check_ranks.specs.CarriedClauses.{PairDelivered}
+use Rattle.nm_check_ranks.specs.Marked.{BreaksPair}
+use Rattle.nm_check_ranks.specs.RestBreaks.{IsRestBreak}
+use Rattle.nm_check.proofs.SpotLemmas.{are_local, are_ordered}
 use Rattle.nm_check.proofs.judging.judge_tabled.Goals as goal
 
 pub judge_pairs-requires : goal.judge_pairs-requires
@@ -13,14 +16,44 @@ judge_pairs-requires c =
       tabled = c.requires.tabled;
     })
 
-pub returns-clause-first : goal.returns-clause-first
-returns-clause-first c =
+pub returns-in-Some : goal.returns-in-Some
+returns-in-Some c =
+    let pair : BreaksPair c.args.script.now.lines (ends_of c.args.run.now.ranks) c.in-Some.pair.from
+    c.in-Some.pair.broken.to c.in-Some.pair.broken.first =
+    rw (c.as_slice-lines.ensures, c.as_slice-ranks.ensures) at (rw c.in-Some.is at c.in_ok-pair.ensures) in
+    record { judged = record { runs = c.requires.runs; earlier = pair.earlier; first = pair.first }; at = pair.at }
+
+pub first_of_rest-requires : goal.first_of_rest-requires
+first_of_rest-requires c =
+    let delivered : EachPair (PairDelivered c.args.script.now.lines) (ends_of c.args.run.now.ranks) =
+    rw (c.as_slice-lines.ensures, c.as_slice-ranks.ensures) at (rw c.in_default.is at c.in_ok-pair.ensures) in
+    rw (c.as_slice-lines.ensures, c.as_slice-ranks.ensures) (record {
+      few = c.requires.few;
+      ordered = (
+        are_local c.args.run.now.shape c.args.script.now.lines (ends_of c.args.run.now.ranks) c.requires.runs,
+        are_ordered c.args.script.now.lines (ends_of c.args.run.now.ranks) delivered,
+      );
+      tabled = c.requires.tabled;
+    })
+
+pub returns-in-Some-first_of_rest : goal.returns-in-Some-first_of_rest
+returns-in-Some-first_of_rest c =
+    let delivered : EachPair (PairDelivered c.args.script.now.lines) (ends_of c.args.run.now.ranks) =
+    rw (c.as_slice-lines.ensures, c.as_slice-ranks.ensures) at (rw c.in_default.is at c.in_ok-pair.ensures) in
+    let rest : IsRestBreak c.args.script.now.lines (ends_of c.args.run.now.ranks) (packets_of c.args.run.now.pairs)
+    c.in-Some-first_of_rest.first =
+    rw (c.as_slice-lines.ensures, c.as_slice-ranks.ensures, c.as_slice.ensures) at c.in-Some-first_of_rest.ensures in
+    record { judged = record { runs = c.requires.runs; delivered = delivered; first = rest.first }; at = rest.at }
+
+pub returns : goal.returns
+returns c =
     let many : length (ends_of c.args.run.now.ranks) ≡ c.args.run.now.shape.ranks =
     length-map c.args.run.now.ranks end_of_account ∙ c.requires.whole in
     let delivered : EachPair (PairDelivered c.args.script.now.lines) (ends_of c.args.run.now.ranks) =
     rw (c.as_slice-lines.ensures, c.as_slice-ranks.ensures) at (rw c.in_default.is at c.in_ok-pair.ensures) in
     let quiescent : AreQuiescent c.args.script.now.lines (ends_of c.args.run.now.ranks)
     (packets_of c.args.run.now.pairs) =
-    rw (c.as_slice-lines.ensures, c.as_slice-ranks.ensures, c.as_slice.ensures) at c.in_default-judge_rest.ensures in
-    c.judge_ends.ensures.first c.args.script.now.lines
+    rw (c.as_slice-lines.ensures, c.as_slice-ranks.ensures, c.as_slice.ensures) at
+    c.in_default-first_of_rest.ensures in
+    c.judge_ends.ensures c.args.script.now.lines
     (record { one_each = many; rank_runs = c.requires.runs; delivered = delivered; quiescent = quiescent })

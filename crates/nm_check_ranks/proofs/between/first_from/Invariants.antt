@@ -1,6 +1,5 @@
-use Rattle.std.proofs.Common.{◌≡◌, List}
+use Rattle.std.proofs.Common.{List}
 use Rattle.nm_types.specs.declared.scripts.Line.{Line}
-use Rattle.nm_history.specs.declared.events.Event.{Event}
 use Rattle.nm_history.specs.Quiescence.{Ended, history_of}
 use Rattle.nm_check_ranks.specs.Marked.{AreMarks, EachMarked}
 use Rattle.nm_check_ranks.specs.CarriedClauses.{PairDelivered}
@@ -10,6 +9,5 @@ use Rattle.nm_check_ranks.proofs.between.first_from.Given as goal
 -- the messages to the ranks so far are delivered
 abbrev pub invariant-loop-j : goal.invariant-loop-j
 invariant-loop-j l =
-    (lines : List Line) (ranks : List Ended) (hi : List Event) → history_of ranks l.i ≡ hi →
-    AreMarks lines ranks l.i hi l.sender →
-    EachMarked lines ranks l.marks → UpTo (λ j rank. PairDelivered lines l.i j hi rank.events) ranks l.j
+    (lines : List Line) (ranks : List Ended) → AreMarks lines ranks l.i l.sender → EachMarked lines ranks l.marks →
+    UpTo (λ j rank. PairDelivered lines l.i j (history_of ranks l.i) rank.events) ranks l.j

@@ -4,7 +4,7 @@ use Rattle.nm_history.specs.Quiescence.{EachRank}
 use Rattle.nm_check_ranks.specs.CarriedClauses.{PairDelivered}
 use Rattle.nm_check_ranks.proofs.PairLemmas.{breaks_pair}
 use Rattle.nm_check_ranks.proofs.RankLemmas.{all, next, none_yet}
-use Rattle.nm_check_ranks.proofs.TableLemmas.{blank, marked_at}
+use Rattle.nm_check_ranks.proofs.TableLemmas.{blank, some_history}
 use Rattle.nm_check_ranks.proofs.between.first_pair.Goals as goal
 
 pub loop-i-init : goal.loop-i-init
@@ -15,20 +15,21 @@ pub loop-i-preserved : goal.loop-i-preserved
 loop-i-preserved c = λ lines ranks marked.
     next (λ i a. EachRank (λ j b. PairDelivered lines i j a.events b.events) ranks) ranks c.loop-i.i
     (c.loop-i.invariant lines ranks marked)
-    (marked_at lines ranks c.loop-i.i (get_or c.args.marks.now c.loop-i.i blank)
-    (λ a. EachRank (λ j b. PairDelivered lines c.loop-i.i j a.events b.events) ranks)
+    (some_history ranks c.loop-i.i (λ h. EachRank (λ j b. PairDelivered lines c.loop-i.i j h b.events) ranks)
+    (c.in_default.ensures lines ranks
     (marked.each c.loop-i.i (get_or c.args.marks.now c.loop-i.i blank) c.loop-i-test.true
     (get_or_default c.args.marks.now c.loop-i.i blank (get_or c.args.marks.now c.loop-i.i blank) c.loop-i-test.true))
-    (λ rank same its. c.in_default.ensures lines ranks rank.events same its marked))
+    marked))
 
 pub returns-in-Some : goal.returns-in-Some
 returns-in-Some c = λ lines ranks marked.
-    breaks_pair lines ranks c.loop-i.i c.in-Some.broken.to c.in-Some.broken.clause
-    (get_or c.args.marks.now c.loop-i.i blank)
+    let many : length c.args.marks.now ≡ length ranks = marked.as_many in
+    breaks_pair lines ranks c.loop-i.i c.in-Some.broken.to c.in-Some.broken.first
+    (omega (arith, many, c.loop-i-test.true)) (c.loop-i.invariant lines ranks marked)
+    (c.in-Some.ensures lines ranks
     (marked.each c.loop-i.i (get_or c.args.marks.now c.loop-i.i blank) c.loop-i-test.true
     (get_or_default c.args.marks.now c.loop-i.i blank (get_or c.args.marks.now c.loop-i.i blank)
-    c.loop-i-test.true)) (c.loop-i.invariant lines ranks marked)
-    (λ rank same its. c.in-Some.ensures lines ranks rank.events same its marked)
+    c.loop-i-test.true)) marked)
 
 pub returns : goal.returns
 returns c = λ lines ranks marked.

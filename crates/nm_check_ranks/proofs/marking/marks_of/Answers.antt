@@ -1,8 +1,8 @@
 use Rattle.std.proofs.Common.{◌≡◌, ℕ, ◌+◌, ◌∷◌, [], length, sym, ◌∙◌, ap, subst, length-append}
 use Rattle.nm_report.specs.Ends.{ends_of}
+use Rattle.nm_check_ranks.specs.Marked.{AreMarks}
 use Rattle.nm_check_ranks.proofs.ItemLemmas.{one_more}
-use Rattle.nm_check_ranks.proofs.MarkedLemmas.{MarkedAt, marked_rank}
-use Rattle.nm_check_ranks.proofs.TableLemmas.{table_inside, tables_at}
+use Rattle.nm_check_ranks.proofs.TableLemmas.{history_at, table_inside, tables_at}
 use Rattle.nm_check_ranks.proofs.WasLemmas.{rank_keeps}
 use Rattle.nm_check_ranks.proofs.marking.marks_of.Goals as goal
 
@@ -16,6 +16,7 @@ marks_at-requires c =
     c.requires.lawful in
     rw c.as_slice-events.ensures (record {
       numbered = (keeps.ranks, keeps.numbers);
+      history = history_at c.args.ranks.now c.loop-x.x c.index-ranks-x.result c.loop-x-test.true c.index-ranks-x.is;
       own = tables_at c.args.ranks.now c.args.tables.now c.loop-x.x c.index-ranks-x.result c.index-tables-x.result
           (c.args.lines.now, c.requires.tabled)
           c.loop-x-test.true c.index-ranks-x.is c.index-tables-x.is;
@@ -26,13 +27,10 @@ marks_at-requires c =
 pub loop-x-preserved : goal.loop-x-preserved
 loop-x-preserved c =
     let many : length c.loop-x.marks.items ≡ c.loop-x.x = c.loop-x.invariant.0 in
-    let here : MarkedAt c.args.lines.now (ends_of c.args.ranks.now) c.loop-x.x c.marks_at.result =
-    marked_rank c.args.lines.now c.args.ranks.now c.loop-x.x c.index-ranks-x.result c.marks_at.result
-    c.loop-x-test.true c.index-ranks-x.is
-    (rw c.as_slice-events.ensures at c.marks_at.ensures) in
     rw c.in_ok-push.ensures.items (
       length-append c.loop-x.marks.items (c.marks_at.result ∷ []) ∙ ap (λ (n : ℕ). n + 1) many,
-      one_more (MarkedAt c.args.lines.now (ends_of c.args.ranks.now)) c.loop-x.marks.items c.marks_at.result
+      one_more (AreMarks c.args.lines.now (ends_of c.args.ranks.now)) c.loop-x.marks.items c.marks_at.result
           c.loop-x.invariant.1
-          (subst (λ (n : ℕ). MarkedAt c.args.lines.now (ends_of c.args.ranks.now) n c.marks_at.result) (sym many) here),
+          (subst (λ (n : ℕ). AreMarks c.args.lines.now (ends_of c.args.ranks.now) n c.marks_at.result) (sym many)
+          c.marks_at.ensures),
     )

@@ -2,8 +2,8 @@ use Rattle.std.proofs.lemmas.Result.{IfOk-weaker}
 use Rattle.nm_check.proofs.ExactLemmas.{only_holds}
 use Rattle.nm_check.proofs.breaks.judgements.judged.Goals as goal
 
-pub returns-in_ok-verdict-in-Run-clause-exact : goal.returns-in_ok-verdict-in-Run-clause-exact
-returns-in_ok-verdict-in-Run-clause-exact c = λ is.
+pub returns-in_ok-found-in-Run-clause-exact : goal.returns-in_ok-found-in-Run-clause-exact
+returns-in_ok-found-in-Run-clause-exact c = λ is.
     IfOk-weaker c.tabled_judgement.result _ _
     (λ judgement judged. only_holds c.args.script.now.lines c.args.run.now judgement.verdict is judged.right)
     c.tabled_judgement.ensures

@@ -5,14 +5,14 @@ use Rattle.nm_check.proofs.breaks.judgements.tabled_judgement.Goals as goal
 
 pub carried_judgement-requires : goal.carried_judgement-requires
 carried_judgement-requires c = record {
-  judged = rw c.in-Carried.is at c.requires.judged;
+  found = rw c.in-Carried.is at c.requires.found;
   short = omega (arith, c.requires.short);
   tabled = c.requires.tabled;
 }
 
 pub rest_judgement-requires : goal.rest_judgement-requires
 rest_judgement-requires c = record {
-  judged = rw c.in-Rest.is at c.requires.judged;
+  found = rw c.in-Rest.is at c.requires.found;
   few = c.requires.few;
   short = c.requires.short;
   tabled = c.requires.tabled;
@@ -28,17 +28,14 @@ returns-in-Rest c =
 pub returns-in-Home : goal.returns-in-Home
 returns-in-Home c =
     home_judged c.args.count c.args.script.now.lines c.args.run.now c.home_judgement.result c.home_judgement.ensures
-    (rw c.in-Home.is at c.requires.judged)
+    (rw c.in-Home.is at c.requires.found).judged
 
 pub returns-in-Done : goal.returns-in-Done
 returns-in-Done c =
-    done_judged c.args.count c.args.script.now.lines c.args.run.now c.plain.result (rw c.in-Done.is at c.plain.ensures)
-    (rw c.in-Done.is at c.requires.judged)
+    done_judged c.args.count c.args.script.now.lines c.args.run.now c.plain.result c.plain.ensures
+    (rw c.in-Done.is at c.requires.found).judged
 
 pub returns-in-Holds : goal.returns-in-Holds
 returns-in-Holds c =
-    holds_judged c.args.count c.args.script.now.lines c.args.run.now c.plain-in-Holds.result
-    (rw c.in-Holds.is at c.plain-in-Holds.ensures) (rw c.in-Holds.is at c.requires.judged)
-
-pub returns-in-Own : goal.returns-in-Own
-returns-in-Own c = absurd (rw c.in-Own.is at c.requires.between)
+    holds_judged c.args.count c.args.script.now.lines c.args.run.now c.plain-in-Holds.result c.plain-in-Holds.ensures
+    (rw c.in-Holds.is at c.requires.found).judged

@@ -1,52 +1,29 @@
 use Rattle.std.proofs.Common.{◌<◌, length, arith}
 use Rattle.nm_report.specs.Ends.{ends_of}
-use Rattle.nm_check.specs.Verdicts.{BreaksCarried}
-use Rattle.nm_check.proofs.SpotLemmas.{are_local, carried_ranks, many_ends, not_carried, spot_inside, spot_known}
+use Rattle.nm_check.proofs.SpotLemmas.{carried_ranks, many_ends, spot_inside, spot_known}
 use Rattle.nm_check.proofs.breaks.placing.carried_place.Goals as goal
-
-pub first_between_at-requires : goal.first_between_at-requires
-first_between_at-requires c =
-    let judged : BreaksCarried c.args.run.now.shape c.args.script.now.lines (ends_of c.args.run.now.ranks)
-    c.args.clause c.args.from c.args.to = c.requires.judged in
-    let known = carried_ranks c.args.run.now.shape c.args.script.now.lines (ends_of c.args.run.now.ranks)
-    c.args.clause c.args.from c.args.to judged in
-    let many = many_ends c.args.run.now.ranks in
-    let from : c.args.from < length c.args.run.now.ranks = let low = known.0 in omega (arith, many, low) in
-    let to : c.args.to < length c.args.run.now.ranks = let low = known.1 in omega (arith, many, low) in
-    rw (c.as_slice-ranks.ensures, c.as_slice-lines.ensures) (record {
-      sender = from;
-      receiver = to;
-      lawful = are_local c.args.run.now.shape c.args.script.now.lines (ends_of c.args.run.now.ranks) judged.runs;
-      tabled = c.requires.tabled;
-    })
 
 pub place_of_spot-requires : goal.place_of_spot-requires
 place_of_spot-requires c =
-    let judged : BreaksCarried c.args.run.now.shape c.args.script.now.lines (ends_of c.args.run.now.ranks)
-    c.args.clause c.args.from c.args.to = c.requires.judged in
-    let known = carried_ranks c.args.run.now.shape c.args.script.now.lines (ends_of c.args.run.now.ranks)
-    c.args.clause c.args.from c.args.to judged in
-    let breaks = rw (c.as_slice-ranks.ensures, c.as_slice-lines.ensures) at c.in-Some.ensures in
+    let pair = c.args.pair in
+    let lines = c.args.script.now.lines in
+    let ends = ends_of c.args.run.now.ranks in
+    let clause = pair.broken.first.clause in
+    let spot = pair.broken.first.spot in
+    let known = carried_ranks c.args.run.now.shape lines ends clause pair.from pair.broken.to c.requires.found.judged in
     let many = many_ends c.args.run.now.ranks in
-    let inside = spot_known c.args.script.now.lines (ends_of c.args.run.now.ranks) c.args.from c.args.to
-    (length (ends_of c.args.run.now.ranks)) c.args.clause c.in-Some.spot breaks known.0 known.1 in
-    let low : c.in-Some.spot.rank < length c.args.run.now.ranks = omega (arith, many, inside) in
-    rw c.as_slice-ranks.ensures (record {
+    let inside = spot_known lines ends pair.from pair.broken.to (length ends) clause spot c.requires.found.at known.0
+    known.1 in
+    let low : spot.rank < length c.args.run.now.ranks = omega (arith, many, inside) in
+    rw c.as_slice.ensures (record {
       known = low;
       short = c.requires.short;
-      inside = spot_inside c.args.script.now.lines (ends_of c.args.run.now.ranks) c.args.from c.args.to c.args.clause
-          c.in-Some.spot breaks;
+      inside = spot_inside lines ends pair.from pair.broken.to clause spot c.requires.found.at;
     })
 
-pub returns-in-Some : goal.returns-in-Some
-returns-in-Some c = (
-  c.in-Some.spot,
-  rw (c.as_slice-ranks.ensures, c.as_slice-lines.ensures) at c.in-Some.ensures,
-  rw c.as_slice-ranks.ensures at c.place_of_spot.ensures,
+pub returns : goal.returns
+returns c = (
+  c.args.pair.broken.first.spot,
+  c.requires.found.at,
+  rw c.as_slice.ensures at c.place_of_spot.ensures,
 )
-
-pub returns-in-None : goal.returns-in-None
-returns-in-None c =
-    absurd (not_carried c.args.run.now.shape c.args.script.now.lines (ends_of c.args.run.now.ranks) c.args.clause
-    c.args.from c.args.to c.requires.judged
-    (rw (c.as_slice-ranks.ensures, c.as_slice-lines.ensures) at c.in-None.ensures))
