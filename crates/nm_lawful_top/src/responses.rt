@@ -80,16 +80,16 @@ fn restless(alloc: Global, rank: usize, wait: Option<usize>) -> Result<Vec<u8>, 
 fn verdict_text(
     alloc: Global,
     judged: Judged,
-    line: &[u8],
+    named: &[u8],
     wait: Option<usize>,
 ) -> Result<Vec<u8>, AllocError>
-    ensures { IfOk result (λ bytes. bytes.items ≡ judged_text judged line.now wait) }
+    ensures { IfOk result (λ bytes. bytes.items ≡ judged_text judged named.now wait) }
 {
     match judged {
-        Judged::Lawful => bytes(alloc, "lawful\n"),
-        Judged::Unlawful(moment) => unlawful(alloc, moment, line),
+        Judged::Lawful => line(alloc, "lawful\n"),
+        Judged::Unlawful(moment) => unlawful(alloc, moment, named),
         Judged::NoRest(rank) => restless(alloc, rank, wait),
-        Judged::TooMany => bytes(alloc, "limit\n"),
+        Judged::TooMany => line(alloc, "limit\n"),
     }
 }
 
