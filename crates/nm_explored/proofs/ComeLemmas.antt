@@ -1,4 +1,4 @@
--- The arrival of a message that goes to a receive that names its sender is enough.
+-- The arrival of a message that goes to a receive which can take no other rank's is enough.
 use Rattle.std.proofs.Common.{◌≡◌, ◌≢◌, ◌⊎◌, inl, inr, ℕ, ◌+◌, ◌<◌, ◌≤◌, ◌==◌, ◌&&◌, ◌||◌, not, Bool, true, false, cond}
 use Rattle.std.proofs.Common.{Option, Some, None, List, [], ◌∷◌, ◌++◌, length, refl, sym, ◌∙◌, ap, subst, arith}
 use Rattle.std.specs.Prelude.{if◌then◌else◌, count_by, nat_lt, option_and_then, option_map}
@@ -56,6 +56,7 @@ use Rattle.nm_explored.proofs.OrderlyLemmas.{IsNewDeed, numbered, orderly_next}
 use Rattle.nm_explored.proofs.PostLemmas.{arrived, arrives_at, arrives_free, found_has, none_of_three}
 use Rattle.nm_explored.proofs.PostLemmas.{none_placed, pair_for, pairs_swap, posts_found, posts_open}
 use Rattle.nm_explored.proofs.PostLemmas.{put_swap, turned}
+use Rattle.nm_explored.proofs.SenderLemmas.{selects_no_other, sent_next}
 use Rattle.nm_explored.proofs.SeenLemmas.{AreSeen, IsLater, act_kept, after_arrival, after_deed, coming_kept}
 use Rattle.nm_explored.proofs.SeenLemmas.{next_kept}
 use Rattle.nm_explored.proofs.SeenLemmas.{seen_arrival, seen_deed, set_seen, wait_kept}
@@ -179,9 +180,10 @@ names_no_other o from b named other =
     none_between false true = refl
     none_between false false = refl
 
--- two messages of different senders, of which one goes to a receive that names its sender
+-- two messages of different senders, of which one goes to a receive that does not select the other
 module _ (x : Spot) (is : IsOrderly x) (a b : Arrival) (o : Receive) (from : ℕ) (to : receive_of_spot x a ≡ Some o)
-    (named : o.from ≡ peer.One from) (of : a.env.from ≡ from) (other : (from == b.env.from) ≡ false)
+    (takes_not : matches o.from o.tag o.ctx b.env ≡ false) (of : a.env.from ≡ from)
+    (other : (from == b.env.from) ≡ false)
     (new_a : a.n ≡ came_of x a.env.from) (new_b : b.n ≡ came_of x b.env.from)
   where
     past_a : came_of x a.env.from ≤ a.n
@@ -192,9 +194,6 @@ module _ (x : Spot) (is : IsOrderly x) (a b : Arrival) (o : Receive) (from : ℕ
 
     apart : (a.env.from == b.env.from) ≡ false
     apart = ap (λ (k : ℕ). k == b.env.from) of ∙ other
-
-    takes_not : matches o.from o.tag o.ctx b.env ≡ false
-    takes_not = names_no_other o from b named other
 
     -- another receive takes the other message
     other_number : (p : Receive) → receive_of_spot x b ≡ Some p → (p.number == o.number) ≡ false
@@ -463,6 +462,7 @@ module _ (eager ranks : ℕ) (lines : List Line) (i from : ℕ) (s : List Spot) 
           no_claim = at.no_claim;
           calm = calm_next eager ranks lines at.no_cancel s u at.calm go;
           orderly = orderly_next eager ranks lines at.no_cancel at.no_claim s u at.calm at.orderly go;
+          sent = sent_next eager ranks lines s u at.sent go;
           arrival = a;
           is = record {
             inside = at.is.inside;
@@ -567,7 +567,7 @@ module _ (eager ranks : ℕ) (lines : List Line) (i from : ℕ) (s : List Spot) 
       (message_kept (λ k. slice_get s k) (λ k. slice_get (slice_set s i (arrived_at x b)) k)
       (set_seen s i x (arrived_at x b) at.is.here (seen_arrival x b)) i x (arrived_at x b) at.is.here own from
       (came_same x b from apart) a at.is.next)
-      (to_behind x orderly a b at.is.receive from at.is.to at.is.named of apart new new_b) (
+      (to_behind x orderly a b at.is.receive from at.is.to takes_not of apart new new_b) (
         record { rank = i; by = move.Arrive b },
         at.is.inside,
         record {
@@ -584,7 +584,7 @@ module _ (eager ranks : ℕ) (lines : List Line) (i from : ℕ) (s : List Spot) 
         },
         set_twice s i (arrived_at x b) (arrived_at (arrived_at x b) a)
             ∙ ap (λ (y : Spot). slice_set s i y)
-            (both_come x orderly a b at.is.receive from at.is.to at.is.named of apart new new_b)
+            (both_come x orderly a b at.is.receive from at.is.to takes_not of apart new new_b)
             ∙ sym (set_twice s i (arrived_at x a) (arrived_at (arrived_at x a) b)),
       )
     where
@@ -596,6 +596,14 @@ module _ (eager ranks : ℕ) (lines : List Line) (i from : ℕ) (s : List Spot) 
 
       apart : (from == b.env.from) ≡ false
       apart = ap (λ (k : ℕ). from == k) of_b ∙ other
+
+      takes_not : matches at.is.receive.from at.is.receive.tag at.is.receive.ctx b.env ≡ false
+      takes_not = elim at.is.named [
+        | inl names ↦ names_no_other at.is.receive from b names apart
+        | inr none ↦
+            selects_no_other lines s at.sent i from next.from at.is.receive none (turned next.from from ∙ other) b
+            next.next
+      ]
 
       own : slice_get (slice_set s i (arrived_at x b)) i ≡ Some (arrived_at x b)
       own = get_set_same s i (arrived_at x b) below

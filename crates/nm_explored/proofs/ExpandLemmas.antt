@@ -26,6 +26,7 @@ use Rattle.nm_explored.specs.Stores.{states_in}
 use Rattle.nm_explored.proofs.CalmLemmas.{met_calm}
 use Rattle.nm_explored.proofs.MetLemmas.{low_kept, low_set, state_at, states_kept, turn_same}
 use Rattle.nm_explored.proofs.OrderlyLemmas.{met_orderly}
+use Rattle.nm_explored.proofs.SenderLemmas.{met_sent}
 use Rattle.nm_explored.proofs.StoreLemmas.{own_place, spot_kept}
 
 pub there_kept : (a b : Store) → Grows a b → (u : List Spot) → IsThere a u → IsThere b u
@@ -97,8 +98,8 @@ module _ (eager ranks : ℕ) (lines : List Line) where
           (spot_kept old.table new.table ids t.rank spot grows.table is)
           (leads made_it.0 t made_it.1 spot is))
 
-      named : (i from : ℕ) (a : Arrival) → IsNamed ranks (spot_in old.table ids) i from a →
-          IsNamed ranks (λ k. slice_get state k) i from a
+      named : (i from : ℕ) (a : Arrival) → IsNamed ranks lines (spot_in old.table ids) i from a →
+          IsNamed ranks lines (λ k. slice_get state k) i from a
       named i from a is = record {
         inside = is.inside;
         low = is.low;
@@ -145,6 +146,7 @@ module _ (eager ranks : ℕ) (lines : List Line) where
               no_claim = one.no_claim;
               calm = met_calm eager ranks lines one.no_cancel state (made.sound k ids here).met;
               orderly = met_orderly eager ranks lines one.no_cancel one.no_claim state (made.sound k ids here).met;
+              sent = met_sent eager ranks lines state (made.sound k ids here).met;
               arrival = one.is.0;
               is = named one.turn.rank one.is.1 one.is.0 one.is.2;
             },

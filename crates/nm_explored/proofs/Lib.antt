@@ -16,6 +16,7 @@ mod RestedLemmas
 pub mod RestLemmas
 pub mod ResultLemmas
 mod SeenLemmas
+mod SenderLemmas
 pub mod SendLemmas
 pub mod SetLemmas
 pub mod SinceLemmas

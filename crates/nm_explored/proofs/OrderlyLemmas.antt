@@ -65,7 +65,7 @@ none_left {X} test p (x ∷ xs) none = by_kept (p x) (test x) refl none (none_le
     by_kept false true is none later = absurd (false≢true (sym none))
     by_kept false false is none later = later none
 
-has_left : {X : Type 0} (p : X → Bool) (xs : List X) (x : X) → Has (filter p xs) x → Has xs x × (p x ≡ true)
+pub has_left : {X : Type 0} (p : X → Bool) (xs : List X) (x : X) → Has (filter p xs) x → Has xs x × (p x ≡ true)
 has_left p [] x at = absurd (no_item at.0 x at.1)
 has_left {X} p (y ∷ ys) x at = by_kept (p y) refl at.0 at.1 (has_left p ys x)
   where

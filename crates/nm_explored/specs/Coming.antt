@@ -1,9 +1,16 @@
--- The arrival of a message that goes to a receive that names its sender is enough, too.
-use Rattle.std.specs.Prelude.{◌≡◌, ◌⊎◌, ℕ, ◌<◌, Option, Some, List}
-use Rattle.std.specs.List.{slice_get, slice_set}
+-- The arrival of a message that goes to a receive which can take no other rank's is enough, too.
+use Rattle.std.specs.Prelude.{◌≡◌, ◌⊎◌, ℕ, ◌<◌, ◌==◌, ◌&&◌, ◌||◌, Bool, true, false, not, Option, Some, List}
+use Rattle.std.specs.List.{list_all, slice_get, slice_set}
 use Rattle.nm_types.specs.declared.messages.Arrival.{Arrival}
 use Rattle.nm_types.specs.declared.messages.Peer.TheVariants as peer
+use Rattle.nm_types.specs.declared.scripts.Body.{Body}
+use Rattle.nm_types.specs.declared.scripts.Command.{Command}
+use Rattle.nm_types.specs.declared.scripts.Command.TheVariants as command
 use Rattle.nm_types.specs.declared.scripts.Line.{Line}
+use Rattle.nm_types.specs.Commands.{command_at, commands_of}
+use Rattle.nm_history.specs.Selection.{matches_tag}
+use Rattle.nm_outcomes.specs.declared.spots.deeds.Deed.{Deed}
+use Rattle.nm_outcomes.specs.declared.spots.deeds.Deed.TheVariants as deed
 use Rattle.nm_outcomes.specs.declared.spots.deeds.Receive.{Receive}
 use Rattle.nm_outcomes.specs.RankStates.{Spot, arrived_at, receive_of_spot}
 use Rattle.nm_explored.specs.declared.choices.moves.Move.TheVariants as move
@@ -14,8 +21,34 @@ use Rattle.nm_explored.specs.Moves.{AreMovesOf}
 use Rattle.nm_explored.specs.Chosen.{Acts, AreActsOfOne, AreCalm, HasNoCancel, LetsAct}
 use Rattle.nm_explored.specs.Orderly.{AreOrderly, HasNoClaim}
 
--- this is the next message from a rank, and goes to a receive that names the rank
-pub record IsNamed (ranks : ℕ) (v : ℕ → Option Spot) (i from : ℕ) (a : Arrival) : Type 0 where
+-- a command sends a message to rank i that a receive there selects, whatever rank the receive names
+abbrev pub may_send : ℕ → Receive → Command → Bool
+may_send i r (command.Send to q tag ctx sync body) = to == i && (r.ctx == ctx && matches_tag r.tag tag)
+may_send i r _ = false
+
+-- no line of a rank but this one sends such a message
+abbrev pub HasNoOtherSender : List Line → ℕ → ℕ → Receive → Type 0
+HasNoOtherSender lines i from r =
+    list_all (λ line. line.rank == from || not (may_send i r line.command)) lines ≡ true
+
+-- a receive of rank i takes messages of this rank alone: it names it (MPI 3.1, 3.2.4), or no other rank sends one that
+-- it selects
+abbrev pub TakesOnlyFrom : List Line → ℕ → ℕ → Receive → Type 0
+TakesOnlyFrom lines i from r = (r.from ≡ peer.One from) ⊎ HasNoOtherSender lines i from r
+
+-- what a rank sent is sent by a line of its own
+abbrev pub IsSent : List Line → ℕ → Deed → Type 0
+IsSent lines i (deed.Send to n tag ctx len how line) =
+    (q : ℕ) × (sync : Bool) × (body : Body)
+    × (command_at (commands_of i lines) line ≡ Some (command.Send to q tag ctx sync body))
+IsSent lines i _ = Unit {0}
+
+-- so it is with all that the ranks sent
+abbrev pub AreSent : List Line → List Spot → Type 0
+AreSent lines s = (i : ℕ) (x : Spot) → slice_get s i ≡ Some x → (d : Deed) → Has x.deeds d → IsSent lines i d
+
+-- this is the next message from a rank, and goes to a receive that takes messages of this rank alone
+pub record IsNamed (ranks : ℕ) (lines : List Line) (v : ℕ → Option Spot) (i from : ℕ) (a : Arrival) : Type 0 where
   pub inside : i < ranks
   pub low : from < ranks
   pub spot : Spot
@@ -23,7 +56,7 @@ pub record IsNamed (ranks : ℕ) (v : ℕ → Option Spot) (i from : ℕ) (a : A
   pub next : message_next v i from ≡ Some a
   pub receive : Receive
   pub to : receive_of_spot spot a ≡ Some receive
-  pub named : receive.from ≡ peer.One from
+  pub named : TakesOnlyFrom lines i from receive
 
 -- In these states of all ranks it is enough that this message arrives: in a script without cancels,
 -- matched probes and matched receives.
@@ -32,8 +65,9 @@ pub record LetsCome (ranks : ℕ) (lines : List Line) (i from : ℕ) (s : List S
   pub no_claim : HasNoClaim lines
   pub calm : AreCalm s
   pub orderly : AreOrderly s
+  pub sent : AreSent lines s
   pub arrival : Arrival
-  pub is : IsNamed ranks (λ k. slice_get s k) i from arrival
+  pub is : IsNamed ranks lines (λ k. slice_get s k) i from arrival
 
 -- the next message from a rank arrives
 abbrev pub Comes : ℕ → ℕ → List Spot → List Spot → Type 0
@@ -57,20 +91,21 @@ abbrev pub Makes : ℕ → List Line → Choice → List Spot → List Spot → 
 Makes eager lines (Acting i) s u = Acts eager lines i s u
 Makes eager lines (Arriving i from) s u = Comes i from s u
 
--- a message that goes to a receive that names its sender arrives
-abbrev pub IsNamedTurn : ℕ → (ℕ → Option Spot) → Turn → Type 0
-IsNamedTurn ranks v t = (a : Arrival) × (from : ℕ) × IsNamed ranks v t.rank from a × (t.by ≡ move.Arrive a)
+-- a message that goes to a receive that takes messages of its sender alone arrives
+abbrev pub IsNamedTurn : ℕ → List Line → (ℕ → Option Spot) → Turn → Type 0
+IsNamedTurn ranks lines v t =
+    (a : Arrival) × (from : ℕ) × IsNamed ranks lines v t.rank from a × (t.by ≡ move.Arrive a)
 
 -- such an arrival is among these
 pub record HasNamed (ranks : ℕ) (lines : List Line) (v : ℕ → Option Spot) (turns : List Turn) : Type 0 where
   pub no_cancel : HasNoCancel lines
   pub no_claim : HasNoClaim lines
   pub turn : Turn
-  pub is : IsNamedTurn ranks v turn
+  pub is : IsNamedTurn ranks lines v turn
   pub has : Has turns turn
 
 -- These moves are enough: all are among them, or all of the next command of one rank, which is settled, or
--- the arrival of a message that goes to a receive that names its sender.
+-- the arrival of a message that goes to a receive which can take no other rank's.
 abbrev pub AreEnoughTurns : ℕ → ℕ → List Line → (ℕ → Option Spot) → List Turn → Type 0
 AreEnoughTurns eager ranks lines v turns =
     ((i : ℕ) → i < ranks → AreMovesOf eager ranks lines v i turns)

@@ -1,12 +1,13 @@
 //! Which moves are enough at a state.
 
-ghost use Rattle.std.specs.Prelude.{◌≡◌, ℕ, ◌<◌, ◌∷◌, [], IfOk, IfSome, IsTrue, Some, length, not};
+ghost use Rattle.std.specs.Prelude.{◌≡◌, ℕ, ◌<◌, ◌==◌, ◌||◌, ◌∷◌, [], IfOk, IfSome, IsTrue, Some, length, not};
 ghost use Rattle.std.specs.List.{list_all};
 ghost use Rattle.nm_outcomes.specs.declared.spots.deeds.Deed as deed;
 ghost use Rattle.nm_outcomes.specs.declared.spots.deeds.Receive as receive;
 ghost use Rattle.nm_outcomes.specs.RankStates as spots;
 ghost use Rattle.nm_outcomes.specs.RankStates.{receive_of_spot};
 ghost use Rattle.nm_history.specs.RankRun.{is_canceller as is_cancel_lem};
+ghost use Rattle.nm_history.specs.Selection.{matches_tag as matches_tag_lem};
 ghost use Rattle.nm_explored.specs.declared.choices.moves.Move.TheVariants.{Act};
 ghost use Rattle.nm_explored.specs.declared.choices.moves.Turn as the_turn;
 ghost use Rattle.nm_explored.specs.Successors.{message_next, spot_in};
@@ -14,6 +15,7 @@ ghost use Rattle.nm_search.specs.Lists.{Has};
 ghost use Rattle.nm_explored.specs.Moves.{AreSendsShort, IsAct, IsTurn};
 ghost use Rattle.nm_explored.specs.Chosen.{IsSettled, IsSettledBy};
 ghost use Rattle.nm_explored.specs.Coming.{AreEnoughTurns, IsNamed, IsNamedTurn};
+ghost use Rattle.nm_explored.specs.Coming.{TakesOnlyFrom, may_send as may_send_lem};
 ghost use Rattle.nm_explored.specs.Orderly.{is_claiming as is_claiming_lem};
 
 use crate::choices::choices::{View, answer, line_at, next_message};
@@ -22,7 +24,7 @@ use nm_lookups::asked::commands::command_of_line;
 use nm_outcomes::spots::deeds::Receive;
 use nm_outcomes::spots::looks::ran;
 use nm_outcomes::spots::ranks::Rank;
-use nm_types::{Arrival, Command, Line, Memory, Peer};
+use nm_types::{Arrival, Command, Line, Memory, Peer, TagPick};
 use std::alloc::Global;
 
 /// Whether a command is a cancel.
@@ -132,23 +134,78 @@ fn names(peer: Peer, from: u8) -> bool
     }
 }
 
-/// The receive that takes a message, if it names this rank.
-fn named_receive(rank: &Rank, a: &Arrival, from: u8) -> Option<Receive>
-    ensures { IfSome result (λ r. (receive_of_spot rank.now a.now ≡ Some r) × (r.from ≡ Peer.One from)) }
+/// Whether a tag is any or this one.
+fn matches_tag(pick: TagPick, tag: u16) -> bool
+    ensures { result ≡ matches_tag_lem pick tag }
+{
+    match pick {
+        TagPick::Any => true,
+        TagPick::One(named) => named == tag,
+    }
+}
+
+/// Whether a command sends a message to a rank that a receive there selects, whatever rank the receive names.
+fn may_send(i: u8, r: Receive, command: &Command) -> bool
+    ensures { result ≡ may_send_lem i r command.now }
+{
+    match command {
+        Command::Send { to, tag, ctx, .. } => *to == i
+            && (r.ctx == *ctx && matches_tag(r.tag, *tag)),
+        _ => false,
+    }
+}
+
+/// Whether a line is this rank's, or sends no such message.
+fn is_no_other_sender(line: &Line, i: u8, from: u8, r: Receive) -> bool
+    ensures { result ≡ (line.now.rank == from || not (may_send_lem i r line.now.command)) }
+{
+    if line.rank == from {
+        return true;
+    }
+    !may_send(i, r, &line.command)
+}
+
+/// Whether no line of a rank but this one sends such a message.
+fn has_no_other_sender(lines: &[Line], i: u8, from: u8, r: Receive) -> bool
+    ensures { result ≡ list_all (λ line. line.rank == from || not (may_send_lem i r line.command)) lines.now }
+{
+    lines
+        .iter()
+        .all(|line| is_no_other_sender(line, i, from, r))
+}
+
+/// Whether a receive of a rank takes messages of this rank alone.
+fn takes_only(lines: &[Line], i: u8, from: u8, r: Receive) -> bool
+    ensures { IsTrue result → TakesOnlyFrom lines.now i from r }
+{
+    if names(r.from, from) {
+        return true;
+    }
+    has_no_other_sender(lines, i, from, r)
+}
+
+/// The receive that takes a message, if it takes messages of this rank alone.
+fn only_receive(lines: &[Line], i: u8, rank: &Rank, a: &Arrival, from: u8) -> Option<Receive>
+    ensures { IfSome result (λ r. (receive_of_spot rank.now a.now ≡ Some r) × TakesOnlyFrom lines.now i from r) }
 {
     match rank.receive_for(a) {
-        Some(r) => if names(r.from, from) { Some(r) } else { None },
+        Some(r) => if takes_only(lines, i, from, r) {
+            Some(r)
+        } else {
+            None
+        },
         None => None,
     }
 }
 
-/// The next message from a rank to a rank in this state, if it goes to a receive that names its sender.
+/// The next message from a rank to a rank in this state, if it goes to such a receive.
 fn named_next(view: View, i: u8, rank: &Rank, from: u8) -> Option<Arrival>
     ensures { IfSome result (λ a. (message_next (spot_in view.entry.table.now view.entry.ids.now) i from ≡ Some a)
-        × (r : receive.Receive) × (receive_of_spot rank.now a ≡ Some r) × (r.from ≡ Peer.One from)) }
+        × (r : receive.Receive) × (receive_of_spot rank.now a ≡ Some r)
+        × TakesOnlyFrom view.entry.lines.now i from r) }
 {
     match next_message(view, i, from) {
-        Some(a) => match named_receive(rank, &a, from) {
+        Some(a) => match only_receive(view.lines, i, rank, &a, from) {
             Some(_) => Some(a),
             None => None,
         },
@@ -156,10 +213,10 @@ fn named_next(view: View, i: u8, rank: &Rank, from: u8) -> Option<Arrival>
     }
 }
 
-/// The next message from a rank, if it goes to a receive that names its sender.
+/// The next message from a rank, if it goes to a receive that takes messages of this rank alone.
 fn named_arrival(view: View, i: u8, from: u8, ranks: u8) -> Option<Arrival>
     ensures { i < ranks → from < ranks → IfSome result
-        (λ a. IsNamed ranks (spot_in view.entry.table.now view.entry.ids.now) i from a) }
+        (λ a. IsNamed ranks view.entry.lines.now (spot_in view.entry.table.now view.entry.ids.now) i from a) }
 {
     match view.rank(i) {
         Some(rank) => named_next(view, i, rank, from),
@@ -167,10 +224,10 @@ fn named_arrival(view: View, i: u8, from: u8, ranks: u8) -> Option<Arrival>
     }
 }
 
-/// The first message to a rank that goes to a receive that names its sender.
+/// The first message to a rank that goes to such a receive.
 fn first_named(view: View, i: u8, ranks: u8) -> Option<Arrival>
     ensures { i < ranks → IfSome result (λ a. (from : ℕ)
-        × IsNamed ranks (spot_in view.entry.table.now view.entry.ids.now) i from a) }
+        × IsNamed ranks view.entry.lines.now (spot_in view.entry.table.now view.entry.ids.now) i from a) }
 {
     for from in 0..ranks {
         if let Some(a) = named_arrival(view, i, from, ranks) {
@@ -180,9 +237,10 @@ fn first_named(view: View, i: u8, ranks: u8) -> Option<Arrival>
     None
 }
 
-/// The arrival of the first message that goes to a receive that names its sender.
+/// The arrival of the first message that goes to such a receive.
 fn coming(view: View, ranks: u8) -> Option<Turn>
-    ensures { IfSome result (IsNamedTurn ranks (spot_in view.entry.table.now view.entry.ids.now)) }
+    ensures { IfSome result (IsNamedTurn ranks view.entry.lines.now
+        (spot_in view.entry.table.now view.entry.ids.now)) }
 {
     for i in 0..ranks {
         if let Some(a) = first_named(view, i, ranks) {
@@ -204,7 +262,7 @@ fn only(alloc: Global, turn: Turn) -> Result<Vec<Turn>, Memory>
     Ok(turns)
 }
 
-/// The arrival of a message that goes to a receive that names its sender, or all moves.
+/// The arrival of a message that goes to a receive which can take no other rank's, or all moves.
 fn arrivals(alloc: Global, view: View, ranks: u8) -> Result<Vec<Turn>, Memory>
     ensures enough { IsTrue (list_all (λ line. not (is_cancel_lem line.command)) view.entry.lines.now) →
         length view.entry.lines.now < 4294967293 →

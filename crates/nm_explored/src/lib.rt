@@ -14,8 +14,8 @@
 //!   than the limit.
 //! - At each state all moves are made, or those that are enough. Without cancels these are the moves of one
 //!   rank whose next command is a send, a receive (without matched probes and receives) or a wait that may
-//!   end; without all of these, also the arrival of a message for a receive that names its sender. The other
-//!   moves can be postponed, and lead to the same state.
+//!   end; without all of these, also the arrival of a message for a receive that names its sender, or that no
+//!   other rank has a send for. The other moves can be postponed, and lead to the same state.
 //! - Each end is at a state that moves lead to, at which no rank has a move left (`TellsOnly`);
 //!   `nm_listed::lawful` says that it is a run's. The moves that go with an end lead there (`AreEndsByWay`).
 #![tactic(auto)]
