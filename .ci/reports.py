@@ -50,9 +50,9 @@ def fits(pick, sender, message):
 
 
 class World:
-    def __init__(self, script, eager):
+    def __init__(self, script, eager, either):
         self.ranks, self.commands = commands_of(script)
-        self.eager = eager
+        self.eager, self.either = eager, either
 
     def message(self, state, name):
         sender, to, n = name
@@ -217,10 +217,21 @@ class World:
                 if name in own.recalled and name not in dict(own.undone) and end:
                     yield own._replace(undone=put(own.undone, name, end))
 
+    @staticmethod
+    def waiting(before, own):
+        """The rank where the standard send that it just began waits, if it does not wait anyway."""
+        if not own or before.begun or not own.begun or own.begun[0] != "send":
+            return []
+        _, to, n = own.begun
+        messages = dict(own.sent)[to]
+        asking = messages[:n] + (messages[n]._replace(asks=True),)
+        return [] if messages[n].asks else [own._replace(sent=put(own.sent, to, asking))]
+
     def next_states(self, state):
         for rank in range(self.ranks):
             commanded = self.commanded(state, rank)
             others = [*self.arrivals(state, rank), *self.quiet(state, rank)]
+            others += self.waiting(state[rank], commanded) if self.either else []
             for own in [commanded, *others] if commanded else others:
                 yield state[:rank] + (own,) + state[rank + 1:]
 
@@ -239,9 +250,10 @@ class TooMany(Exception):
     pass
 
 
-def reports(script, eager=1024, cells=CELLS, limit=200_000):
-    """All reports of the script's runs, in the order of their bytes. A run is at rest where no event may come."""
-    world = World(script, eager)
+def reports(script, eager=1024, cells=CELLS, limit=200_000, either=False):
+    """All reports of the script's runs, in the order of their bytes, also those where each standard send may wait, if either
+    is asked for. A run is at rest where no event may come."""
+    world = World(script, eager, either)
     start = (START,) * world.ranks
     met, left, found = {start}, [start], set()
     while left:

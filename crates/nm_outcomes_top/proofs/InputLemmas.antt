@@ -1,5 +1,5 @@
 -- The two parts of what was read, and answers that are right.
-use Rattle.std.proofs.Common.{◌≡◌, ℕ, inl, inr, List, Option, Some, None, refl, sym, ◌∙◌, subst}
+use Rattle.std.proofs.Common.{◌≡◌, ◌≢◌, ℕ, inl, inr, List, Option, Some, None, refl, sym, ◌∙◌, subst}
 use Rattle.std.specs.Option.{IfSome}
 use Rattle.nm_types.specs.declared.scripts.Line.{Line}
 use Rattle.nm_types.specs.Sizes.{Sizes}
@@ -11,9 +11,12 @@ use Rattle.nm_listed.specs.Finding.{AreTooLong}
 use Rattle.nm_outcomes_top.specs.OptionWords.{IsTaken, sizes_for}
 use Rattle.nm_outcomes_top.specs.declared.words.Asked.{Asked}
 use Rattle.nm_outcomes_top.specs.declared.words.Question.{Question}
-use Rattle.nm_outcomes_top.specs.declared.words.Question.TheVariants.{All, Trace, Among}
+use Rattle.nm_outcomes_top.specs.declared.words.Question.TheVariants.{All, Trace, Among, Either}
+use Rattle.nm_variants.specs.Reports.{HasTooManyStates, HaveTooManyBytes, IsUnion}
+use Rattle.nm_variants.specs.declared.unions.Union.TheVariants as union
+use Rattle.nm_outcomes_top.specs.declared.tellings.Telling.TheVariants.{Joined}
 use Rattle.nm_outcomes_top.specs.Answers.{IsAnswer, IsAnswerFor, IsAnswerIn, IsAnswerOf, IsAnswerTo}
-use Rattle.nm_outcomes_top.specs.Answers.{IsInputOf, read_of}
+use Rattle.nm_outcomes_top.specs.Answers.{IsInputOf, IsTelling, read_of}
 use Rattle.nm_outcomes_top.specs.declared.answers.Response.{Response}
 use Rattle.nm_outcomes_top.specs.declared.answers.Response.TheVariants.{NoReport, Outgrown, Refused, Told, Unread, Usage}
 
@@ -22,6 +25,7 @@ pub one_input : (question : Question) (bytes script report s r : List ℕ) → I
     IsInputOf question bytes s r → (script ≡ s) × (report ≡ r)
 one_input All bytes script report s r one other = (one.0 ∙ sym other.0, one.1 ∙ sym other.1)
 one_input (Trace n) bytes script report s r one other = (one.0 ∙ sym other.0, one.1 ∙ sym other.1)
+one_input Either bytes script report s r one other = (one.0 ∙ sym other.0, one.1 ∙ sym other.1)
 one_input Among bytes script report s r one other =
     let same = one.cut.only s r other.cut.cut in
     (sym same.0, sym same.1)
@@ -108,13 +112,35 @@ no_line found a none some = let both : None ≡ Some a = sym none ∙ some in cc
 
 -- the causes of an answer that there are too many
 pub outgrown_long : (asked : Asked) (ranks : ℕ) (lines : List Line) (report : List ℕ) (shape : Sizes) →
-    shape ≡ sizes_for asked ranks → AreTooLong shape lines →
+    asked.question ≢ Either → shape ≡ sizes_for asked ranks → AreTooLong shape lines →
     IsAnswerFor asked ranks lines report (Outgrown asked.states)
-outgrown_long asked ranks lines report shape same long =
-    (refl, inr (subst (λ (s : Sizes). AreTooLong s lines) same long))
+outgrown_long asked ranks lines report shape one same long =
+    (refl, inl (one, inr (subst (λ (s : Sizes). AreTooLong s lines) same long)))
 
 pub outgrown_many : (asked : Asked) (ranks : ℕ) (lines : List Line) (report : List ℕ) (shape : Sizes) →
-    shape ≡ sizes_for asked ranks → AreTooMany shape.eager shape.ranks lines asked.states →
+    asked.question ≢ Either → shape ≡ sizes_for asked ranks →
+    AreTooMany shape.eager shape.ranks lines asked.states →
     IsAnswerFor asked ranks lines report (Outgrown asked.states)
-outgrown_many asked ranks lines report shape same many =
-    (refl, inl (subst (λ (s : Sizes). AreTooMany s.eager s.ranks lines asked.states) same many))
+outgrown_many asked ranks lines report shape one same many =
+    (refl, inl (one, inl (subst (λ (s : Sizes). AreTooMany s.eager s.ranks lines asked.states) same many)))
+
+-- what was found of all variants is an answer
+pub joined_told : (asked : Asked) (ranks : ℕ) (lines : List Line) (report : List ℕ) (shape : Sizes)
+    (texts : List (List ℕ)) (count : ℕ) → asked.question ≡ Either → shape ≡ sizes_for asked ranks →
+    IsUnion shape lines asked.states (union.All texts count) →
+    IsAnswerFor asked ranks lines report (Told (Joined texts count))
+joined_told asked ranks lines report shape texts count is same found =
+    subst (λ (q : Question). IsTelling q (sizes_for asked ranks) lines report (Joined texts count)) (sym is)
+    (subst (λ (s : Sizes). IsUnion s lines asked.states (union.All texts count)) same found)
+
+pub joined_many : (asked : Asked) (ranks : ℕ) (lines : List Line) (report : List ℕ) (shape : Sizes) →
+    asked.question ≡ Either → shape ≡ sizes_for asked ranks → IsUnion shape lines asked.states union.TooMany →
+    IsAnswerFor asked ranks lines report (Outgrown asked.states)
+joined_many asked ranks lines report shape is same many =
+    (refl, inr (is, inl (subst (λ (s : Sizes). HasTooManyStates s lines asked.states) same many)))
+
+pub joined_long : (asked : Asked) (ranks : ℕ) (lines : List Line) (report : List ℕ) (shape : Sizes) →
+    asked.question ≡ Either → shape ≡ sizes_for asked ranks → IsUnion shape lines asked.states union.TooLong →
+    IsAnswerFor asked ranks lines report (Outgrown asked.states)
+joined_long asked ranks lines report shape is same long =
+    (refl, inr (is, inr (subst (λ (s : Sizes). HaveTooManyBytes s lines) same long)))

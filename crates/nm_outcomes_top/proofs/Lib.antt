@@ -1,5 +1,6 @@
 mod EndLemmas
 mod InputLemmas
 mod ListingLemmas
+mod SafeLemmas
 mod TellingLemmas
 mod WordLemmas

@@ -8,13 +8,13 @@ use Rattle.nm_listed.specs.declared.places.Place.TheVariants.{At, Not}
 use Rattle.nm_outcomes_top.specs.OptionWords.{sizes_for}
 use Rattle.nm_outcomes_top.specs.declared.words.Asked.{Asked}
 use Rattle.nm_outcomes_top.specs.declared.words.Question.{Question}
-use Rattle.nm_outcomes_top.specs.declared.words.Question.TheVariants.{All, Trace, Among}
+use Rattle.nm_outcomes_top.specs.declared.words.Question.TheVariants.{All, Trace, Among, Either}
 use Rattle.nm_outcomes_top.specs.Answers.{IsTelling, telling_status, telling_text, traced_status}
-use Rattle.nm_outcomes_top.specs.Endings.{IsAmong, IsFewerSaid, IsGiven, IsListed, IsNotAmong, IsSpoken, IsTraceSaid}
+use Rattle.nm_outcomes_top.specs.Endings.{IsAmong, IsEitherListed, IsFewerSaid, IsGiven, IsListed, IsNotAmong, IsSpoken, IsTraceSaid}
 use Rattle.nm_outcomes_top.specs.Endings.{Speaks}
-use Rattle.nm_outcomes_top.specs.Texts.{fewer_text, is_stuck}
+use Rattle.nm_outcomes_top.specs.Texts.{fewer_text, is_stuck, joined_text}
 use Rattle.nm_outcomes_top.specs.declared.tellings.Telling.{Telling}
-use Rattle.nm_outcomes_top.specs.declared.tellings.Telling.TheVariants.{Fewer, Listed, Placed, Traced}
+use Rattle.nm_outcomes_top.specs.declared.tellings.Telling.TheVariants.{Fewer, Joined, Listed, Placed, Traced}
 use Rattle.nm_outcomes_top.proofs.ListingLemmas.{low, low_by}
 
 -- what is known where it was said what was asked
@@ -36,6 +36,7 @@ telling_spoken (Traced trace) = elim (traced_low trace.items) [ inl h ↦ inl h 
 telling_spoken (Fewer n c) = inr (inr (inl refl))
 telling_spoken (Placed (At n)) = inl refl
 telling_spoken (Placed (Not l)) = inr (inr (inr refl))
+telling_spoken (Joined texts count) = elim (low texts) [ inl h ↦ inl h | inr h ↦ inr (inl h) ]
 
 -- other statuses are none of them
 pub spoken : (status : ℕ) → IsSpoken status → (k : ℕ) → ((2 ≤ k) × (k ≤ 6)) ⊎ (9 ≤ k) → status ≡ k → ⊥
@@ -48,6 +49,11 @@ spoken status (inr (inr (inl h))) k (inr apart) is = omega (arith, h, apart, is)
 spoken status (inr (inr (inr h))) k (inl apart) is = omega (arith, h, apart, is)
 spoken status (inr (inr (inr h))) k (inr apart) is = omega (arith, h, apart, is)
 
+-- want of memory has another status
+pub no_low : (status : ℕ) → status ≡ 6 → (status ≡ 0) ⊎ (status ≡ 1) → ⊥
+no_low status six (inl h) = omega (arith, six, h)
+no_low status six (inr h) = omega (arith, six, h)
+
 pub not_told : (t : Telling) (k : ℕ) → ((2 ≤ k) × (k ≤ 6)) ⊎ (9 ≤ k) → k ≡ telling_status t → ⊥
 not_told t k apart h = spoken (telling_status t) (telling_spoken t) k apart (sym h)
 
@@ -58,16 +64,24 @@ speaks_of All shape lines report (Listed texts) right = low texts
 speaks_of All shape lines report (Traced trace) right = absurd right
 speaks_of All shape lines report (Fewer n c) right = absurd right
 speaks_of All shape lines report (Placed place) right = absurd right
+speaks_of All shape lines report (Joined texts count) right = absurd right
 speaks_of (Trace k) shape lines report (Listed texts) right = absurd right
 speaks_of (Trace k) shape lines report (Traced trace) right =
     elim (traced_low trace.items) [ inl h ↦ inl h | inr h ↦ inr (inl h) ]
 speaks_of (Trace k) shape lines report (Fewer n c) right = inr (inr refl)
 speaks_of (Trace k) shape lines report (Placed place) right = absurd right
+speaks_of (Trace k) shape lines report (Joined texts count) right = absurd right
 speaks_of Among shape lines report (Listed texts) right = absurd right
 speaks_of Among shape lines report (Traced trace) right = absurd right
 speaks_of Among shape lines report (Fewer n c) right = absurd right
 speaks_of Among shape lines report (Placed (At n)) right = inl refl
 speaks_of Among shape lines report (Placed (Not l)) right = inr refl
+speaks_of Among shape lines report (Joined texts count) right = absurd right
+speaks_of Either shape lines report (Listed texts) right = absurd right
+speaks_of Either shape lines report (Traced trace) right = absurd right
+speaks_of Either shape lines report (Fewer n c) right = absurd right
+speaks_of Either shape lines report (Placed place) right = absurd right
+speaks_of Either shape lines report (Joined texts count) right = low texts
 
 module _ {asked : Asked} {before after : Option (List ℕ)} {bytes : List ℕ} where
   -- what is told, for this question
@@ -86,11 +100,33 @@ module _ {asked : Asked} {before after : Option (List ℕ)} {bytes : List ℕ} w
   listed_by status given (Traced trace) right ended said = absurd right
   listed_by status given (Fewer n c) right ended said = absurd right
   listed_by status given (Placed place) right ended said = absurd right
+  listed_by status given (Joined texts count) right ended said = absurd right
 
   pub listed_of : (status : ℕ) → asked.question ≡ All → IsTold asked status before after bytes →
       IsListed asked status before after bytes
   listed_of status is told =
       listed_by status told.given told.telling (for All is told) told.ended told.said
+
+  joined_by : (status : ℕ) (given : IsGiven asked bytes) (t : Telling) →
+      IsTelling Either (sizes_for asked given.ranks) given.lines given.report t → status ≡ telling_status t →
+      Appends before after (telling_text t) → IsEitherListed asked status before after bytes
+  joined_by status given (Listed texts) right ended said = absurd right
+  joined_by status given (Traced trace) right ended said = absurd right
+  joined_by status given (Fewer n c) right ended said = absurd right
+  joined_by status given (Placed place) right ended said = absurd right
+  joined_by status given (Joined texts count) right ended said =
+      record {
+        given = given;
+        texts = texts;
+        reports = right.0;
+        ended = ended;
+        said = subst (λ (n : ℕ). Appends before after (joined_text n texts)) right.1 said;
+      }
+
+  pub joined_of : (status : ℕ) → asked.question ≡ Either → IsTold asked status before after bytes →
+      IsEitherListed asked status before after bytes
+  joined_of status is told =
+      joined_by status told.given told.telling (for Either is told) told.ended told.said
 
   traced_by : (number status : ℕ) → status ≤ 1 → (given : IsGiven asked bytes) (t : Telling) →
       IsTelling (Trace number) (sizes_for asked given.ranks) given.lines given.report t →
@@ -101,6 +137,7 @@ module _ {asked : Asked} {before after : Option (List ℕ)} {bytes : List ℕ} w
       record { given = given; trace = trace.items; one = right; ended = ended; said = said }
   traced_by number status small given (Fewer n c) right ended said = absurd (omega (arith, small, ended))
   traced_by number status small given (Placed place) right ended said = absurd right
+  traced_by number status small given (Joined texts count) right ended said = absurd right
 
   pub traced_of : (number status : ℕ) → (status ≡ 0) ⊎ (status ≡ 1) → asked.question ≡ Trace number →
       IsTold asked status before after bytes → IsTraceSaid asked number status before after bytes
@@ -125,6 +162,7 @@ module _ {asked : Asked} {before after : Option (List ℕ)} {bytes : List ℕ} w
         said = subst (λ (n : ℕ). Appends before after (fewer_text n c)) right.0 said;
       }
   fewer_by number given (Placed place) right ended said = absurd right
+  fewer_by number given (Joined texts count) right ended said = absurd right
 
   pub fewer_of : (number status : ℕ) → status ≡ 7 → asked.question ≡ Trace number →
       IsTold asked status before after bytes → IsFewerSaid asked number before after bytes
@@ -148,6 +186,7 @@ module _ {asked : Asked} {before after : Option (List ℕ)} {bytes : List ℕ} w
         said = said;
       }
   among_by given (Placed (Not l)) right ended said = absurd (omega (arith, ended))
+  among_by given (Joined texts count) right ended said = absurd right
 
   pub among_of : (status : ℕ) → status ≡ 0 → asked.question ≡ Among → IsTold asked status before after bytes →
       IsAmong asked before after bytes
@@ -160,6 +199,7 @@ module _ {asked : Asked} {before after : Option (List ℕ)} {bytes : List ℕ} w
   not_among_by given (Listed texts) right ended said = absurd right
   not_among_by given (Traced trace) right ended said = absurd right
   not_among_by given (Fewer n c) right ended said = absurd right
+  not_among_by given (Joined texts count) right ended said = absurd right
   not_among_by given (Placed (At n)) right ended said = absurd (omega (arith, ended))
   not_among_by given (Placed (Not l)) right ended said =
       record {

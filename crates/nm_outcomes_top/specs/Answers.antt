@@ -1,5 +1,5 @@
 -- What the program answers: a text and a status.
-use Rattle.std.specs.Prelude.{◌≡◌, ℕ, ◌⊎◌, List, [], Option, IfSome, if◌then◌else◌, nat_lt, take}
+use Rattle.std.specs.Prelude.{◌≡◌, ◌≢◌, ℕ, ◌⊎◌, List, [], Option, IfSome, if◌then◌else◌, nat_lt, take}
 use Rattle.nm_outside.specs.Told.{Rose}
 use Rattle.nm_types.specs.declared.scripts.Line.{Line}
 use Rattle.nm_types.specs.Sizes.{Sizes}
@@ -14,16 +14,18 @@ use Rattle.nm_listed.specs.Finding.{AreTooLong, HasFewer, IsOutcomeTrace}
 use Rattle.nm_listed.specs.Places.{IsPlace}
 use Rattle.nm_listed.specs.declared.places.Place.{Place}
 use Rattle.nm_listed.specs.declared.places.Place.TheVariants.{At, Not}
+use Rattle.nm_variants.specs.Reports.{AreVariantOutcomes, HasTooManyStates, HaveTooManyBytes}
+use Rattle.nm_variants.specs.Variants.{variants}
 use Rattle.nm_outcomes_top.specs.declared.answers.Response.{Response}
 use Rattle.nm_outcomes_top.specs.declared.answers.Response.TheVariants.{NoReport, Outgrown, Refused, Told, Unread, Usage}
 use Rattle.nm_outcomes_top.specs.declared.asking.Finding.{Finding}
 use Rattle.nm_outcomes_top.specs.declared.asking.Finding.TheVariants as finding
 use Rattle.nm_outcomes_top.specs.declared.tellings.Telling.{Telling}
-use Rattle.nm_outcomes_top.specs.declared.tellings.Telling.TheVariants.{Fewer, Listed, Placed, Traced}
+use Rattle.nm_outcomes_top.specs.declared.tellings.Telling.TheVariants.{Fewer, Joined, Listed, Placed, Traced}
 use Rattle.nm_outcomes_top.specs.declared.words.Asked.{Asked}
 use Rattle.nm_outcomes_top.specs.declared.words.Question.{Question}
-use Rattle.nm_outcomes_top.specs.declared.words.Question.TheVariants.{All, Trace, Among}
-use Rattle.nm_outcomes_top.specs.Texts.{fewer_text, is_stuck, no_report, outcomes_text, outgrown_text}
+use Rattle.nm_outcomes_top.specs.declared.words.Question.TheVariants.{All, Trace, Among, Either}
+use Rattle.nm_outcomes_top.specs.Texts.{fewer_text, is_stuck, joined_text, no_report, outcomes_text, outgrown_text}
 use Rattle.nm_outcomes_top.specs.Texts.{place_text, stuck_count, usage}
 use Rattle.nm_outcomes_top.specs.OptionWords.{IsTaken, NotTaken, sizes_for}
 
@@ -42,6 +44,7 @@ telling_text (Listed texts) = outcomes_text texts
 telling_text (Traced trace) = trace.items
 telling_text (Fewer number count) = fewer_text number count
 telling_text (Placed place) = place_text place
+telling_text (Joined texts count) = joined_text count texts
 
 -- the text of an answer
 abbrev pub text_of : Response → List ℕ
@@ -71,6 +74,7 @@ telling_status (Listed texts) = listed_status texts
 telling_status (Traced trace) = traced_status trace.items
 telling_status (Fewer number count) = 7
 telling_status (Placed place) = placed_status place
+telling_status (Joined texts count) = listed_status texts
 
 -- the status of an answer that was written
 abbrev pub status_of : Response → ℕ
@@ -82,7 +86,8 @@ status_of (Outgrown states) = 10
 status_of (Told telling) = telling_status telling
 
 -- What is told is right, by what is asked of the reports that the script can have in these sizes: all of them; a trace
--- of the one with this number, or that there are fewer; where the given report stands among them.
+-- of the one with this number, or that there are fewer; where the given report stands among them; all of them where
+-- each standard send may wait, and how many variants that makes.
 abbrev pub IsTelling : Question → Sizes → List Line → List ℕ → Telling → Type 0
 IsTelling All shape lines report (Listed texts) = AreOutcomes shape lines texts
 IsTelling (Trace number) shape lines report (Traced trace) = IsOutcomeTrace shape lines number trace.items
@@ -90,6 +95,8 @@ IsTelling (Trace number) shape lines report (Fewer other count) =
     (other ≡ number) × HasFewer shape lines number count
 IsTelling Among shape lines report (Placed place) =
     (texts : List (List ℕ)) × AreOutcomes shape lines texts × IsPlace texts report place
+IsTelling Either shape lines report (Joined texts count) =
+    AreVariantOutcomes shape lines texts × (count ≡ variants shape.eager lines)
 IsTelling question shape lines report telling = ⊥
 
 -- what was found out is right: what is told, or that the reports that the script can have have too many bytes
@@ -102,12 +109,22 @@ abbrev pub IsOutgrowing : Asked → Sizes → List Line → Type 0
 IsOutgrowing asked shape lines =
     AreTooMany shape.eager shape.ranks lines asked.states ⊎ AreTooLong shape lines
 
+-- .. where each standard send may wait
+abbrev pub IsOutgrowingEither : Asked → Sizes → List Line → Type 0
+IsOutgrowingEither asked shape lines = HasTooManyStates shape lines asked.states ⊎ HaveTooManyBytes shape lines
+
+-- .. by the question
+abbrev pub IsOver : Asked → Sizes → List Line → Type 0
+IsOver asked shape lines =
+    ((asked.question ≢ Either) × IsOutgrowing asked shape lines)
+    ⊎ ((asked.question ≡ Either) × IsOutgrowingEither asked shape lines)
+
 -- an answer for a script is right: what is asked of its reports, or that there are too many states or bytes
 abbrev pub IsAnswerFor : Asked → ℕ → List Line → List ℕ → Response → Type 0
 IsAnswerFor asked ranks lines report (Told telling) =
     IsTelling asked.question (sizes_for asked ranks) lines report telling
 IsAnswerFor asked ranks lines report (Outgrown states) =
-    (states ≡ asked.states) × IsOutgrowing asked (sizes_for asked ranks) lines
+    (states ≡ asked.states) × IsOver asked (sizes_for asked ranks) lines
 IsAnswerFor asked ranks lines report _ = ⊥
 
 -- the text of a script has this answer, with the given report

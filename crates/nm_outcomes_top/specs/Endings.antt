@@ -1,7 +1,10 @@
 -- How the program ends: what was said, with which status.
-use Rattle.std.specs.Prelude.{◌≡◌, ℕ, ◌-◌, ◌≤◌, ◌⊎◌, List, Contains, Option, Some, slice_get}
+use Rattle.std.specs.Prelude.{◌≡◌, ℕ, ◌-◌, ◌≤◌, ◌⊎◌, true, List, Contains, Option, Some, slice_get}
 use Rattle.nm_outside.specs.Told.{Appends}
 use Rattle.nm_types.specs.declared.scripts.Line.{Line}
+use Rattle.nm_types.specs.Sizes.{Sizes}
+use Rattle.nm_report.specs.declared.records.RunRecord.{RunRecord}
+use Rattle.nm_report.specs.Lawful.{IsRunIn}
 use Rattle.nm_script.specs.declared.faults.Kind.{Kind}
 use Rattle.nm_script.specs.Rules.{IsFirstFault}
 use Rattle.nm_script.specs.Spelled.{IsTextOf}
@@ -12,9 +15,11 @@ use Rattle.nm_listed.specs.Places.{IsFirstNew}
 use Rattle.nm_listed.specs.declared.places.Place.TheVariants.{At, Not}
 use Rattle.nm_outcomes_top.specs.declared.words.Asked.{Asked}
 use Rattle.nm_outcomes_top.specs.declared.words.Question.{Question}
-use Rattle.nm_outcomes_top.specs.declared.words.Question.TheVariants.{All, Trace, Among}
-use Rattle.nm_outcomes_top.specs.Answers.{IsInputOf, IsOutgrowing, listed_status, read_of, traced_status}
-use Rattle.nm_outcomes_top.specs.Texts.{fewer_text, outcomes_text, outgrown_text, place_text}
+use Rattle.nm_outcomes_top.specs.declared.words.Question.TheVariants.{All, Trace, Among, Either}
+use Rattle.nm_outcomes_top.specs.Answers.{IsInputOf, IsOver, listed_status, read_of, traced_status}
+use Rattle.nm_outcomes_top.specs.Texts.{fewer_text, joined_text, outcomes_text, outgrown_text, place_text}
+use Rattle.nm_variants.specs.Reports.{AreVariantOutcomes}
+use Rattle.nm_variants.specs.Variants.{IsVariant, variants}
 use Rattle.nm_outcomes_top.specs.OptionWords.{sizes_for}
 
 -- the bytes spell no script, and their first fault was said
@@ -37,10 +42,11 @@ pub record IsGiven (asked : Asked) (bytes : List ℕ) : Type 0 where
   pub spelled : IsTextOf script ranks lines
 
 -- The bytes spell a script, and it was said that there are too many states or bytes. So it is: moves lead from the
--- first state to more states than the words allow, or all reports that the script can have have too many bytes.
+-- first state to more states than the words allow, or all reports that the script can have have too many bytes; or so
+-- it is with its variants, where each standard send may wait.
 pub record IsOutgrown (asked : Asked) (old new : Option (List ℕ)) (bytes : List ℕ) : Type 0 where
   pub given : IsGiven asked bytes
-  pub cause : IsOutgrowing asked (sizes_for asked given.ranks) given.lines
+  pub cause : IsOver asked (sizes_for asked given.ranks) given.lines
   pub said : Appends old new (outgrown_text asked.states)
 
 -- The bytes spell a script, and all reports that its runs in these sizes can have were written, each once. The
@@ -51,6 +57,27 @@ pub record IsListed (asked : Asked) (status : ℕ) (old new : Option (List ℕ))
   pub reports : AreOutcomes (sizes_for asked given.ranks) given.lines texts
   pub ended : status ≡ listed_status texts
   pub said : Appends old new (outcomes_text texts)
+
+-- The bytes spell a script, and all reports of its runs were written where each of its standard sends, of at most as many
+-- bytes as the eager limit, is buffered or waits for its receive by itself (MPI 3.1, 3.4), each report once; before them
+-- how many variants that makes. The status is 1 exactly where one of them is stuck.
+pub record IsEitherListed (asked : Asked) (status : ℕ) (old new : Option (List ℕ)) (bytes : List ℕ) : Type 0 where
+  pub given : IsGiven asked bytes
+  pub texts : List (List ℕ)
+  pub reports : AreVariantOutcomes (sizes_for asked given.ranks) given.lines texts
+  pub ended : status ≡ listed_status texts
+  pub said : Appends old new (joined_text (variants asked.eager given.lines) texts)
+
+-- no run hangs, whichever of the standard sends wait that have at most as many bytes as the eager limit
+abbrev pub NeverHangs : Sizes → List Line → Type 0
+NeverHangs shape lines =
+    (variant : List Line) → IsVariant shape.eager lines variant → (run : RunRecord) → IsRunIn shape variant run →
+    run.done ≡ true
+
+-- the bytes spell a script, and so it is with it
+pub record IsSafe (asked : Asked) (bytes : List ℕ) : Type 0 where
+  pub given : IsGiven asked bytes
+  pub never : NeverHangs (sizes_for asked given.ranks) given.lines
 
 -- The bytes spell a script, and the trace of a lawful run was written whose report has this number among all reports
 -- that it can have. The status is 1 exactly where that report is stuck.
@@ -95,6 +122,7 @@ abbrev pub Speaks : Question → ℕ → Type 0
 Speaks All status = (status ≡ 0) ⊎ (status ≡ 1)
 Speaks (Trace number) status = (status ≡ 0) ⊎ ((status ≡ 1) ⊎ (status ≡ 7))
 Speaks Among status = (status ≡ 0) ⊎ (status ≡ 8)
+Speaks Either status = (status ≡ 0) ⊎ (status ≡ 1)
 
 -- .. of any question
 abbrev pub IsSpoken : ℕ → Type 0

@@ -6,7 +6,7 @@ use Rattle.nm_script.specs.declared.command_line.CommandLine.{CommandLine}
 use Rattle.nm_script.specs.declared.command_line.Mode.TheVariants.{Run}
 use Rattle.nm_outcomes_top.specs.declared.words.Asked.{Asked}
 use Rattle.nm_outcomes_top.specs.declared.words.Question.{Question}
-use Rattle.nm_outcomes_top.specs.declared.words.Question.TheVariants.{All, Trace, Among}
+use Rattle.nm_outcomes_top.specs.declared.words.Question.TheVariants.{All, Trace, Among, Either}
 
 -- the same cells and the same eager limit as words of `nemesis run`
 abbrev pub as_run : Asked → CommandLine
@@ -17,6 +17,12 @@ abbrev pub question_words : Question → List (List ℕ)
 question_words All = []
 question_words (Trace number) = codes "--trace" ∷ decimal number ∷ []
 question_words Among = codes "--among" ∷ []
+question_words Either = codes "--eager" ∷ codes "either" ∷ []
+
+-- the words of the eager limit, where the question has one: the largest
+abbrev pub limit_words : Question → List (List ℕ)
+limit_words Either = codes "--eager" ∷ codes "4096" ∷ []
+limit_words _ = []
 
 -- a number of a report is in range
 abbrev pub IsQuestion : Question → Type 0
@@ -32,7 +38,7 @@ pub record Begins (words : List (List ℕ)) (question : Question) (others : List
 abbrev pub Continues : Question → List (List ℕ) → Type 0
 Continues All others =
     (first : List ℕ) × (rest : List (List ℕ)) × (others ≡ first ∷ rest) × (first ≢ codes "--trace")
-    × (first ≢ codes "--among")
+    × (first ≢ codes "--among") × ((more : List (List ℕ)) → others ≢ codes "--eager" ∷ codes "either" ∷ more)
 Continues _ others = Unit {0}
 
 -- these words ask for these sizes: options as behind `nemesis run`, and behind them the number of states
@@ -41,7 +47,7 @@ pub record IsSized (words : List (List ℕ)) (asked : Asked) : Type 0 where
   pub words_are : words ≡ options ++ decimal asked.states ∷ []
   pub some_state : 1 ≤ asked.states
   pub few_states : asked.states ≤ 16777216
-  pub sizes : nemesis.IsTaken (codes "run" ∷ options) (as_run asked)
+  pub sizes : nemesis.IsTaken (codes "run" ∷ (limit_words asked.question ++ options)) (as_run asked)
 
 -- The words ask for this: what is asked stands first, and behind it the sizes.
 pub record IsTaken (words : List (List ℕ)) (asked : Asked) : Type 0 where

@@ -30,6 +30,14 @@ numbers_line all stuck =
 abbrev pub outcomes_text : List (List ℕ) → List ℕ
 outcomes_text texts = outcomes_from 1 texts ++ numbers_line (length texts) (stuck_count texts)
 
+-- the first line where each standard send may wait: how many variants that makes
+abbrev pub head_line : ℕ → List ℕ
+head_line count = codes "variants " ++ (decimal count ++ codes "\n")
+
+-- all that is said then
+abbrev pub joined_text : ℕ → List (List ℕ) → List ℕ
+joined_text count texts = head_line count ++ outcomes_text texts
+
 -- what is said where the script has no report with this number, but so many
 abbrev pub fewer_text : ℕ → ℕ → List ℕ
 fewer_text number count =
@@ -52,5 +60,6 @@ outgrown_text states = codes "fault outcomes " ++ (decimal states ++ codes "\n")
 abbrev pub usage : List ℕ
 usage =
     codes "usage: outcomes [--cells N] [--eager N] STATES <SCRIPT\n"
+    ++ codes "       outcomes --eager either [--cells N] STATES <SCRIPT\n"
     ++ codes "       outcomes --trace K [--cells N] [--eager N] STATES <SCRIPT\n"
     ++ codes "       outcomes --among [--cells N] [--eager N] STATES <SCRIPT_AND_REPORT\n"

@@ -29,6 +29,7 @@ pub enum Response {
 
 /// What is said of words that are not taken.
 const USAGE: &str = "usage: outcomes [--cells N] [--eager N] STATES <SCRIPT
+       outcomes --eager either [--cells N] STATES <SCRIPT
        outcomes --trace K [--cells N] [--eager N] STATES <SCRIPT
        outcomes --among [--cells N] [--eager N] STATES <SCRIPT_AND_REPORT
 ";

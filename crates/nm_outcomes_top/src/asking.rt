@@ -1,6 +1,6 @@
 //! What is asked of the reports of a script.
 
-ghost use Rattle.std.specs.Prelude.{◌≡◌, ◌≤◌, ℕ, List, IfOk};
+ghost use Rattle.std.specs.Prelude.{◌≡◌, ◌≢◌, ◌≤◌, ℕ, List, IfOk};
 ghost use Rattle.nm_explored.specs.Ends.{AreEndsByWay, TellsAll, TellsOnly};
 ghost use Rattle.nm_outcomes_top.specs.Answers.{IsAnswerFor, IsFinding};
 ghost use Rattle.nm_outcomes_top.specs.declared.words.Question.TheVariants as question;
@@ -12,6 +12,7 @@ use crate::words::{Asked, Question};
 use nm_explored::{End, Explored, explore};
 use nm_listed::{Found, Traced, place_of, reports, trace_of};
 use nm_types::{Memory, Script, Shape};
+use nm_variants::{Union, all_reports};
 use std::alloc::Global;
 
 /// What was found out of the reports of a script.
@@ -102,12 +103,14 @@ fn tell(
     requires only { TellsOnly shape script.now.lines ends.items }
     requires ways { AreEndsByWay shape script.now.lines ends.items }
     requires number { IsQuestion question }
+    requires one { question ≢ question.Either }
     ensures { IfOk result (IsFinding question shape script.now.lines report.now) }
 {
     match question {
         Question::All => tell_all(alloc, script, shape, ends),
         Question::Trace { number } => tell_trace(alloc, script, shape, ends, number),
         Question::Among => tell_place(alloc, script, shape, ends, report),
+        Question::Either => unreachable!(),
     }
 }
 
@@ -122,6 +125,7 @@ fn answer_ends(
     report: &[u8],
 ) -> Result<Response, Memory>
     requires range { InRange asked }
+    requires one { asked.question ≢ question.Either }
     requires sizes { shape ≡ sizes_for asked script.now.ranks }
     requires tells { TellsAll shape script.now.lines ends.items }
     requires only { TellsOnly shape script.now.lines ends.items }
@@ -136,8 +140,55 @@ fn answer_ends(
     }
 }
 
-/// The answer for a script, with the report that is asked of.
+// What is asked of the reports of a script, at its eager limit.
 #[tactic(auto, using(crate::proofs::InputLemmas::outgrown_many))]
+fn answer_reports(
+    alloc: Global,
+    asked: Asked,
+    script: &Script,
+    shape: Shape,
+    report: &[u8],
+) -> Result<Response, Memory>
+    requires range { InRange asked }
+    requires one { asked.question ≢ question.Either }
+    requires sizes { shape ≡ sizes_for asked script.now.ranks }
+    ensures { IfOk result (IsAnswerFor asked script.now.ranks script.now.lines report.now) }
+{
+    match explore(alloc, script, shape, asked.states)? {
+        Explored::All(ends) => answer_ends(alloc, asked, script, shape, ends.into_vec(), report),
+        Explored::TooMany => Ok(Response::Outgrown {
+            states: asked.states,
+        }),
+    }
+}
+
+// The reports of a script where each standard send may wait.
+#[tactic(auto, using(crate::proofs::InputLemmas::joined_told, crate::proofs::InputLemmas::joined_many, crate::proofs::InputLemmas::joined_long))]
+fn answer_either(
+    alloc: Global,
+    asked: Asked,
+    script: &Script,
+    shape: Shape,
+) -> Result<Response, Memory>
+    requires range { InRange asked }
+    requires either { asked.question ≡ question.Either }
+    requires sizes { shape ≡ sizes_for asked script.now.ranks }
+    ensures { (report : List ℕ) → IfOk result (IsAnswerFor asked script.now.ranks script.now.lines report) }
+{
+    match all_reports(alloc, script, shape, asked.states)? {
+        Union::All { texts, count } => Ok(Response::Told {
+            telling: Telling::Joined { texts, count },
+        }),
+        Union::TooMany => Ok(Response::Outgrown {
+            states: asked.states,
+        }),
+        Union::TooLong => Ok(Response::Outgrown {
+            states: asked.states,
+        }),
+    }
+}
+
+/// The answer for a script, with the report that is asked of.
 pub fn answer_script(
     alloc: Global,
     asked: Asked,
@@ -148,10 +199,8 @@ pub fn answer_script(
     ensures { IfOk result (IsAnswerFor asked script.now.ranks script.now.lines report.now) }
 {
     let shape = Shape::new(script.ranks, asked.cells, asked.eager).unwrap();
-    match explore(alloc, script, shape, asked.states)? {
-        Explored::All(ends) => answer_ends(alloc, asked, script, shape, ends.into_vec(), report),
-        Explored::TooMany => Ok(Response::Outgrown {
-            states: asked.states,
-        }),
+    match asked.question {
+        Question::Either => answer_either(alloc, asked, script, shape),
+        _ => answer_reports(alloc, asked, script, shape, report),
     }
 }

@@ -12,8 +12,8 @@ ghost use Rattle.nm_script.specs.declared.faults.Kind.{Kind};
 ghost use Rattle.nm_outcomes_top.specs.declared.words.Asked.{Asked};
 ghost use Rattle.nm_outcomes_top.specs.declared.words.Question.TheVariants as question;
 ghost use Rattle.nm_outcomes_top.specs.Answers.{IsInputOf, TellsOutcomes, read_of};
-ghost use Rattle.nm_outcomes_top.specs.Endings.{IsAmong, IsFewerSaid, IsNotAmong, IsOutgrown};
-ghost use Rattle.nm_outcomes_top.specs.Endings.{IsRefused, IsTraceSaid, Speaks};
+ghost use Rattle.nm_outcomes_top.specs.Endings.{IsAmong, IsEitherListed, IsFewerSaid, IsNotAmong, IsOutgrown};
+ghost use Rattle.nm_outcomes_top.specs.Endings.{IsRefused, IsSafe, IsTraceSaid, Speaks};
 ghost use Rattle.nm_outcomes_top.specs.Texts.{no_report, usage};
 ghost use Rattle.nm_outcomes_top.specs.OptionWords.{IsTaken, NotTaken};
 
@@ -52,6 +52,15 @@ pub fn reports_are_told()
 {
     a_text_is_a_script_or_has_a_fault();
 }
+
+/// Where each standard send may wait, all reports are written that there are then. At status 0 none hangs.
+pub fn either_is_listed()
+    ensures listed { (e : Ending) → IsDone TellsOutcomes e → (asked : Asked) → IsTaken e.words asked →
+        asked.question ≡ question.Either → (e.status ≡ 0) ⊎ (e.status ≡ 1) →
+        IfSome e.input (IsEitherListed asked e.status e.before e.after) }
+    ensures safe { (e : Ending) → IsDone TellsOutcomes e → (asked : Asked) → IsTaken e.words asked →
+        asked.question ≡ question.Either → e.status ≡ 0 → IfSome e.input (IsSafe asked) }
+{}
 
 /// A trace of the one with this number, or there are fewer.
 pub fn one_is_traced()

@@ -3,7 +3,7 @@
 ghost use Rattle.std.specs.Prelude.{◌≡◌, ◌+◌, ◌++◌, IfOk, OnOk, count_by, map, nat_lt, string_bytes};
 ghost use Rattle.nm_listed.specs.Texts.{bytes_of};
 ghost use Rattle.nm_outcomes_top.specs.Texts.{is_stuck as is_stuck_lem, numbers_line, outcome_text};
-ghost use Rattle.nm_outcomes_top.specs.Texts.{outcomes_from, stuck_count};
+ghost use Rattle.nm_outcomes_top.specs.Texts.{head_line, outcomes_from, stuck_count};
 ghost use Rattle.nm_outcomes_top.specs.Texts as spec;
 
 use nm_listed::Texts;
@@ -66,6 +66,13 @@ fn numbers(alloc: Global, all: usize, stuck: usize) -> Result<String, AllocError
     format!(in alloc; "outcomes {} stuck {}\n", all, stuck)
 }
 
+/// The line of the number of variants.
+fn head(alloc: Global, count: u32) -> Result<String, AllocError>
+    ensures { IfOk result (λ line. string_bytes line ≡ head_line count) }
+{
+    format!(in alloc; "variants {}\n", count)
+}
+
 /// All that is said of the reports of a script.
 pub fn outcomes_text(alloc: Global, texts: &Texts) -> Result<Vec<u8>, Memory>
     ensures { IfOk result (λ text. text.items ≡ spec.outcomes_text texts.now) }
@@ -75,5 +82,15 @@ pub fn outcomes_text(alloc: Global, texts: &Texts) -> Result<Vec<u8>, Memory>
     push_outcomes(alloc, &mut out, list)?;
     let line = numbers(alloc, list.len(), count_stuck(list))?;
     out.extend_from_slice(line.as_bytes())?;
+    Ok(out)
+}
+
+/// .. where each standard send may wait, which makes so many variants.
+pub fn joined_text(alloc: Global, texts: &Texts, count: u32) -> Result<Vec<u8>, Memory>
+    ensures { IfOk result (λ text. text.items ≡ spec.joined_text count texts.now) }
+{
+    let mut out = head(alloc, count)?.into_bytes();
+    let listing = outcomes_text(alloc, texts)?;
+    out.extend_from_slice(listing.as_slice())?;
     Ok(out)
 }

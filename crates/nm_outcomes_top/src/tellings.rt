@@ -8,7 +8,7 @@ ghost use Rattle.nm_outcomes_top.specs.Answers.{telling_status as telling_status
 ghost use Rattle.nm_outcomes_top.specs.Answers.{telling_text as telling_text_lem};
 ghost use Rattle.nm_outcomes_top.specs.Texts.{fewer_text as fewer_text_lem, place_text as place_text_lem};
 
-use crate::listing::{is_one_stuck, is_stuck, outcomes_text};
+use crate::listing::{is_one_stuck, is_stuck, joined_text, outcomes_text};
 use nm_listed::{Place, Texts};
 use nm_types::Memory;
 use std::alloc::{AllocError, Global};
@@ -24,6 +24,8 @@ pub enum Telling {
     Fewer { number: u32, count: usize },
     /// Where the given report stands among them.
     Placed { place: Place },
+    /// These are all of them where each standard send may wait, and how many variants that makes.
+    Joined { texts: Texts, count: u32 },
 }
 
 /// What is said where there is no report with this number.
@@ -54,6 +56,7 @@ pub fn telling_text(alloc: Global, telling: &Telling) -> Result<Vec<u8>, Memory>
         Telling::Traced { trace } => Ok(Vec::from_slice(alloc, trace.as_slice())?),
         Telling::Fewer { number, count } => Ok(fewer_text(alloc, *number, *count)?),
         Telling::Placed { place } => Ok(place_text(alloc, *place)?),
+        Telling::Joined { texts, count } => joined_text(alloc, texts, *count),
     }
 }
 
@@ -90,5 +93,6 @@ pub fn telling_status(telling: &Telling) -> u8
         Telling::Traced { trace } => traced_status(trace.as_slice()),
         Telling::Fewer { .. } => 7,
         Telling::Placed { place } => placed_status(*place),
+        Telling::Joined { texts, .. } => listed_status(texts),
     }
 }

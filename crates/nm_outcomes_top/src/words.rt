@@ -1,7 +1,7 @@
 //! The words of the command line of `outcomes`.
 //!
 //! What is asked of the reports stands first: `--trace K` or `--among`, or nothing where all are to be
-//! listed. Options follow as behind `nemesis run`, each at most once, in either spelling (`--cells 4` or
+//! listed, or `--eager either` where all are to be listed that there are if each standard send may wait. Options follow as behind `nemesis run`, each at most once, in either spelling (`--cells 4` or
 //! `--cells=4`), and behind them stands the number of states.
 //!
 //! # What a contract sees
@@ -10,13 +10,14 @@
 //! `read` takes exactly the words of the grammar (`IsTaken`), and gives what they ask for, which is
 //! one thing. Unless memory runs out: it copies the words.
 
-ghost use Rattle.std.specs.Prelude.{◌≡◌, ℕ, ◌≤◌, ◌∷◌, List, Some, codes, decimal, map, string_bytes};
+ghost use Rattle.std.specs.Prelude.{◌≡◌, ◌≢◌, ℕ, ◌≤◌, ◌∷◌, ◌++◌, List, None, Some, codes, decimal, map, string_bytes};
 ghost use Rattle.std.specs.Prelude.{IfOk, IfSome};
 ghost use Rattle.std.specs.Option.{IsSomeAnd};
 ghost use Rattle.nm_outcomes_top.specs.OptionWords.{InRange, IsQuestion, IsSized, IsTaken, as_run};
-ghost use Rattle.nm_outcomes_top.specs.OptionWords.{Begins, Continues};
+ghost use Rattle.nm_outcomes_top.specs.OptionWords.{Begins, Continues, limit_words};
 ghost use Rattle.nm_outcomes_top.specs.declared.words.Asked.{Asked};
 ghost use Rattle.nm_outcomes_top.specs.declared.words.Question.{Question as the_question};
+ghost use Rattle.nm_outcomes_top.specs.declared.words.Question.TheVariants as question;
 
 use nm_script::command_line::{CommandLine, Mode};
 use nm_script::words::number_up_to;
@@ -33,6 +34,8 @@ pub enum Question {
     Trace { number: u32 },
     /// Whether a given report is one of them.
     Among,
+    /// All of them, where each standard send is buffered or waits by itself.
+    Either,
 }
 
 /// What the words ask for.
@@ -62,13 +65,25 @@ fn number_of_states(word: &[u8]) -> Option<u32>
     }
 }
 
-/// The words `run` and these.
-fn behind_run(alloc: Global, words: &[String]) -> Result<Vec<String>, Memory>
-    ensures { IfOk result (λ all. map string_bytes all.items
-        ≡ codes "run" ∷ map string_bytes words.now) }
+/// The word `run`, and the words of the eager limit where the question has one.
+fn run_words(alloc: Global, question: Question) -> Result<Vec<String>, Memory>
+    ensures { IfOk result (λ all. map string_bytes all.items ≡ codes "run" ∷ limit_words question) }
 {
     let mut all = Vec::new(alloc);
     all.push(String::from_str(alloc, "run")?)?;
+    if matches!(question, Question::Either) {
+        all.push(String::from_str(alloc, "--eager")?)?;
+        all.push(String::from_str(alloc, "4096")?)?;
+    }
+    Ok(all)
+}
+
+/// The word `run`, the limit of the question, and these words.
+fn behind_run(alloc: Global, question: Question, words: &[String]) -> Result<Vec<String>, Memory>
+    ensures { IfOk result (λ all. map string_bytes all.items
+        ≡ codes "run" ∷ (limit_words question ++ map string_bytes words.now)) }
+{
+    let mut all = run_words(alloc, question)?;
     for word in words {
         all.push(word.clone()?)?;
     }
@@ -109,7 +124,7 @@ fn read_sizes(alloc: Global, question: Question, words: &[String]) -> Result<Opt
     let Some(states) = number_of_states(last.as_bytes()) else {
         return Ok(None);
     };
-    let words = behind_run(alloc, options)?;
+    let words = behind_run(alloc, question, options)?;
     match nm_script::command_line::read(&words) {
         Some(line) => Ok(with_states(question, line, states)),
         None => Ok(None),
@@ -130,6 +145,38 @@ fn trace_question(words: &[String]) -> Option<(Question, &[String])>
     Some((Question::Trace { number }, others))
 }
 
+/// The words behind `--eager either`, where these stand first.
+fn behind_either(words: &[String]) -> Option<&[String]>
+    ensures some { IfSome result (λ others. map string_bytes words.now
+        ≡ codes "--eager" ∷ codes "either" ∷ map string_bytes others.now) }
+    ensures none { result ≡ None → (others : List (List ℕ)) →
+        map string_bytes words.now ≢ codes "--eager" ∷ codes "either" ∷ others }
+{
+    let (first, others) = words.split_first()?;
+    let (second, behind) = others.split_first()?;
+    if first.as_bytes() == b"--eager".as_slice() && second.as_bytes() == b"either".as_slice() {
+        Some(behind)
+    } else {
+        None
+    }
+}
+
+/// What is asked of all reports, and the words behind.
+fn listing_question(words: &[String]) -> (Question, &[String])
+    ensures begins { Begins (map string_bytes words.now) result.0 (map string_bytes result.1.now) }
+    ensures either { (others : List (List ℕ)) →
+        map string_bytes words.now ≡ codes "--eager" ∷ codes "either" ∷ others →
+        (result.0 ≡ question.Either) × (map string_bytes result.1.now ≡ others) }
+    ensures all { ((others : List (List ℕ)) →
+        map string_bytes words.now ≢ codes "--eager" ∷ codes "either" ∷ others) →
+        (result.0 ≡ question.All) × (result.1.now ≡ words.now) }
+{
+    match behind_either(words) {
+        Some(others) => (Question::Either, others),
+        None => (Question::All, words),
+    }
+}
+
 /// What is asked by the first words, and the words behind them.
 fn question_of(words: &[String]) -> Option<(Question, &[String])>
     ensures begins { IfSome result (λ x. Begins (map string_bytes words.now) x.0
@@ -144,11 +191,11 @@ fn question_of(words: &[String]) -> Option<(Question, &[String])>
     } else if first.as_bytes() == b"--among".as_slice() {
         Some((Question::Among, others))
     } else {
-        Some((Question::All, words))
+        Some(listing_question(words))
     }
 }
 
-/// What the words ask for, or `None` where they are not taken: `--trace K`, `--among` or nothing, then
+/// What the words ask for, or `None` where they are not taken: `--trace K`, `--among`, `--eager either` or nothing, then
 /// the options of `nemesis run`, in their spellings and ranges, and behind them the number of states.
 ///
 /// The words are those of the command line without the program's name.

@@ -29,6 +29,7 @@ fn plain(asked: Asked) -> Option<Asked>
         Question::All => Some(asked),
         Question::Trace { .. } => None,
         Question::Among => None,
+        Question::Either => None,
     }
 }
 

@@ -1,13 +1,8 @@
 -- What is told of one report by its number.
-use Rattle.std.proofs.Common.{◌≡◌, ℕ, ◌⊎◌, arith, inl, inr}
+use Rattle.std.proofs.Common.{arith, inl, inr}
 use Rattle.nm_outcomes_top.proofs.EndLemmas.{told_is, weaker}
-use Rattle.nm_outcomes_top.proofs.TellingLemmas.{fewer_of, traced_of}
+use Rattle.nm_outcomes_top.proofs.TellingLemmas.{fewer_of, no_low, traced_of}
 use Rattle.nm_outcomes_top.proofs.laws.one_is_traced.Goals as goal
-
--- want of memory has another status
-no_low : (status : ℕ) → status ≡ 6 → (status ≡ 0) ⊎ (status ≡ 1) → ⊥
-no_low status six (inl h) = omega (arith, six, h)
-no_low status six (inr h) = omega (arith, six, h)
 
 pub returns-clause-traced : goal.returns-clause-traced
 returns-clause-traced c e done asked number taken is small =

@@ -1,6 +1,7 @@
-use Rattle.std.proofs.Common.{◌≡◌, ◌∷◌, codes, map, string_bytes, take}
+use Rattle.std.proofs.Common.{◌≡◌, ◌++◌, map, string_bytes, take}
 use Rattle.nm_outcomes_top.proofs.words.behind_run.Given as goal
 
 abbrev pub invariant-loop-word : goal.invariant-loop-word
 invariant-loop-word l =
-    map string_bytes l.all.items ≡ codes "run" ∷ map string_bytes (take l.word-index l.words)
+    map string_bytes l.all.items
+    ≡ map string_bytes l.initial.all.items ++ map string_bytes (take l.word-index l.words)

@@ -9,10 +9,10 @@ returns-in-Some-clause-takes c =
     c.read_sizes.result
     (λ line taken.
     let parts = c.in-Some.ensures.finds line.question taken.others taken.begins
-    (sized_continues taken.others line taken.sized line.question) in
+    (sized_continues taken.others line taken.sized) in
     (sym parts.0, sym parts.1)) c.read_sizes.ensures.takes
 
 pub returns-in-None-clause-takes : goal.returns-in-None-clause-takes
 returns-in-None-clause-takes c line taken =
     absurd (c.in-None.ensures.finds line.question taken.others taken.begins
-    (sized_continues taken.others line taken.sized line.question))
+    (sized_continues taken.others line taken.sized))

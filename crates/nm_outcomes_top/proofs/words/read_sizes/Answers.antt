@@ -14,8 +14,8 @@ returns-in-Some-read-clause-takes c line taken asks =
     let states : c.in-Some-number_of_states.states ≡ line.states = cc in
     let read : Some c.in-Some-read.line ≡ Some (as_run line) =
     c.in-Some-read.ensures.takes (as_run line)
-    (options_taken string_bytes c.args.words.now c.in-Some.options.now c.in-Some.last.now _ line split
-    (ap (map string_bytes) c.deref.ensures.value ∙ c.in_ok-words.ensures) taken) in
+    (options_taken string_bytes c.args.words.now c.in-Some.options.now c.in-Some.last.now _ line c.args.question split
+    (ap (map string_bytes) c.deref.ensures.value ∙ c.in_ok-words.ensures) asks taken) in
     let same : c.in-Some-read.line ≡ as_run line = cc in
     c.with_states.ensures.asks line same (sym states) asks
 
@@ -24,6 +24,6 @@ returns-clause-takes c line taken asks =
     let split = c.in-Some.ensures.cases.0 in
     let read : None ≡ Some (as_run line) =
     c.in-None.ensures.takes (as_run line)
-    (options_taken string_bytes c.args.words.now c.in-Some.options.now c.in-Some.last.now _ line split
-    (ap (map string_bytes) c.deref.ensures.value ∙ c.in_ok-words.ensures) taken) in
+    (options_taken string_bytes c.args.words.now c.in-Some.options.now c.in-Some.last.now _ line c.args.question split
+    (ap (map string_bytes) c.deref.ensures.value ∙ c.in_ok-words.ensures) asks taken) in
     cc
