@@ -4,7 +4,7 @@
 //! another end.
 //!
 //! With two words, a length and a number of batches, it runs a flood of messages of that length, with no record
-//! (`flood`).
+//! (`flood`). With one word, the name of a program, it prints the script and the trace of its run (`transcripts`).
 #![tactic(auto)]
 
 ghost use Rattle.std.specs.Prelude.{◌≡◌, ◌<◌, IfOk, length};
@@ -15,12 +15,14 @@ mod flood;
 mod ping_pong;
 mod ring;
 mod rod;
+mod transcripts;
 
 use ends::Rank;
 use farm::{Hand, Role};
 use flood::Flooded;
 use nm_outside::OpenGate;
 use nm_programs::{Finished, Program, Stop, run_programs, run_unrecorded};
+use nm_transcript::Transcript;
 use nm_types::{Command, Shape};
 use ping_pong::Player;
 use ring::{Link, run_ring, run_ring_unrecorded};
@@ -30,6 +32,7 @@ use std::env;
 use std::sync::Wait;
 use std::test::Fail;
 use std::thread::Threads;
+use transcripts::{holds, print, transcribe};
 
 // Whether a run keeps a record.
 #[derive(Clone, Copy)]
@@ -207,15 +210,43 @@ fn show(rt: &HostRuntime, alloc: Global, all: All) -> Result<(), Fail> {
     show_end(rt, refused)
 }
 
+// The run of the program of this name, as a script and a record.
+fn transcript_of<R: Threads + Wait + Sync>(
+    rt: &R,
+    alloc: Global,
+    name: &str,
+) -> Result<Transcript, Fail> {
+    match name {
+        "ping_pong" => transcribe(rt, alloc, shape_of(2)?, ping_pong::players(alloc)?),
+        "ring" => transcribe(rt, alloc, shape_of(5)?, ring::links(alloc)?),
+        "farm" => transcribe(rt, alloc, shape_of(4)?, farm::hands(alloc)?),
+        "rod" => transcribe(rt, alloc, shape_of(4)?, rod::parts(alloc, 4)?),
+        _ => Err(Fail::new("no program has this name")),
+    }
+}
+
+fn show_judged(rt: &HostRuntime, alloc: Global, name: &str, run: Transcript) -> Result<(), Fail> {
+    let holds = holds(alloc, &run)?;
+    println!(rt; "{name}: the trace of its script holds: {holds}")?;
+    Ok(())
+}
+
 fn main(rt: HostRuntime) -> Result<(), Fail> {
     let alloc = rt.alloc();
     let mut words = env::args(&rt)?.skip(1);
-    let (bytes, batches) = (words.next(), words.next());
-    if let (Some(bytes), Some(batches)) = (bytes, batches) {
-        let ranks = flood::ranks(alloc, bytes.parse::<u32>()?, batches.parse::<u64>()?)?;
-        return show_flood(&rt, run(&rt, alloc, shape_of(2)?, ranks, Keeps::Nothing)?);
+    match (words.next(), words.next()) {
+        (Some(bytes), Some(batches)) => {
+            let ranks = flood::ranks(alloc, bytes.parse::<u32>()?, batches.parse::<u64>()?)?;
+            return show_flood(&rt, run(&rt, alloc, shape_of(2)?, ranks, Keeps::Nothing)?);
+        }
+        (Some(name), None) => {
+            return print(&rt, alloc, transcript_of(&rt, alloc, name.as_str())?);
+        }
+        _ => {}
     }
     show(&rt, alloc, run_all(&rt, alloc, Keeps::Record)?)?;
     println!(&rt; "with no record:")?;
-    show(&rt, alloc, run_all(&rt, alloc, Keeps::Nothing)?)
+    show(&rt, alloc, run_all(&rt, alloc, Keeps::Nothing)?)?;
+    show_judged(&rt, alloc, "ring", transcript_of(&rt, alloc, "ring")?)?;
+    show_judged(&rt, alloc, "farm", transcript_of(&rt, alloc, "farm")?)
 }

@@ -1,0 +1,2 @@
+mod NotedLemmas
+mod RunLemmas

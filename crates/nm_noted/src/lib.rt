@@ -1,0 +1,21 @@
+//! Runs of programs whose calls are noted: afterwards they are a script, and the record is of a run of it.
+//!
+//! A `Noted` program goes on as the program in it does, and keeps a copy of each call. `run_noted` runs programs
+//! so. Its calls and its record are what `nm_transcript::transcribe` makes a script and its trace of, for `check`,
+//! `verdict`, `chart` and `outcomes`.
+//!
+//! # What a contract sees
+//! What each program was told and what it gave, as `nm_programs` says it, and the calls.
+//! # What is proved
+//! - The programs ran as by `run_programs`, and the calls are exactly those that each gave (`run_noted`: `run`).
+//! - The record is of a lawful run of these calls (`told`), which is what `transcribe` asks for.
+//! # What is only tested
+//! That whole runs become scripts that `check` takes (crate `programs`).
+#![tactic(auto)]
+
+mod copies;
+mod noted;
+mod runs;
+
+pub use noted::Noted;
+pub use runs::{NotedRun, run_noted};

@@ -1,0 +1,116 @@
+//! A run of programs whose calls are noted.
+
+ghost use Rattle.std.specs.Prelude.{◌≡◌, ◌++◌, ◌∷◌, [], IfErr, IfOk, OnOk, length, map};
+ghost use Rattle.nm_programs.specs.HasRun.{IsStopped};
+ghost use Rattle.nm_transcript.specs.Transcripts.{IsRecordOf};
+ghost use Rattle.nm_noted.specs.Noted.{HasRunNoted, IsParted, bare, fresh, noted_calls};
+
+use crate::noted::Noted;
+use nm_outside::Gate;
+use nm_programs::{Finished, Outcome, Program, Stop, run_programs};
+use nm_report::RunRecord;
+use nm_transcript::Calls;
+use nm_types::{Memory, Shape};
+use nm_world::Ways;
+use std::alloc::Global;
+use std::sync::Wait;
+use std::thread::Threads;
+
+/// What became of a run of programs whose calls are noted.
+#[derive(Drop)]
+pub struct NotedRun<P> {
+    /// What became of each program, by rank.
+    pub ranks: Vec<Finished<P>>,
+    /// The calls of each rank, in order.
+    pub calls: Vec<Calls>,
+    /// What happened at each rank. Its k-th call, from 0, has line k + 2.
+    pub record: RunRecord,
+    /// What the closed ways between ranks keep.
+    pub ways: Ways,
+}
+
+// The calls of the ranks apart from the programs.
+#[derive(Drop)]
+struct Parted<P> {
+    ranks: Vec<Finished<P>>,
+    calls: Vec<Calls>,
+}
+
+// Puts one more at the end.
+fn add<T: Drop>(list: &mut Vec<T>, x: T) -> Result<(), Memory>
+    ensures { IfOk result (λ _. list.new.items ≡ list.old.items ++ x ∷ []) }
+{
+    match list.push(x) {
+        Ok(()) => Ok(()),
+        Err(_) => Err(Memory),
+    }
+}
+
+// These programs, of which no call is noted.
+fn begin<P: Program>(alloc: Global, programs: Vec<P>) -> Result<Vec<Noted<P>>, Memory>
+    ensures { IfOk result (λ v. v.items ≡ map fresh programs.items) }
+{
+    let mut all = Vec::new(alloc);
+    for program in programs {
+        add(&mut all, Noted::new(alloc, program))?;
+    }
+    Ok(all)
+}
+
+// Puts the program and its calls behind the others.
+fn put<P: Program>(parted: &mut Parted<P>, finished: Finished<Noted<P>>) -> Result<(), Memory>
+    ensures { OnOk result (IsParted parted.old finished parted.new) }
+{
+    let Finished { program, waits } = finished;
+    let (program, calls) = program.into_parts();
+    add(&mut parted.ranks, Finished { program, waits })?;
+    add(&mut parted.calls, calls)
+}
+
+// Parts the calls from the programs.
+fn part<P: Program>(alloc: Global, noted: Vec<Finished<Noted<P>>>) -> Result<Parted<P>, Memory>
+    ensures ranks { IfOk result (λ x. x.ranks.items ≡ map bare noted.items) }
+    ensures calls { IfOk result (λ x. x.calls.items ≡ noted_calls noted.items) }
+{
+    let mut parted = Parted {
+        ranks: Vec::new(alloc),
+        calls: Vec::new(alloc),
+    };
+    for finished in noted {
+        put(&mut parted, finished)?;
+    }
+    Ok(parted)
+}
+
+/// Runs these programs as `run_programs` does, and notes the calls of each. With them the record can be written as a
+/// script and its trace (`nm_transcript::transcribe`).
+pub fn run_noted<R: Threads + Wait + Sync, P: Program + Send, G: Gate + Sync>(
+    rt: &R,
+    alloc: Global,
+    shape: Shape,
+    programs: Vec<P>,
+    gate: &G,
+) -> Result<NotedRun<P>, Stop>
+    requires many { length programs.items ≡ shape.ranks }
+    ensures shaped { IfOk result (λ x. x.record.shape ≡ shape) }
+    ensures run { IfOk result (λ x. HasRunNoted P.says shape programs.items x.ranks.items x.calls.items x.record
+        x.ways.cells x.ways.rings) }
+    ensures told { IfOk result (λ x. IsRecordOf x.calls.items x.record) }
+    ensures stopped { IfErr result (IsStopped P.says shape.ranks programs.items) }
+{
+    let noted = begin(alloc, programs)?;
+    let outcome = run_programs(rt, alloc, shape, noted, gate)?;
+    let Outcome {
+        ranks,
+        record,
+        ways,
+    } = outcome;
+    let parted = part(alloc, ranks)?;
+    let Parted { ranks, calls } = parted;
+    Ok(NotedRun {
+        ranks,
+        calls,
+        record,
+        ways,
+    })
+}
