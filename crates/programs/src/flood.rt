@@ -49,7 +49,8 @@ pub struct Flooded {
 }
 
 impl Flooded {
-    fn new(side: Side, bytes: u32, batches: u64) -> Flooded {
+    /// A rank of a flood of so many batches.
+    pub fn new(side: Side, bytes: u32, batches: u64) -> Flooded {
         Flooded {
             side,
             bytes,

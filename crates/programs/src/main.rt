@@ -4,7 +4,8 @@
 //! another end.
 //!
 //! With two words, a length and a number of batches, it runs a flood of messages of that length, with no record
-//! (`flood`). With one word, the name of a program, it prints the script and the trace of its run (`transcripts`).
+//! (`flood`). With one word, the name of a program, it prints the script and the trace of its run (`transcripts`); with
+//! `stuck`, the last events of a run that got stuck after a million messages (`stuck`).
 #![tactic(auto)]
 
 ghost use Rattle.std.specs.Prelude.{◌≡◌, ◌<◌, IfOk, length};
@@ -15,6 +16,7 @@ mod flood;
 mod ping_pong;
 mod ring;
 mod rod;
+mod stuck;
 mod transcripts;
 
 use ends::Rank;
@@ -32,6 +34,7 @@ use std::env;
 use std::sync::Wait;
 use std::test::Fail;
 use std::thread::Threads;
+use stuck::{run_stuck, show_stuck};
 use transcripts::{holds, print, transcribe};
 
 // Whether a run keeps a record.
@@ -240,6 +243,9 @@ fn main(rt: HostRuntime) -> Result<(), Fail> {
             return show_flood(&rt, run(&rt, alloc, shape_of(2)?, ranks, Keeps::Nothing)?);
         }
         (Some(name), None) => {
+            if name.as_str() == "stuck" {
+                return show_stuck(&rt, alloc, run_stuck(&rt, alloc, shape_of(2)?)?);
+            }
             return print(&rt, alloc, transcript_of(&rt, alloc, name.as_str())?);
         }
         _ => {}
