@@ -4,6 +4,7 @@ ghost use Rattle.std.specs.Prelude.{◌≡◌, ◌≢◌, ◌≤◌, ℕ, List, 
 ghost use Rattle.nm_explored.specs.Ends.{AreEndsByWay, TellsAll, TellsOnly};
 ghost use Rattle.nm_outcomes_top.specs.Answers.{IsAnswerFor, IsFinding};
 ghost use Rattle.nm_outcomes_top.specs.declared.words.Question.TheVariants as question;
+ghost use Rattle.nm_outcomes_top.specs.declared.words.Question.TheVariants.{Either};
 ghost use Rattle.nm_outcomes_top.specs.OptionWords.{InRange, IsQuestion, sizes_for};
 
 use crate::answers::Response;
@@ -103,7 +104,7 @@ fn tell(
     requires only { TellsOnly shape script.now.lines ends.items }
     requires ways { AreEndsByWay shape script.now.lines ends.items }
     requires number { IsQuestion question }
-    requires one { question ≢ question.Either }
+    requires one { question ≢ Either }
     ensures { IfOk result (IsFinding question shape script.now.lines report.now) }
 {
     match question {
@@ -125,7 +126,7 @@ fn answer_ends(
     report: &[u8],
 ) -> Result<Response, Memory>
     requires range { InRange asked }
-    requires one { asked.question ≢ question.Either }
+    requires one { asked.question ≢ Either }
     requires sizes { shape ≡ sizes_for asked script.now.ranks }
     requires tells { TellsAll shape script.now.lines ends.items }
     requires only { TellsOnly shape script.now.lines ends.items }
@@ -150,7 +151,7 @@ fn answer_reports(
     report: &[u8],
 ) -> Result<Response, Memory>
     requires range { InRange asked }
-    requires one { asked.question ≢ question.Either }
+    requires one { asked.question ≢ Either }
     requires sizes { shape ≡ sizes_for asked script.now.ranks }
     ensures { IfOk result (IsAnswerFor asked script.now.ranks script.now.lines report.now) }
 {
@@ -171,7 +172,7 @@ fn answer_either(
     shape: Shape,
 ) -> Result<Response, Memory>
     requires range { InRange asked }
-    requires either { asked.question ≡ question.Either }
+    requires either { asked.question ≡ Either }
     requires sizes { shape ≡ sizes_for asked script.now.ranks }
     ensures { (report : List ℕ) → IfOk result (IsAnswerFor asked script.now.ranks script.now.lines report) }
 {
