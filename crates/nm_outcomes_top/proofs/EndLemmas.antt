@@ -13,6 +13,7 @@ use Rattle.nm_outcomes_top.specs.declared.words.Question.TheVariants as question
 use Rattle.nm_outcomes_top.specs.Answers.{IsAnswer, IsAnswerOf, IsAnswerTo, IsInputOf}
 use Rattle.nm_outcomes_top.specs.Answers.{TellsOutcomes, read_of, status_of, text_of}
 use Rattle.nm_outcomes_top.specs.Endings.{IsOutgrown, IsRefused, IsSpoken, IsStatus}
+use Rattle.nm_shell.specs.Inputs.{HasNoParts}
 use Rattle.nm_shell.proofs.FailLemmas.{to_fails}
 use Rattle.nm_outcomes_top.specs.Endings.{Speaks}
 use Rattle.nm_outcomes_top.specs.Texts.{no_report, outgrown_text, usage}

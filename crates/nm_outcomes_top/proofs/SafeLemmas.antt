@@ -31,7 +31,7 @@ counted : (texts : List (List ℕ)) (k : ℕ) (text : List ℕ) → k < length t
 counted [] k text low is stuck = absurd (omega (arith, low))
 counted (t ∷ texts) zero text low is stuck =
     let all = sum_by-cons (λ (x : List ℕ). cond (is_stuck x) 1 0) t texts in
-    let one : cond (is_stuck t) 1 0 ≡ 1 = ap (λ (b : Bool). cond b 1 0) (ap is_stuck is ∙ stuck) in
+    let one : ◌≡◌ {A = ℕ} (cond (is_stuck t) 1 0) 1 = ap (λ (b : Bool). cond b 1 0) (ap is_stuck is ∙ stuck) in
     omega (arith, all, one)
 counted (t ∷ texts) (suc k) text low is stuck =
     let all = sum_by-cons (λ (x : List ℕ). cond (is_stuck x) 1 0) t texts in

@@ -62,6 +62,7 @@ NotTaken words = (asked : Asked) → ¬ (IsTaken words asked)
 -- what was taken is in range
 pub record InRange (asked : Asked) : Type 0 where
   pub question : IsQuestion asked.question
+  pub some_state : 1 ≤ asked.states
   pub some_cell : 1 ≤ asked.cells
   pub few_cells : asked.cells ≤ 64
   pub few_eager : asked.eager ≤ 4096
