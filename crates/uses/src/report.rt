@@ -11,7 +11,7 @@ use telling::stands_at;
 /// Prints the report of a rank that waits for a receive.
 pub fn show(rt: &HostRuntime) -> Result<(), Fail> {
     let script = read(rt.alloc(), b"ranks 1\n0: irecv 0 0 7 0 16\n0: wait 0\n")?;
-    let last = script.lines.len() as u32;
+    let last = script.lines.len() as u64;
     let Ok(shape) = Shape::new(1, 8, 1024) else {
         return Ok(());
     };
