@@ -23,4 +23,4 @@ returns c =
       ranks = begins.1;
       told = told_none g begins.4 begins.2;
       some = some_given g;
-    }) c.new-2.ensures
+    }) c.new-2.ensures.begins
