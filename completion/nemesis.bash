@@ -15,8 +15,8 @@ _chart_words() {
 complete -o default -F _chart_words chart ./chart
 
 _outcomes_words() {
-    local word=${COMP_WORDS[COMP_CWORD]} words="--cells --eager --trace --among"
-    [ "$COMP_CWORD" != 1 ] || words="--trace --among --cells --eager"
+    local word=${COMP_WORDS[COMP_CWORD]} words="--cells --eager --trace --among --hangs"
+    [ "$COMP_CWORD" != 1 ] || words="--trace --among --cells --eager --hangs"
     mapfile -t COMPREPLY < <(compgen -W "$words" -- "$word")
 }
 complete -o default -F _outcomes_words outcomes ./outcomes

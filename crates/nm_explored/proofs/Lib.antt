@@ -5,14 +5,14 @@ mod CalmLemmas
 pub mod ChoiceLemmas
 mod ChosenLemmas
 mod ComeLemmas
-mod ExpandLemmas
+pub mod ExpandLemmas
 pub mod KeptLemmas
 pub mod LineLemmas
 pub mod MetLemmas
 mod OrderlyLemmas
 pub mod PlacedLemmas
 mod PostLemmas
-mod RestedLemmas
+pub mod RestedLemmas
 pub mod RestLemmas
 pub mod ResultLemmas
 mod SeenLemmas

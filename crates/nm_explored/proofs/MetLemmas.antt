@@ -72,7 +72,7 @@ states_kept old new [] kept low = refl
 states_kept old new (id ∷ ids) kept low =
     λ i. id_kept old new id kept (low 0 id refl) i ∷ states_kept old new ids kept (low_tail old id ids low) i
 
-spots_kept : (old new : List Spot) (ids : List ℕ) → Extends old new → AreLow old ids → (j : ℕ) →
+pub spots_kept : (old new : List Spot) (ids : List ℕ) → Extends old new → AreLow old ids → (j : ℕ) →
     spot_in new ids j ≡ spot_in old ids j
 spots_kept old new ids kept low j = by_id (slice_get ids j) refl
   where

@@ -11,7 +11,9 @@ use Rattle.nm_types.specs.Sizes.{Sizes}
 use Rattle.nm_history.specs.declared.events.Event.{Event}
 use Rattle.nm_history.specs.AtEach.{AtEach}
 use Rattle.nm_history.specs.Quiescence.{history_of}
+use Rattle.nm_report.specs.declared.records.RunRecord.{RunRecord}
 use Rattle.nm_report.specs.Ends.{ends_of, packets_of}
+use Rattle.nm_report.specs.Lawful.{IsRunIn}
 use Rattle.nm_report.specs.Told.{RankTold, told_of}
 use Rattle.nm_types.proofs.ListLemmas.{no_item, place_below}
 use Rattle.nm_types.proofs.OptionLemmas.{same_some}
@@ -76,10 +78,12 @@ end_told ranks lines store ends are s there rest =
     same i =
         sym (state_at store.table there.0 there.2 i) ∙ ap (λ (u : List Spot). slice_get u i) there.3
 
-pub tells_all : StandAtLines → (shape : Sizes) (lines : List Line) → IsScript shape.ranks lines → (store : Store) →
-    IsExplored shape.eager shape.ranks lines store → (ends : List End) → AreEnds shape.ranks lines store ends →
-    TellsAll shape lines ends
-tells_all stand shape lines script store explored ends are run is =
+-- what a run tells is told at a state at rest that is there
+pub rest_found : StandAtLines → (shape : Sizes) (lines : List Line) → IsScript shape.ranks lines → (store : Store) →
+    IsExplored shape.eager shape.ranks lines store → (run : RunRecord) → IsRunIn shape lines run →
+    (s : List Spot) × IsThere store s × AreAtRest shape.ranks lines (λ i. slice_get s i)
+    × (told_of run ≡ all_told lines (λ i. slice_get s i) shape.ranks)
+rest_found stand shape lines script store explored run is =
     let commands = script_commands shape.ranks lines stand script in
     let log = runs_have_logs shape lines (ends_of run.ranks) (packets_of run.pairs) is.lawful in
     let due : (i : ℕ) → AtEach (λ b e. IsDue shape.eager (commands_of i lines) b e.what) (history_in log.0 i) =
@@ -134,8 +138,15 @@ tells_all stand shape lines script store explored ends are run is =
     (choices_are_enough shape.eager shape.ranks lines) (IsThere store)
     (λ s there. there_explored shape.eager shape.ranks lines store explored s there) path.0 start path.1
     (explored.first, explored.found, first.low, refl) path.2 quiet in
-    contains (map told_at_end ends) (all_told lines v shape.ranks) (told_of run)
-    (end_told shape.ranks lines store ends are path.1 found quiet) (run_is ∙ sym told)
+    (path.1, found, quiet, run_is ∙ sym told)
+
+pub tells_all : StandAtLines → (shape : Sizes) (lines : List Line) → IsScript shape.ranks lines → (store : Store) →
+    IsExplored shape.eager shape.ranks lines store → (ends : List End) → AreEnds shape.ranks lines store ends →
+    TellsAll shape lines ends
+tells_all stand shape lines script store explored ends are run is =
+    let rest = rest_found stand shape lines script store explored run is in
+    contains (map told_at_end ends) (all_told lines (λ i. slice_get rest.0 i) shape.ranks) (told_of run)
+    (end_told shape.ranks lines store ends are rest.0 rest.1 rest.2) rest.3
 
 -- a script is short, and so is what it sends at once
 pub script_short : (ranks : ℕ) (lines : List Line) → IsScript ranks lines → AreShort lines

@@ -319,7 +319,7 @@ fn is_at_rest(view: View, i: u8, ranks: u8) -> bool
 }
 
 /// Whether no rank has a move left.
-fn is_end(view: View, ranks: u8) -> bool
+pub fn is_end(view: View, ranks: u8) -> bool
     requires { AreShort view.lines.now }
     ensures rest { AreAtRest ranks view.entry.lines.now
         (spot_in view.entry.table.now view.entry.ids.now) → IsTrue result }
@@ -335,7 +335,7 @@ fn is_end(view: View, ranks: u8) -> bool
 }
 
 /// The moves that lead to the state with a number, the newest first.
-fn way_back(alloc: Global, search: &Search, end: usize) -> Result<Vec<Turn>, Memory>
+pub fn way_back(alloc: Global, search: &Search, end: usize) -> Result<Vec<Turn>, Memory>
     ensures { (eager ranks : ℕ) (lines : List script_line.Line) → AreBack eager ranks lines search.now →
         (ids : List ℕ) → slice_get search.now.states end ≡ Some ids →
         IfOk result (λ turns. IsWay eager ranks lines turns.items (states_in search.now.table ids)) }

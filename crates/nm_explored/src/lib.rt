@@ -22,8 +22,8 @@
 
 pub mod choices;
 mod chosen;
-mod ends;
-mod searches;
-mod stores;
+pub mod ends;
+pub mod searches;
+pub mod stores;
 
 pub use ends::{End, Ends, Explored, explore, happening};

@@ -215,7 +215,7 @@ impl Search {
     }
 
     /// Adds the states that enough moves lead to.
-    fn expand(&mut self, alloc: Global, of: Setting, k: usize) -> Result<(), Memory>
+    pub fn expand(&mut self, alloc: Global, of: Setting, k: usize) -> Result<(), Memory>
         ensures grows { OnOk result (Grows self.old self.new) }
         ensures expanded { length of.entry.lines.now < 4294967293 →
             IsMade of.entry.eager of.entry.ranks of.entry.lines.now self.old → OnOk result ((ids : List ℕ) →

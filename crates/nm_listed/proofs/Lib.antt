@@ -19,7 +19,7 @@ pub mod ResultLemmas
 pub mod RunLemmas
 pub mod SteadyLemmas
 pub mod TellLemmas
-mod ToldLemmas
+pub mod ToldLemmas
 mod TraceLemmas
 pub mod TurnLemmas
 pub mod WayLemmas

@@ -16,7 +16,8 @@ use Rattle.nm_outcomes_top.specs.Endings.{IsOutgrown, IsRefused, IsSpoken, IsSta
 use Rattle.nm_shell.specs.Inputs.{HasNoParts}
 use Rattle.nm_shell.proofs.FailLemmas.{to_fails}
 use Rattle.nm_outcomes_top.specs.Endings.{Speaks}
-use Rattle.nm_outcomes_top.specs.Texts.{no_report, outgrown_text, usage}
+use Rattle.nm_outcomes_top.specs.declared.words.Question.{Question}
+use Rattle.nm_outcomes_top.specs.Texts.{no_report, over_text, usage}
 use Rattle.nm_outcomes_top.specs.declared.answers.Response.{Response}
 use Rattle.nm_outcomes_top.specs.declared.answers.Response.TheVariants.{NoReport, Outgrown, Refused, Told, Unread, Usage}
 use Rattle.nm_outcomes_top.specs.declared.tellings.Telling.{Telling}
@@ -41,7 +42,7 @@ status_of_answer Usage status h = inr (inl h)
 status_of_answer Unread status h = inr (inr (inr (inl h)))
 status_of_answer NoReport status h = inr (inr (inr (inr (inr (inr (inl h))))))
 status_of_answer (Refused n k) status h = inr (inr (inl h))
-status_of_answer (Outgrown s) status h = inr (inr (inr (inr (inr (inr (inr h))))))
+status_of_answer (Outgrown q s) status h = inr (inr (inr (inr (inr (inr (inr h))))))
 status_of_answer (Told t) status h = inl (subst IsSpoken (sym h) (telling_spoken t))
 
 -- no answer has status 5
@@ -50,7 +51,7 @@ no_five Usage h = cc
 no_five Unread h = cc
 no_five NoReport h = cc
 no_five (Refused n k) h = cc
-no_five (Outgrown s) h = cc
+no_five (Outgrown q s) h = cc
 no_five (Told t) h = not_told t 5 (inl (omega arith, omega arith)) h
 
 module _ {s : Ending} where
@@ -70,7 +71,7 @@ module _ {s : Ending} where
   usage_is Unread e h = absurd (omega (arith, (whole e 2 h (λ f. cc)).0))
   usage_is NoReport e h = absurd (omega (arith, (whole e 2 h (λ f. cc)).0))
   usage_is (Refused n k) e h = absurd (omega (arith, (whole e 2 h (λ f. cc)).0))
-  usage_is (Outgrown n) e h = absurd (omega (arith, (whole e 2 h (λ f. cc)).0))
+  usage_is (Outgrown q n) e h = absurd (omega (arith, (whole e 2 h (λ f. cc)).0))
   usage_is (Told t) e h = absurd (not_told t 2 (inl (omega arith, omega arith)) (whole e 2 h (λ f. cc)).0)
 
   pub not_taken_is : (answer : Response) → TellsOutcomes s answer → NotTaken s.words →
@@ -79,7 +80,7 @@ module _ {s : Ending} where
   not_taken_is Unread e none = absurd (none e.right.asked e.right.taken)
   not_taken_is NoReport e none = absurd (none e.right.asked e.right.taken)
   not_taken_is (Refused n k) e none = absurd (none e.right.asked e.right.taken)
-  not_taken_is (Outgrown n) e none = absurd (none e.right.asked e.right.taken)
+  not_taken_is (Outgrown q n) e none = absurd (none e.right.asked e.right.taken)
   not_taken_is (Told t) e none = absurd (none e.right.asked e.right.taken)
 
   pub refused_is : (answer : Response) → TellsOutcomes s answer → (asked : Asked) → IsTaken s.words asked →
@@ -101,7 +102,7 @@ module _ {s : Ending} where
         first = p.right;
         said = said;
       }) e.right.right)
-  refused_is (Outgrown n) e asked taken h = absurd (omega (arith, (whole e 3 h (λ f. cc)).0))
+  refused_is (Outgrown q n) e asked taken h = absurd (omega (arith, (whole e 3 h (λ f. cc)).0))
   refused_is (Told t) e asked taken h =
       absurd (not_told t 3 (inl (omega arith, omega arith)) (whole e 3 h (λ f. cc)).0)
 
@@ -112,7 +113,7 @@ module _ {s : Ending} where
   one_asked Unread e asked other taken also = e.right.only asked taken ∙ sym (e.right.only other also)
   one_asked NoReport e asked other taken also = e.right.only asked taken ∙ sym (e.right.only other also)
   one_asked (Refused n k) e asked other taken also = e.right.only asked taken ∙ sym (e.right.only other also)
-  one_asked (Outgrown n) e asked other taken also = e.right.only asked taken ∙ sym (e.right.only other also)
+  one_asked (Outgrown q n) e asked other taken also = e.right.only asked taken ∙ sym (e.right.only other also)
   one_asked (Told t) e asked other taken also = e.right.only asked taken ∙ sym (e.right.only other also)
 
   -- a source that failed was answered by 4 or 5
@@ -140,12 +141,12 @@ module _ {s : Ending} where
       (right_of {answer = NoReport} e asked taken e.right.asked e.right.taken e.right.right)
   refuses_is law (Refused n k) e asked taken =
       always s.input _ (λ bytes script report line kind parts first. to_fails s.status (or_fails e (λ h. h)))
-  refuses_is law (Outgrown n) e asked taken =
+  refuses_is law (Outgrown q n) e asked taken =
       weaker s.input _ _ (λ bytes p script report line kind parts first.
       absurd (law script p.right.ranks line p.right.lines kind
       (subst (λ (text : List ℕ). IsTextOf text p.right.ranks p.right.lines)
       (one_input asked.question _ p.script p.report script report p.input parts).0 p.right.spelled) first))
-      (right_of {answer = Outgrown n} e asked taken e.right.asked e.right.taken e.right.right)
+      (right_of {answer = Outgrown q n} e asked taken e.right.asked e.right.taken e.right.right)
   refuses_is law (Told t) e asked taken =
       weaker s.input _ _ (λ bytes p script report line kind parts first.
       absurd (law script p.right.ranks line p.right.lines kind
@@ -181,7 +182,7 @@ module _ {s : Ending} where
       (subst (λ (text : List ℕ). IsFirstFault text n k)
       (one_input asked.question _ p.script p.report script report p.input parts).0 p.right)))
       (right_of {answer = Refused n k} e asked taken e.right.asked e.right.taken e.right.right)
-  tells_is law (Outgrown n) e asked taken =
+  tells_is law (Outgrown q n) e asked taken =
       always s.input _ (λ bytes script report ranks lines parts spelled. to_fails s.status (or_fails e (λ h. inr h)))
   tells_is law (Told t) e asked taken =
       told_speaks t e asked
@@ -206,7 +207,7 @@ module _ {s : Ending} where
   told_is Unread e asked taken h = absurd (no_other e h (inl (omega arith, omega arith)))
   told_is NoReport e asked taken h = absurd (no_other e h (inr (omega arith)))
   told_is (Refused n k) e asked taken h = absurd (no_other e h (inl (omega arith, omega arith)))
-  told_is (Outgrown n) e asked taken h = absurd (no_other e h (inr (omega arith)))
+  told_is (Outgrown q n) e asked taken h = absurd (no_other e h (inr (omega arith)))
   told_is (Told t) e asked taken h =
       let w = whole_spoken e h in
       weaker s.input _ _ (λ bytes p. record {
@@ -236,7 +237,7 @@ module _ {s : Ending} where
     (whole e 9 h (λ f. cc)).1,
   )
   no_report_is (Refused n k) e asked taken h = absurd (omega (arith, (whole e 9 h (λ f. cc)).0))
-  no_report_is (Outgrown n) e asked taken h = absurd (omega (arith, (whole e 9 h (λ f. cc)).0))
+  no_report_is (Outgrown q n) e asked taken h = absurd (omega (arith, (whole e 9 h (λ f. cc)).0))
   no_report_is (Told t) e asked taken h =
       absurd (not_told t 9 (inr (omega arith)) (whole e 9 h (λ f. cc)).0)
 
@@ -247,7 +248,7 @@ module _ {s : Ending} where
   outgrown_is Unread e asked taken h = absurd (omega (arith, (whole e 10 h (λ f. cc)).0))
   outgrown_is NoReport e asked taken h = absurd (omega (arith, (whole e 10 h (λ f. cc)).0))
   outgrown_is (Refused n k) e asked taken h = absurd (omega (arith, (whole e 10 h (λ f. cc)).0))
-  outgrown_is (Outgrown n) e asked taken h =
+  outgrown_is (Outgrown q n) e asked taken h =
       let w = whole e 10 h (λ f. cc) in
       weaker s.input _ _ (λ bytes p. record {
         given =
@@ -259,9 +260,10 @@ module _ {s : Ending} where
               lines = p.right.lines;
               spelled = p.right.spelled;
             };
-        cause = p.right.right.1;
-        said = subst (λ (n : ℕ). Appends s.before s.after (outgrown_text n)) p.right.right.0 w.1;
-      }) (right_of {answer = Outgrown n} e asked taken e.right.asked e.right.taken e.right.right)
+        cause = p.right.right.2;
+        said = subst (λ (q : Question). Appends s.before s.after (over_text q asked.states)) p.right.right.0
+            (subst (λ (n : ℕ). Appends s.before s.after (over_text q n)) p.right.right.1 w.1);
+      }) (right_of {answer = Outgrown q n} e asked taken e.right.asked e.right.taken e.right.right)
   outgrown_is (Told t) e asked taken h =
       absurd (not_told t 10 (inr (omega arith)) (whole e 10 h (λ f. cc)).0)
 
@@ -271,7 +273,7 @@ module _ {s : Ending} where
   unread_is Unread e h = (e.right.right, (whole e 4 h (λ f. cc)).1)
   unread_is NoReport e h = absurd (omega (arith, (whole e 4 h (λ f. cc)).0))
   unread_is (Refused n k) e h = absurd (omega (arith, (whole e 4 h (λ f. cc)).0))
-  unread_is (Outgrown n) e h = absurd (omega (arith, (whole e 4 h (λ f. cc)).0))
+  unread_is (Outgrown q n) e h = absurd (omega (arith, (whole e 4 h (λ f. cc)).0))
   unread_is (Told t) e h =
       absurd (not_told t 4 (inl (omega arith, omega arith)) (whole e 4 h (λ f. cc)).0)
 
@@ -291,7 +293,7 @@ module _ {s : Ending} where
   not_six Unread e h = omega (arith, (whole e 6 h (λ f. cc)).0)
   not_six NoReport e h = omega (arith, (whole e 6 h (λ f. cc)).0)
   not_six (Refused n k) e h = omega (arith, (whole e 6 h (λ f. cc)).0)
-  not_six (Outgrown n) e h = omega (arith, (whole e 6 h (λ f. cc)).0)
+  not_six (Outgrown q n) e h = omega (arith, (whole e 6 h (λ f. cc)).0)
   not_six (Told t) e h = not_told t 6 (inl (omega arith, omega arith)) (whole e 6 h (λ f. cc)).0
 
   -- what was said has one of the statuses

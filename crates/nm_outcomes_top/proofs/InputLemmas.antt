@@ -8,15 +8,16 @@ use Rattle.nm_shell.specs.Inputs.{HasNoParts, IsInput}
 use Rattle.nm_shell.proofs.PartLemmas.{no_input as no_parts}
 use Rattle.nm_explored.specs.Met.{AreTooMany}
 use Rattle.nm_listed.specs.Finding.{AreTooLong}
+use Rattle.nm_outcomes_top.specs.declared.tellings.Telling.{Telling}
 use Rattle.nm_outcomes_top.specs.OptionWords.{IsTaken, sizes_for}
 use Rattle.nm_outcomes_top.specs.declared.words.Asked.{Asked}
 use Rattle.nm_outcomes_top.specs.declared.words.Question.{Question}
-use Rattle.nm_outcomes_top.specs.declared.words.Question.TheVariants.{All, Trace, Among, Either}
+use Rattle.nm_outcomes_top.specs.declared.words.Question.TheVariants.{All, Trace, Among, Either, Hangs}
 use Rattle.nm_variants.specs.Reports.{HasTooManyStates, HaveTooManyBytes, IsUnion}
 use Rattle.nm_variants.specs.declared.unions.Union.TheVariants as union
 use Rattle.nm_outcomes_top.specs.declared.tellings.Telling.TheVariants.{Joined}
 use Rattle.nm_outcomes_top.specs.Answers.{IsAnswer, IsAnswerFor, IsAnswerIn, IsAnswerOf, IsAnswerTo}
-use Rattle.nm_outcomes_top.specs.Answers.{IsInputOf, IsTelling, read_of}
+use Rattle.nm_outcomes_top.specs.Answers.{IsInputOf, IsOfReports, IsTelling, read_of}
 use Rattle.nm_outcomes_top.specs.declared.answers.Response.{Response}
 use Rattle.nm_outcomes_top.specs.declared.answers.Response.TheVariants.{NoReport, Outgrown, Refused, Told, Unread, Usage}
 
@@ -26,6 +27,7 @@ pub one_input : (question : Question) (bytes script report s r : List ℕ) → I
 one_input All bytes script report s r one other = (one.0 ∙ sym other.0, one.1 ∙ sym other.1)
 one_input (Trace n) bytes script report s r one other = (one.0 ∙ sym other.0, one.1 ∙ sym other.1)
 one_input Either bytes script report s r one other = (one.0 ∙ sym other.0, one.1 ∙ sym other.1)
+one_input Hangs bytes script report s r one other = (one.0 ∙ sym other.0, one.1 ∙ sym other.1)
 one_input Among bytes script report s r one other =
     let same = one.cut.only s r other.cut.cut in
     (sym same.0, sym same.1)
@@ -48,9 +50,9 @@ answered asked (Some all) old new bytes read NoReport h =
 answered asked None old new bytes read (Refused n k) h = tt
 answered asked (Some all) old new bytes read (Refused n k) h =
     subst (λ (b : List ℕ). IsAnswerTo asked b (Refused n k)) read h
-answered asked None old new bytes read (Outgrown s) h = tt
-answered asked (Some all) old new bytes read (Outgrown s) h =
-    subst (λ (b : List ℕ). IsAnswerTo asked b (Outgrown s)) read h
+answered asked None old new bytes read (Outgrown q s) h = tt
+answered asked (Some all) old new bytes read (Outgrown q s) h =
+    subst (λ (b : List ℕ). IsAnswerTo asked b (Outgrown q s)) read h
 answered asked None old new bytes read (Told t) h = tt
 answered asked (Some all) old new bytes read (Told t) h =
     subst (λ (b : List ℕ). IsAnswerTo asked b (Told t)) read h
@@ -63,7 +65,7 @@ answered_in asked script report ranks lines spelled Usage h = absurd h
 answered_in asked script report ranks lines spelled Unread h = absurd h
 answered_in asked script report ranks lines spelled NoReport h = absurd h
 answered_in asked script report ranks lines spelled (Refused n k) h = absurd h
-answered_in asked script report ranks lines spelled (Outgrown s) h =
+answered_in asked script report ranks lines spelled (Outgrown q s) h =
     record { ranks = ranks; lines = lines; spelled = spelled; right = h }
 answered_in asked script report ranks lines spelled (Told t) h =
     record { ranks = ranks; lines = lines; spelled = spelled; right = h }
@@ -76,7 +78,7 @@ answered_to asked bytes script report parts Unread h = absurd h
 answered_to asked bytes script report parts NoReport h = absurd h
 answered_to asked bytes script report parts (Refused n k) h =
     record { script = script; report = report; input = parts; right = h }
-answered_to asked bytes script report parts (Outgrown s) h =
+answered_to asked bytes script report parts (Outgrown q s) h =
     record { script = script; report = report; input = parts; right = h }
 answered_to asked bytes script report parts (Told t) h =
     record { script = script; report = report; input = parts; right = h }
@@ -98,7 +100,7 @@ answered_words words input old new asked taken only NoReport h =
     record { asked = asked; taken = taken; only = only; right = h }
 answered_words words input old new asked taken only (Refused n k) h =
     record { asked = asked; taken = taken; only = only; right = h }
-answered_words words input old new asked taken only (Outgrown s) h =
+answered_words words input old new asked taken only (Outgrown q s) h =
     record { asked = asked; taken = taken; only = only; right = h }
 answered_words words input old new asked taken only (Told t) h =
     record { asked = asked; taken = taken; only = only; right = h }
@@ -110,19 +112,58 @@ one_of found a b p q = let both : Some a ≡ Some b = sym p ∙ q in cc
 pub no_line : (found : Option Asked) (a : Asked) → found ≡ None → found ≡ Some a → ⊥
 no_line found a none some = let both : None ≡ Some a = sym none ∙ some in cc
 
+-- the search for all reports does not answer where each standard send may wait
+not_either : (question : Question) → IsOfReports question → question ≢ Either
+not_either question listed is = subst IsOfReports is listed
+
+-- .. it answers all but two questions
+pub of_reports : (question : Question) → question ≢ Either → question ≢ Hangs → IsOfReports question
+of_reports All one other = tt
+of_reports (Trace n) one other = tt
+of_reports Among one other = tt
+of_reports Either one other = absurd (one refl)
+of_reports Hangs one other = absurd (other refl)
+
 -- the causes of an answer that there are too many
 pub outgrown_long : (asked : Asked) (ranks : ℕ) (lines : List Line) (report : List ℕ) (shape : Sizes) →
-    asked.question ≢ Either → shape ≡ sizes_for asked ranks → AreTooLong shape lines →
-    IsAnswerFor asked ranks lines report (Outgrown asked.states)
-outgrown_long asked ranks lines report shape one same long =
-    (refl, inl (one, inr (subst (λ (s : Sizes). AreTooLong s lines) same long)))
+    IsOfReports asked.question → shape ≡ sizes_for asked ranks → AreTooLong shape lines →
+    IsAnswerFor asked ranks lines report (Outgrown asked.question asked.states)
+outgrown_long asked ranks lines report shape listed same long = (
+  refl,
+  refl,
+  inl (not_either asked.question listed, inr (subst (λ (s : Sizes). AreTooLong s lines) same long)),
+)
 
-pub outgrown_many : (asked : Asked) (ranks : ℕ) (lines : List Line) (report : List ℕ) (shape : Sizes) →
+many : (asked : Asked) (ranks : ℕ) (lines : List Line) (report : List ℕ) (shape : Sizes) →
     asked.question ≢ Either → shape ≡ sizes_for asked ranks →
     AreTooMany shape.eager shape.ranks lines asked.states →
-    IsAnswerFor asked ranks lines report (Outgrown asked.states)
-outgrown_many asked ranks lines report shape one same many =
-    (refl, inl (one, inl (subst (λ (s : Sizes). AreTooMany s.eager s.ranks lines asked.states) same many)))
+    IsAnswerFor asked ranks lines report (Outgrown asked.question asked.states)
+many asked ranks lines report shape one same more =
+    (refl, refl, inl (one, inl (subst (λ (s : Sizes). AreTooMany s.eager s.ranks lines asked.states) same more)))
+
+pub outgrown_many : (asked : Asked) (ranks : ℕ) (lines : List Line) (report : List ℕ) (shape : Sizes) →
+    IsOfReports asked.question → shape ≡ sizes_for asked ranks →
+    AreTooMany shape.eager shape.ranks lines asked.states →
+    IsAnswerFor asked ranks lines report (Outgrown asked.question asked.states)
+outgrown_many asked ranks lines report shape listed same more =
+    many asked ranks lines report shape (not_either asked.question listed) same more
+
+-- what was found of hangs is an answer
+hangs_not_either : (question : Question) → question ≡ Hangs → question ≢ Either
+hangs_not_either question is either = let both : Hangs ≡ Either = sym is ∙ either in cc
+
+pub hangs_told : (asked : Asked) (ranks : ℕ) (lines : List Line) (report : List ℕ) (shape : Sizes) (t : Telling) →
+    asked.question ≡ Hangs → shape ≡ sizes_for asked ranks → IsTelling Hangs shape lines report t →
+    IsTelling asked.question (sizes_for asked ranks) lines report t
+hangs_told asked ranks lines report shape t is same right =
+    subst (λ (q : Question). IsTelling q (sizes_for asked ranks) lines report t) (sym is)
+    (subst (λ (s : Sizes). IsTelling Hangs s lines report t) same right)
+
+pub hangs_many : (asked : Asked) (ranks : ℕ) (lines : List Line) (report : List ℕ) (shape : Sizes) →
+    asked.question ≡ Hangs → shape ≡ sizes_for asked ranks → AreTooMany shape.eager shape.ranks lines asked.states →
+    IsAnswerFor asked ranks lines report (Outgrown asked.question asked.states)
+hangs_many asked ranks lines report shape is same more =
+    many asked ranks lines report shape (hangs_not_either asked.question is) same more
 
 -- what was found of all variants is an answer
 pub joined_told : (asked : Asked) (ranks : ℕ) (lines : List Line) (report : List ℕ) (shape : Sizes)
@@ -135,12 +176,12 @@ joined_told asked ranks lines report shape texts count is same found =
 
 pub joined_many : (asked : Asked) (ranks : ℕ) (lines : List Line) (report : List ℕ) (shape : Sizes) →
     asked.question ≡ Either → shape ≡ sizes_for asked ranks → IsUnion shape lines asked.states union.TooMany →
-    IsAnswerFor asked ranks lines report (Outgrown asked.states)
-joined_many asked ranks lines report shape is same many =
-    (refl, inr (is, inl (subst (λ (s : Sizes). HasTooManyStates s lines asked.states) same many)))
+    IsAnswerFor asked ranks lines report (Outgrown asked.question asked.states)
+joined_many asked ranks lines report shape is same more =
+    (refl, refl, inr (is, inl (subst (λ (s : Sizes). HasTooManyStates s lines asked.states) same more)))
 
 pub joined_long : (asked : Asked) (ranks : ℕ) (lines : List Line) (report : List ℕ) (shape : Sizes) →
     asked.question ≡ Either → shape ≡ sizes_for asked ranks → IsUnion shape lines asked.states union.TooLong →
-    IsAnswerFor asked ranks lines report (Outgrown asked.states)
+    IsAnswerFor asked ranks lines report (Outgrown asked.question asked.states)
 joined_long asked ranks lines report shape is same long =
-    (refl, inr (is, inr (subst (λ (s : Sizes). HaveTooManyBytes s lines) same long)))
+    (refl, refl, inr (is, inr (subst (λ (s : Sizes). HaveTooManyBytes s lines) same long)))

@@ -8,13 +8,14 @@ use Rattle.nm_listed.specs.declared.places.Place.TheVariants.{At, Not}
 use Rattle.nm_outcomes_top.specs.OptionWords.{sizes_for}
 use Rattle.nm_outcomes_top.specs.declared.words.Asked.{Asked}
 use Rattle.nm_outcomes_top.specs.declared.words.Question.{Question}
-use Rattle.nm_outcomes_top.specs.declared.words.Question.TheVariants.{All, Trace, Among, Either}
+use Rattle.nm_outcomes_top.specs.declared.words.Question.TheVariants.{All, Trace, Among, Either, Hangs}
 use Rattle.nm_outcomes_top.specs.Answers.{IsTelling, telling_status, telling_text, traced_status}
-use Rattle.nm_outcomes_top.specs.Endings.{IsAmong, IsEitherListed, IsFewerSaid, IsGiven, IsListed, IsNotAmong, IsSpoken, IsTraceSaid}
-use Rattle.nm_outcomes_top.specs.Endings.{Speaks}
+use Rattle.nm_outcomes_top.specs.Endings.{IsAmong, IsEitherListed, IsFewerSaid, IsGiven, IsHangSaid, IsListed}
+use Rattle.nm_outcomes_top.specs.Endings.{IsNoHangSaid, IsNotAmong, IsSpoken, IsTraceSaid, Speaks}
 use Rattle.nm_outcomes_top.specs.Texts.{fewer_text, is_stuck, joined_text}
 use Rattle.nm_outcomes_top.specs.declared.tellings.Telling.{Telling}
-use Rattle.nm_outcomes_top.specs.declared.tellings.Telling.TheVariants.{Fewer, Joined, Listed, Placed, Traced}
+use Rattle.nm_outcomes_top.specs.declared.tellings.Telling.TheVariants.{Fewer, Hung, Joined, Listed, NoHang, Placed}
+use Rattle.nm_outcomes_top.specs.declared.tellings.Telling.TheVariants.{Traced}
 use Rattle.nm_outcomes_top.proofs.ListingLemmas.{low, low_by}
 
 -- what is known where it was said what was asked
@@ -37,6 +38,8 @@ telling_spoken (Fewer n c) = inr (inr (inl refl))
 telling_spoken (Placed (At n)) = inl refl
 telling_spoken (Placed (Not l)) = inr (inr (inr refl))
 telling_spoken (Joined texts count) = elim (low texts) [ inl h ↦ inl h | inr h ↦ inr (inl h) ]
+telling_spoken (Hung trace) = inr (inl refl)
+telling_spoken NoHang = inl refl
 
 -- other statuses are none of them
 pub spoken : (status : ℕ) → IsSpoken status → (k : ℕ) → ((2 ≤ k) × (k ≤ 6)) ⊎ (9 ≤ k) → status ≡ k → ⊥
@@ -65,23 +68,38 @@ speaks_of All shape lines report (Traced trace) right = absurd right
 speaks_of All shape lines report (Fewer n c) right = absurd right
 speaks_of All shape lines report (Placed place) right = absurd right
 speaks_of All shape lines report (Joined texts count) right = absurd right
+speaks_of All shape lines report (Hung trace) right = absurd right
+speaks_of All shape lines report NoHang right = absurd right
 speaks_of (Trace k) shape lines report (Listed texts) right = absurd right
 speaks_of (Trace k) shape lines report (Traced trace) right =
     elim (traced_low trace.items) [ inl h ↦ inl h | inr h ↦ inr (inl h) ]
 speaks_of (Trace k) shape lines report (Fewer n c) right = inr (inr refl)
 speaks_of (Trace k) shape lines report (Placed place) right = absurd right
 speaks_of (Trace k) shape lines report (Joined texts count) right = absurd right
+speaks_of (Trace k) shape lines report (Hung trace) right = absurd right
+speaks_of (Trace k) shape lines report NoHang right = absurd right
 speaks_of Among shape lines report (Listed texts) right = absurd right
 speaks_of Among shape lines report (Traced trace) right = absurd right
 speaks_of Among shape lines report (Fewer n c) right = absurd right
 speaks_of Among shape lines report (Placed (At n)) right = inl refl
 speaks_of Among shape lines report (Placed (Not l)) right = inr refl
 speaks_of Among shape lines report (Joined texts count) right = absurd right
+speaks_of Among shape lines report (Hung trace) right = absurd right
+speaks_of Among shape lines report NoHang right = absurd right
 speaks_of Either shape lines report (Listed texts) right = absurd right
 speaks_of Either shape lines report (Traced trace) right = absurd right
 speaks_of Either shape lines report (Fewer n c) right = absurd right
 speaks_of Either shape lines report (Placed place) right = absurd right
 speaks_of Either shape lines report (Joined texts count) right = low texts
+speaks_of Either shape lines report (Hung trace) right = absurd right
+speaks_of Either shape lines report NoHang right = absurd right
+speaks_of Hangs shape lines report (Listed texts) right = absurd right
+speaks_of Hangs shape lines report (Traced trace) right = absurd right
+speaks_of Hangs shape lines report (Fewer n c) right = absurd right
+speaks_of Hangs shape lines report (Placed place) right = absurd right
+speaks_of Hangs shape lines report (Joined texts count) right = absurd right
+speaks_of Hangs shape lines report (Hung trace) right = inr refl
+speaks_of Hangs shape lines report NoHang right = inl refl
 
 module _ {asked : Asked} {before after : Option (List ℕ)} {bytes : List ℕ} where
   -- what is told, for this question
@@ -101,6 +119,8 @@ module _ {asked : Asked} {before after : Option (List ℕ)} {bytes : List ℕ} w
   listed_by status given (Fewer n c) right ended said = absurd right
   listed_by status given (Placed place) right ended said = absurd right
   listed_by status given (Joined texts count) right ended said = absurd right
+  listed_by status given (Hung trace) right ended said = absurd right
+  listed_by status given NoHang right ended said = absurd right
 
   pub listed_of : (status : ℕ) → asked.question ≡ All → IsTold asked status before after bytes →
       IsListed asked status before after bytes
@@ -122,6 +142,8 @@ module _ {asked : Asked} {before after : Option (List ℕ)} {bytes : List ℕ} w
         ended = ended;
         said = subst (λ (n : ℕ). Appends before after (joined_text n texts)) right.1 said;
       }
+  joined_by status given (Hung trace) right ended said = absurd right
+  joined_by status given NoHang right ended said = absurd right
 
   pub joined_of : (status : ℕ) → asked.question ≡ Either → IsTold asked status before after bytes →
       IsEitherListed asked status before after bytes
@@ -138,6 +160,8 @@ module _ {asked : Asked} {before after : Option (List ℕ)} {bytes : List ℕ} w
   traced_by number status small given (Fewer n c) right ended said = absurd (omega (arith, small, ended))
   traced_by number status small given (Placed place) right ended said = absurd right
   traced_by number status small given (Joined texts count) right ended said = absurd right
+  traced_by number status small given (Hung trace) right ended said = absurd right
+  traced_by number status small given NoHang right ended said = absurd right
 
   pub traced_of : (number status : ℕ) → (status ≡ 0) ⊎ (status ≡ 1) → asked.question ≡ Trace number →
       IsTold asked status before after bytes → IsTraceSaid asked number status before after bytes
@@ -163,6 +187,8 @@ module _ {asked : Asked} {before after : Option (List ℕ)} {bytes : List ℕ} w
       }
   fewer_by number given (Placed place) right ended said = absurd right
   fewer_by number given (Joined texts count) right ended said = absurd right
+  fewer_by number given (Hung trace) right ended said = absurd right
+  fewer_by number given NoHang right ended said = absurd right
 
   pub fewer_of : (number status : ℕ) → status ≡ 7 → asked.question ≡ Trace number →
       IsTold asked status before after bytes → IsFewerSaid asked number before after bytes
@@ -187,6 +213,8 @@ module _ {asked : Asked} {before after : Option (List ℕ)} {bytes : List ℕ} w
       }
   among_by given (Placed (Not l)) right ended said = absurd (omega (arith, ended))
   among_by given (Joined texts count) right ended said = absurd right
+  among_by given (Hung trace) right ended said = absurd right
+  among_by given NoHang right ended said = absurd right
 
   pub among_of : (status : ℕ) → status ≡ 0 → asked.question ≡ Among → IsTold asked status before after bytes →
       IsAmong asked before after bytes
@@ -211,8 +239,41 @@ module _ {asked : Asked} {before after : Option (List ℕ)} {bytes : List ℕ} w
         first = right.2.1;
         said = said;
       }
+  not_among_by given (Hung trace) right ended said = absurd right
+  not_among_by given NoHang right ended said = absurd right
 
   pub not_among_of : (status : ℕ) → status ≡ 8 → asked.question ≡ Among → IsTold asked status before after bytes →
       IsNotAmong asked before after bytes
   not_among_of status h is told =
       not_among_by told.given told.telling (for Among is told) (sym h ∙ told.ended) told.said
+
+  hang_by : (given : IsGiven asked bytes) (t : Telling) →
+      IsTelling Hangs (sizes_for asked given.ranks) given.lines given.report t → 1 ≡ telling_status t →
+      Appends before after (telling_text t) → IsHangSaid asked before after bytes
+  hang_by given (Listed texts) right ended said = absurd right
+  hang_by given (Traced trace) right ended said = absurd right
+  hang_by given (Fewer n c) right ended said = absurd right
+  hang_by given (Placed place) right ended said = absurd right
+  hang_by given (Joined texts count) right ended said = absurd right
+  hang_by given (Hung trace) right ended said =
+      record { given = given; trace = trace.items; hangs = right; said = said }
+  hang_by given NoHang right ended said = absurd (omega (arith, ended))
+
+  pub hang_of : (status : ℕ) → status ≡ 1 → asked.question ≡ Hangs → IsTold asked status before after bytes →
+      IsHangSaid asked before after bytes
+  hang_of status h is told = hang_by told.given told.telling (for Hangs is told) (sym h ∙ told.ended) told.said
+
+  no_hang_by : (given : IsGiven asked bytes) (t : Telling) →
+      IsTelling Hangs (sizes_for asked given.ranks) given.lines given.report t → 0 ≡ telling_status t →
+      Appends before after (telling_text t) → IsNoHangSaid asked before after bytes
+  no_hang_by given (Listed texts) right ended said = absurd right
+  no_hang_by given (Traced trace) right ended said = absurd right
+  no_hang_by given (Fewer n c) right ended said = absurd right
+  no_hang_by given (Placed place) right ended said = absurd right
+  no_hang_by given (Joined texts count) right ended said = absurd right
+  no_hang_by given (Hung trace) right ended said = absurd (omega (arith, ended))
+  no_hang_by given NoHang right ended said = record { given = given; none = right; said = said }
+
+  pub no_hang_of : (status : ℕ) → status ≡ 0 → asked.question ≡ Hangs → IsTold asked status before after bytes →
+      IsNoHangSaid asked before after bytes
+  no_hang_of status h is told = no_hang_by told.given told.telling (for Hangs is told) (sym h ∙ told.ended) told.said

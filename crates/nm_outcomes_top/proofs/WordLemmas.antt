@@ -16,7 +16,7 @@ use Rattle.nm_script.specs.declared.command_line.arguments.Argument.TheVariants.
 use Rattle.nm_script.specs.declared.command_line.found.Found.{Found}
 use Rattle.nm_outcomes_top.specs.declared.words.Asked.{Asked}
 use Rattle.nm_outcomes_top.specs.declared.words.Question.{Question}
-use Rattle.nm_outcomes_top.specs.declared.words.Question.TheVariants.{All, Trace, Among, Either}
+use Rattle.nm_outcomes_top.specs.declared.words.Question.TheVariants.{All, Trace, Among, Either, Hangs}
 
 -- the number that a word spells is the one that is read, and is read again
 pub spelled : (n : ℕ) (word : List ℕ) → Some n ≡ number_of 16777217 word → (n ≤ 16777216) × (word ≡ decimal n)
@@ -120,16 +120,20 @@ follows_begins f h words (nemesis.more a _ others _ g _ argument takes further) 
     argument_begins a word words rest others argument is
 
 -- such a word asks nothing
-no_question : (word : List ℕ) → BeginsArgument word → (word ≢ codes "--trace") × (word ≢ codes "--among")
+no_question : (word : List ℕ) → BeginsArgument word →
+    (word ≢ codes "--trace") × (word ≢ codes "--among") × (word ≢ codes "--hangs")
 no_question word (inl h) = (
+  λ is. h (ap (λ w. get_or w 0 0) is),
   λ is. h (ap (λ w. get_or w 0 0) is),
   λ is. h (ap (λ w. get_or w 0 0) is),
 )
 no_question word (inr (inl h)) = (
   λ is. let e = ap (λ w. get_or w 2 0) is in omega (arith, e, h),
   λ is. let e = ap (λ w. get_or w 2 0) is in omega (arith, e, h),
+  λ is. let e = ap (λ w. get_or w 2 0) is in omega (arith, e, h),
 )
 no_question word (inr (inr h)) = (
+  λ is. let e = ap (λ w. get_or w 2 0) is in omega (arith, e, h),
   λ is. let e = ap (λ w. get_or w 2 0) is in omega (arith, e, h),
   λ is. let e = ap (λ w. get_or w 2 0) is in omega (arith, e, h),
 )
@@ -211,11 +215,19 @@ sized_continues words asked sized = by_question asked.question refl
         subst (λ (q : Question). nemesis.IsTaken (codes "run" ∷ (limit_words q ++ sized.options)) (as_run asked)) is
         sized.sizes in
         let p = sizes_begin words sized.options asked sized.words_are sized.few_states sizes in
-        let none = no_question p.0 p.3 in
-        (p.0, p.1, p.2, none.0, none.1, sizes_other words sized.options asked sized.words_are sized.few_states sizes)
+        let none = no_question p.0 p.3 in (
+          p.0,
+          p.1,
+          p.2,
+          none.0,
+          none.1,
+          none.2,
+          sizes_other words sized.options asked sized.words_are sized.few_states sizes,
+        )
     by_question (Trace n) is = tt
     by_question Among is = tt
     by_question Either is = tt
+    by_question Hangs is = tt
 
 -- what is read behind a question is what the words ask for
 pub read_behind : {E : Type 0} (words others : List (List ℕ)) (question : Question) (r : Result (Option Asked) E) →

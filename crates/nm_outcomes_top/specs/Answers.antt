@@ -10,6 +10,7 @@ use Rattle.nm_shell.specs.Inputs.{HasNoParts, IsInput}
 use Rattle.nm_shell.specs.Done.{Ending, IsSaid, unread}
 use Rattle.nm_outcomes.specs.Outcomes.{AreOutcomes}
 use Rattle.nm_explored.specs.Met.{AreTooMany}
+use Rattle.nm_hangs.specs.Found.{HasNoHang, IsHangTrace}
 use Rattle.nm_listed.specs.Finding.{AreTooLong, HasFewer, IsOutcomeTrace}
 use Rattle.nm_listed.specs.Places.{IsPlace}
 use Rattle.nm_listed.specs.declared.places.Place.{Place}
@@ -21,12 +22,12 @@ use Rattle.nm_outcomes_top.specs.declared.answers.Response.TheVariants.{NoReport
 use Rattle.nm_outcomes_top.specs.declared.asking.Finding.{Finding}
 use Rattle.nm_outcomes_top.specs.declared.asking.Finding.TheVariants as finding
 use Rattle.nm_outcomes_top.specs.declared.tellings.Telling.{Telling}
-use Rattle.nm_outcomes_top.specs.declared.tellings.Telling.TheVariants.{Fewer, Joined, Listed, Placed, Traced}
+use Rattle.nm_outcomes_top.specs.declared.tellings.Telling.TheVariants.{Fewer, Hung, Joined, Listed, NoHang, Placed, Traced}
 use Rattle.nm_outcomes_top.specs.declared.words.Asked.{Asked}
 use Rattle.nm_outcomes_top.specs.declared.words.Question.{Question}
-use Rattle.nm_outcomes_top.specs.declared.words.Question.TheVariants.{All, Trace, Among, Either}
-use Rattle.nm_outcomes_top.specs.Texts.{fewer_text, is_stuck, joined_text, no_report, outcomes_text, outgrown_text}
-use Rattle.nm_outcomes_top.specs.Texts.{place_text, stuck_count, usage}
+use Rattle.nm_outcomes_top.specs.declared.words.Question.TheVariants.{All, Trace, Among, Either, Hangs}
+use Rattle.nm_outcomes_top.specs.Texts.{fewer_text, is_stuck, joined_text, no_hang_text, no_report, outcomes_text}
+use Rattle.nm_outcomes_top.specs.Texts.{over_text, place_text, stuck_count, usage}
 use Rattle.nm_outcomes_top.specs.OptionWords.{IsTaken, NotTaken, sizes_for}
 
 -- how many bytes are read at most: one more than a script's text may have, or than a script and a report may
@@ -45,6 +46,8 @@ telling_text (Traced trace) = trace.items
 telling_text (Fewer number count) = fewer_text number count
 telling_text (Placed place) = place_text place
 telling_text (Joined texts count) = joined_text count texts
+telling_text (Hung trace) = trace.items
+telling_text NoHang = no_hang_text
 
 -- the text of an answer
 abbrev pub text_of : Response → List ℕ
@@ -52,7 +55,7 @@ text_of Usage = usage
 text_of Unread = unread
 text_of NoReport = no_report
 text_of (Refused line kind) = fault_text line kind
-text_of (Outgrown states) = outgrown_text states
+text_of (Outgrown question states) = over_text question states
 text_of (Told telling) = telling_text telling
 
 -- the status of reports that were listed: whether one of them is stuck
@@ -75,6 +78,8 @@ telling_status (Traced trace) = traced_status trace.items
 telling_status (Fewer number count) = 7
 telling_status (Placed place) = placed_status place
 telling_status (Joined texts count) = listed_status texts
+telling_status (Hung trace) = 1
+telling_status NoHang = 0
 
 -- the status of an answer that was written
 abbrev pub status_of : Response → ℕ
@@ -82,12 +87,12 @@ status_of Usage = 2
 status_of Unread = 4
 status_of NoReport = 9
 status_of (Refused line kind) = 3
-status_of (Outgrown states) = 10
+status_of (Outgrown question states) = 10
 status_of (Told telling) = telling_status telling
 
 -- What is told is right, by what is asked of the reports that the script can have in these sizes: all of them; a trace
 -- of the one with this number, or that there are fewer; where the given report stands among them; all of them where
--- each standard send may wait, and how many variants that makes.
+-- each standard send may wait, and how many variants that makes; a trace of a run that hangs, or that none does.
 abbrev pub IsTelling : Question → Sizes → List Line → List ℕ → Telling → Type 0
 IsTelling All shape lines report (Listed texts) = AreOutcomes shape lines texts
 IsTelling (Trace number) shape lines report (Traced trace) = IsOutcomeTrace shape lines number trace.items
@@ -97,7 +102,15 @@ IsTelling Among shape lines report (Placed place) =
     (texts : List (List ℕ)) × AreOutcomes shape lines texts × IsPlace texts report place
 IsTelling Either shape lines report (Joined texts count) =
     AreVariantOutcomes shape lines texts × (count ≡ variants shape.eager lines)
+IsTelling Hangs shape lines report (Hung trace) = IsHangTrace shape lines trace.items
+IsTelling Hangs shape lines report NoHang = HasNoHang shape lines
 IsTelling question shape lines report telling = ⊥
+
+-- the search for all reports, at the one eager limit, answers this question
+abbrev pub IsOfReports : Question → Type 0
+IsOfReports Either = ⊥
+IsOfReports Hangs = ⊥
+IsOfReports _ = Unit {0}
 
 -- what was found out is right: what is told, or that the reports that the script can have have too many bytes
 abbrev pub IsFinding : Question → Sizes → List Line → List ℕ → Finding → Type 0
@@ -123,8 +136,8 @@ IsOver asked shape lines =
 abbrev pub IsAnswerFor : Asked → ℕ → List Line → List ℕ → Response → Type 0
 IsAnswerFor asked ranks lines report (Told telling) =
     IsTelling asked.question (sizes_for asked ranks) lines report telling
-IsAnswerFor asked ranks lines report (Outgrown states) =
-    (states ≡ asked.states) × IsOver asked (sizes_for asked ranks) lines
+IsAnswerFor asked ranks lines report (Outgrown question states) =
+    (question ≡ asked.question) × (states ≡ asked.states) × IsOver asked (sizes_for asked ranks) lines
 IsAnswerFor asked ranks lines report _ = ⊥
 
 -- the text of a script has this answer, with the given report

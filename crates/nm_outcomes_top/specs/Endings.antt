@@ -10,14 +10,15 @@ use Rattle.nm_script.specs.Rules.{IsFirstFault}
 use Rattle.nm_script.specs.Spelled.{IsTextOf}
 use Rattle.nm_script.specs.FaultTexts.{fault_text}
 use Rattle.nm_outcomes.specs.Outcomes.{AreOutcomes}
+use Rattle.nm_hangs.specs.Found.{HasNoHang, IsHangTrace}
 use Rattle.nm_listed.specs.Finding.{HasFewer, IsOutcomeTrace}
 use Rattle.nm_listed.specs.Places.{IsFirstNew}
 use Rattle.nm_listed.specs.declared.places.Place.TheVariants.{At, Not}
 use Rattle.nm_outcomes_top.specs.declared.words.Asked.{Asked}
 use Rattle.nm_outcomes_top.specs.declared.words.Question.{Question}
-use Rattle.nm_outcomes_top.specs.declared.words.Question.TheVariants.{All, Trace, Among, Either}
+use Rattle.nm_outcomes_top.specs.declared.words.Question.TheVariants.{All, Trace, Among, Either, Hangs}
 use Rattle.nm_outcomes_top.specs.Answers.{IsInputOf, IsOver, listed_status, read_of, traced_status}
-use Rattle.nm_outcomes_top.specs.Texts.{fewer_text, joined_text, outcomes_text, outgrown_text, place_text}
+use Rattle.nm_outcomes_top.specs.Texts.{fewer_text, joined_text, no_hang_text, outcomes_text, over_text, place_text}
 use Rattle.nm_variants.specs.Reports.{AreVariantOutcomes}
 use Rattle.nm_variants.specs.Variants.{IsVariant, variants}
 use Rattle.nm_outcomes_top.specs.OptionWords.{sizes_for}
@@ -47,7 +48,7 @@ pub record IsGiven (asked : Asked) (bytes : List ℕ) : Type 0 where
 pub record IsOutgrown (asked : Asked) (old new : Option (List ℕ)) (bytes : List ℕ) : Type 0 where
   pub given : IsGiven asked bytes
   pub cause : IsOver asked (sizes_for asked given.ranks) given.lines
-  pub said : Appends old new (outgrown_text asked.states)
+  pub said : Appends old new (over_text asked.question asked.states)
 
 -- The bytes spell a script, and all reports that its runs in these sizes can have were written, each once. The
 -- status is 1 exactly where one of them is stuck.
@@ -117,12 +118,26 @@ pub record IsNotAmong (asked : Asked) (old new : Option (List ℕ)) (bytes : Lis
   pub first : IsFirstNew texts given.report line
   pub said : Appends old new (place_text (Not line))
 
+-- the bytes spell a script, and the trace of a lawful run of it was written that hangs
+pub record IsHangSaid (asked : Asked) (old new : Option (List ℕ)) (bytes : List ℕ) : Type 0 where
+  pub given : IsGiven asked bytes
+  pub trace : List ℕ
+  pub hangs : IsHangTrace (sizes_for asked given.ranks) given.lines trace
+  pub said : Appends old new trace
+
+-- the bytes spell a script, no lawful run of it hangs, and that was said
+pub record IsNoHangSaid (asked : Asked) (old new : Option (List ℕ)) (bytes : List ℕ) : Type 0 where
+  pub given : IsGiven asked bytes
+  pub none : HasNoHang (sizes_for asked given.ranks) given.lines
+  pub said : Appends old new no_hang_text
+
 -- the statuses at which it was said what was asked
 abbrev pub Speaks : Question → ℕ → Type 0
 Speaks All status = (status ≡ 0) ⊎ (status ≡ 1)
 Speaks (Trace number) status = (status ≡ 0) ⊎ ((status ≡ 1) ⊎ (status ≡ 7))
 Speaks Among status = (status ≡ 0) ⊎ (status ≡ 8)
 Speaks Either status = (status ≡ 0) ⊎ (status ≡ 1)
+Speaks Hangs status = (status ≡ 0) ⊎ (status ≡ 1)
 
 -- .. of any question
 abbrev pub IsSpoken : ℕ → Type 0

@@ -6,7 +6,7 @@ use Rattle.nm_script.specs.declared.command_line.CommandLine.{CommandLine}
 use Rattle.nm_script.specs.declared.command_line.Mode.TheVariants.{Run}
 use Rattle.nm_outcomes_top.specs.declared.words.Asked.{Asked}
 use Rattle.nm_outcomes_top.specs.declared.words.Question.{Question}
-use Rattle.nm_outcomes_top.specs.declared.words.Question.TheVariants.{All, Trace, Among, Either}
+use Rattle.nm_outcomes_top.specs.declared.words.Question.TheVariants.{All, Trace, Among, Either, Hangs}
 
 -- the same cells and the same eager limit as words of `nemesis run`
 abbrev pub as_run : Asked → CommandLine
@@ -17,6 +17,7 @@ abbrev pub question_words : Question → List (List ℕ)
 question_words All = []
 question_words (Trace number) = codes "--trace" ∷ decimal number ∷ []
 question_words Among = codes "--among" ∷ []
+question_words Hangs = codes "--hangs" ∷ []
 question_words Either = codes "--eager" ∷ codes "either" ∷ []
 
 -- the words of the eager limit, where the question has one: the largest
@@ -38,7 +39,8 @@ pub record Begins (words : List (List ℕ)) (question : Question) (others : List
 abbrev pub Continues : Question → List (List ℕ) → Type 0
 Continues All others =
     (first : List ℕ) × (rest : List (List ℕ)) × (others ≡ first ∷ rest) × (first ≢ codes "--trace")
-    × (first ≢ codes "--among") × ((more : List (List ℕ)) → others ≢ codes "--eager" ∷ codes "either" ∷ more)
+    × (first ≢ codes "--among") × (first ≢ codes "--hangs")
+    × ((more : List (List ℕ)) → others ≢ codes "--eager" ∷ codes "either" ∷ more)
 Continues _ others = Unit {0}
 
 -- these words ask for these sizes: options as behind `nemesis run`, and behind them the number of states

@@ -3,6 +3,8 @@ use Rattle.std.specs.Prelude.{ℕ, ◌+◌, ◌++◌, Bool, List, [], ◌∷◌,
 use Rattle.std.specs.List.{ends_with}
 use Rattle.nm_listed.specs.declared.places.Place.{Place}
 use Rattle.nm_listed.specs.declared.places.Place.TheVariants.{At, Not}
+use Rattle.nm_outcomes_top.specs.declared.words.Question.{Question}
+use Rattle.nm_outcomes_top.specs.declared.words.Question.TheVariants.{Hangs}
 
 -- a report whose last line says that a rank is stuck
 abbrev pub is_stuck : List ℕ → Bool
@@ -56,6 +58,19 @@ no_report = codes "fault report\n"
 abbrev pub outgrown_text : ℕ → List ℕ
 outgrown_text states = codes "fault outcomes " ++ (decimal states ++ codes "\n")
 
+-- what is said where no run hangs
+abbrev pub no_hang_text : List ℕ
+no_hang_text = codes "no hang\n"
+
+-- what is said where none that hangs was found among so many states
+abbrev pub unsettled_text : ℕ → List ℕ
+unsettled_text states = codes "no hang in " ++ (decimal states ++ codes " states\n")
+
+-- what is said where the limit came, by what was asked
+abbrev pub over_text : Question → ℕ → List ℕ
+over_text Hangs states = unsettled_text states
+over_text _ states = outgrown_text states
+
 -- what is said of words that are not taken
 abbrev pub usage : List ℕ
 usage =
@@ -63,3 +78,4 @@ usage =
     ++ codes "       outcomes --eager either [--cells N] STATES <SCRIPT\n"
     ++ codes "       outcomes --trace K [--cells N] [--eager N] STATES <SCRIPT\n"
     ++ codes "       outcomes --among [--cells N] [--eager N] STATES <SCRIPT_AND_REPORT\n"
+    ++ codes "       outcomes --hangs [--cells N] [--eager N] STATES <SCRIPT\n"

@@ -2,9 +2,10 @@
 
 ghost use Rattle.std.specs.Prelude.{◌≡◌, IfOk};
 ghost use Rattle.nm_outcomes_top.specs.Answers.{status_of, text_of};
-ghost use Rattle.nm_outcomes_top.specs.Texts.{outgrown_text};
+ghost use Rattle.nm_outcomes_top.specs.Texts.{outgrown_text, over_text, unsettled_text};
 
 use crate::tellings::{Telling, telling_status, telling_text};
+use crate::words::Question;
 use nm_script::{Kind, fault_text};
 use nm_shell::line;
 use nm_types::Memory;
@@ -22,7 +23,7 @@ pub enum Response {
     /// The bytes are no script.
     Refused { line: u32, kind: Kind },
     /// The search met too many states, or the reports are too long.
-    Outgrown { states: u32 },
+    Outgrown { question: Question, states: u32 },
     /// What was asked of the reports of the script.
     Told { telling: Telling },
 }
@@ -32,6 +33,7 @@ const USAGE: &str = "usage: outcomes [--cells N] [--eager N] STATES <SCRIPT
        outcomes --eager either [--cells N] STATES <SCRIPT
        outcomes --trace K [--cells N] [--eager N] STATES <SCRIPT
        outcomes --among [--cells N] [--eager N] STATES <SCRIPT_AND_REPORT
+       outcomes --hangs [--cells N] [--eager N] STATES <SCRIPT
 ";
 
 /// What is said where there are too many states, or the reports are too long.
@@ -40,6 +42,24 @@ fn outgrown(alloc: Global, states: u32) -> Result<Vec<u8>, AllocError>
 {
     let text = format!(in alloc; "fault outcomes {}\n", states)?;
     Ok(text.into_bytes())
+}
+
+/// What is said where no run that hangs was found among so many states.
+fn unsettled(alloc: Global, states: u32) -> Result<Vec<u8>, AllocError>
+    ensures { IfOk result (λ bytes. bytes.items ≡ unsettled_text states) }
+{
+    let text = format!(in alloc; "no hang in {} states\n", states)?;
+    Ok(text.into_bytes())
+}
+
+/// What is said where the limit came, by what was asked.
+fn over(alloc: Global, question: Question, states: u32) -> Result<Vec<u8>, AllocError>
+    ensures { IfOk result (λ bytes. bytes.items ≡ over_text question states) }
+{
+    match question {
+        Question::Hangs => unsettled(alloc, states),
+        _ => outgrown(alloc, states),
+    }
 }
 
 /// The text of an answer, whole and in memory.
@@ -51,7 +71,7 @@ pub fn text(alloc: Global, answer: &Response) -> Result<Vec<u8>, Memory>
         Response::Unread => Ok(line(alloc, "fault read\n")?),
         Response::NoReport => Ok(line(alloc, "fault report\n")?),
         Response::Refused { line, kind } => Ok(fault_text(alloc, *line, *kind)?),
-        Response::Outgrown { states } => Ok(outgrown(alloc, *states)?),
+        Response::Outgrown { question, states } => Ok(over(alloc, *question, *states)?),
         Response::Told { telling } => telling_text(alloc, telling),
     }
 }

@@ -1,16 +1,16 @@
 //! What is asked of the reports of a script.
 
-ghost use Rattle.std.specs.Prelude.{◌≡◌, ◌≢◌, ◌≤◌, ℕ, List, IfOk};
+ghost use Rattle.std.specs.Prelude.{◌≡◌, ◌≤◌, ℕ, List, IfOk};
 ghost use Rattle.nm_explored.specs.Ends.{AreEndsByWay, TellsAll, TellsOnly};
-ghost use Rattle.nm_outcomes_top.specs.Answers.{IsAnswerFor, IsFinding};
-ghost use Rattle.nm_outcomes_top.specs.declared.words.Question.TheVariants as question;
-ghost use Rattle.nm_outcomes_top.specs.declared.words.Question.TheVariants.{Either};
+ghost use Rattle.nm_outcomes_top.specs.Answers.{IsAnswerFor, IsFinding, IsOfReports};
+ghost use Rattle.nm_outcomes_top.specs.declared.words.Question.TheVariants as asks;
 ghost use Rattle.nm_outcomes_top.specs.OptionWords.{InRange, IsQuestion, sizes_for};
 
 use crate::answers::Response;
 use crate::tellings::Telling;
 use crate::words::{Asked, Question};
 use nm_explored::{End, Explored, explore};
+use nm_hangs::{Hang, find_hang};
 use nm_listed::{Found, Traced, place_of, reports, trace_of};
 use nm_types::{Memory, Script, Shape};
 use nm_variants::{Union, all_reports};
@@ -31,7 +31,7 @@ fn tell_all(alloc: Global, script: &Script, shape: Shape, ends: Vec<End>) -> Res
     requires tells { TellsAll shape script.now.lines ends.items }
     requires only { TellsOnly shape script.now.lines ends.items }
     ensures { (report : List ℕ) → IfOk result
-        (IsFinding question.All shape script.now.lines report) }
+        (IsFinding asks.All shape script.now.lines report) }
 {
     match reports(alloc, script, shape, ends)? {
         Found::All(texts) => Ok(Finding::Told {
@@ -54,7 +54,7 @@ fn tell_trace(
     requires ways { AreEndsByWay shape script.now.lines ends.items }
     requires some { 1 ≤ number }
     ensures { (report : List ℕ) → IfOk result
-        (IsFinding (question.Trace number) shape script.now.lines report) }
+        (IsFinding (asks.Trace number) shape script.now.lines report) }
 {
     match trace_of(alloc, script, shape, ends, number)? {
         Traced::Trace(trace) => Ok(Finding::Told {
@@ -78,7 +78,7 @@ fn tell_place(
     requires equal { shape.ranks ≡ script.now.ranks }
     requires tells { TellsAll shape script.now.lines ends.items }
     requires only { TellsOnly shape script.now.lines ends.items }
-    ensures { IfOk result (IsFinding question.Among shape script.now.lines report.now) }
+    ensures { IfOk result (IsFinding asks.Among shape script.now.lines report.now) }
 {
     match reports(alloc, script, shape, ends)? {
         Found::All(texts) => Ok(Finding::Told {
@@ -104,7 +104,7 @@ fn tell(
     requires only { TellsOnly shape script.now.lines ends.items }
     requires ways { AreEndsByWay shape script.now.lines ends.items }
     requires number { IsQuestion question }
-    requires one { question ≢ Either }
+    requires listed { IsOfReports question }
     ensures { IfOk result (IsFinding question shape script.now.lines report.now) }
 {
     match question {
@@ -112,6 +112,7 @@ fn tell(
         Question::Trace { number } => tell_trace(alloc, script, shape, ends, number),
         Question::Among => tell_place(alloc, script, shape, ends, report),
         Question::Either => unreachable!(),
+        Question::Hangs => unreachable!(),
     }
 }
 
@@ -126,7 +127,7 @@ fn answer_ends(
     report: &[u8],
 ) -> Result<Response, Memory>
     requires range { InRange asked }
-    requires one { asked.question ≢ Either }
+    requires listed { IsOfReports asked.question }
     requires sizes { shape ≡ sizes_for asked script.now.ranks }
     requires tells { TellsAll shape script.now.lines ends.items }
     requires only { TellsOnly shape script.now.lines ends.items }
@@ -136,6 +137,33 @@ fn answer_ends(
     match tell(alloc, asked.question, script, shape, ends, report)? {
         Finding::Told { telling } => Ok(Response::Told { telling }),
         Finding::TooLong => Ok(Response::Outgrown {
+            question: asked.question,
+            states: asked.states,
+        }),
+    }
+}
+
+// Whether a script can hang.
+#[tactic(auto, using(crate::proofs::InputLemmas::hangs_told, crate::proofs::InputLemmas::hangs_many))]
+fn answer_hangs(
+    alloc: Global,
+    asked: Asked,
+    script: &Script,
+    shape: Shape,
+) -> Result<Response, Memory>
+    requires hangs { asked.question ≡ asks.Hangs }
+    requires sizes { shape ≡ sizes_for asked script.now.ranks }
+    ensures { (report : List ℕ) → IfOk result (IsAnswerFor asked script.now.ranks script.now.lines report) }
+{
+    match find_hang(alloc, script, shape, asked.states)? {
+        Hang::Found { trace } => Ok(Response::Told {
+            telling: Telling::Hung { trace },
+        }),
+        Hang::Never => Ok(Response::Told {
+            telling: Telling::NoHang,
+        }),
+        Hang::Open => Ok(Response::Outgrown {
+            question: asked.question,
             states: asked.states,
         }),
     }
@@ -151,13 +179,14 @@ fn answer_reports(
     report: &[u8],
 ) -> Result<Response, Memory>
     requires range { InRange asked }
-    requires one { asked.question ≢ Either }
+    requires listed { IsOfReports asked.question }
     requires sizes { shape ≡ sizes_for asked script.now.ranks }
     ensures { IfOk result (IsAnswerFor asked script.now.ranks script.now.lines report.now) }
 {
     match explore(alloc, script, shape, asked.states)? {
         Explored::All(ends) => answer_ends(alloc, asked, script, shape, ends.into_vec(), report),
         Explored::TooMany => Ok(Response::Outgrown {
+            question: asked.question,
             states: asked.states,
         }),
     }
@@ -172,7 +201,7 @@ fn answer_either(
     shape: Shape,
 ) -> Result<Response, Memory>
     requires range { InRange asked }
-    requires either { asked.question ≡ Either }
+    requires either { asked.question ≡ asks.Either }
     requires sizes { shape ≡ sizes_for asked script.now.ranks }
     ensures { (report : List ℕ) → IfOk result (IsAnswerFor asked script.now.ranks script.now.lines report) }
 {
@@ -181,9 +210,11 @@ fn answer_either(
             telling: Telling::Joined { texts, count },
         }),
         Union::TooMany => Ok(Response::Outgrown {
+            question: asked.question,
             states: asked.states,
         }),
         Union::TooLong => Ok(Response::Outgrown {
+            question: asked.question,
             states: asked.states,
         }),
     }
@@ -202,6 +233,7 @@ pub fn answer_script(
     let shape = Shape::new(script.ranks, asked.cells, asked.eager).unwrap();
     match asked.question {
         Question::Either => answer_either(alloc, asked, script, shape),
+        Question::Hangs => answer_hangs(alloc, asked, script, shape),
         _ => answer_reports(alloc, asked, script, shape, report),
     }
 }

@@ -12,8 +12,8 @@ ghost use Rattle.nm_script.specs.declared.faults.Kind.{Kind};
 ghost use Rattle.nm_outcomes_top.specs.declared.words.Asked.{Asked};
 ghost use Rattle.nm_outcomes_top.specs.declared.words.Question.TheVariants as question;
 ghost use Rattle.nm_outcomes_top.specs.Answers.{IsInputOf, TellsOutcomes, read_of};
-ghost use Rattle.nm_outcomes_top.specs.Endings.{IsAmong, IsEitherListed, IsFewerSaid, IsNotAmong, IsOutgrown};
-ghost use Rattle.nm_outcomes_top.specs.Endings.{IsRefused, IsSafe, IsTraceSaid, Speaks};
+ghost use Rattle.nm_outcomes_top.specs.Endings.{IsAmong, IsEitherListed, IsFewerSaid, IsHangSaid, IsNoHangSaid};
+ghost use Rattle.nm_outcomes_top.specs.Endings.{IsNotAmong, IsOutgrown, IsRefused, IsSafe, IsTraceSaid, Speaks};
 ghost use Rattle.nm_outcomes_top.specs.Texts.{no_report, usage};
 ghost use Rattle.nm_outcomes_top.specs.OptionWords.{IsTaken, NotTaken};
 
@@ -85,4 +85,14 @@ pub fn one_is_looked_up()
         e.status ≡ 9 → IfSome e.input (λ bytes. (asked.question ≡ question.Among)
         × HasNoParts (read_of asked.question bytes))
         × Appends e.before e.after no_report }
+{}
+
+/// Whether one of the runs hangs: the trace of one that does, or that none does.
+pub fn hangs_are_told()
+    ensures hangs { (e : Ending) → IsDone TellsOutcomes e → (asked : Asked) → IsTaken e.words asked →
+        asked.question ≡ question.Hangs → e.status ≡ 1 →
+        IfSome e.input (IsHangSaid asked e.before e.after) }
+    ensures none { (e : Ending) → IsDone TellsOutcomes e → (asked : Asked) → IsTaken e.words asked →
+        asked.question ≡ question.Hangs → e.status ≡ 0 →
+        IfSome e.input (IsNoHangSaid asked e.before e.after) }
 {}

@@ -2,8 +2,8 @@
 //! top call.
 //!
 //! It reads a script, searches for every report that a lawful run of it can have, and writes all, or a trace
-//! of one, or whether a given report is one of them. `words` reads the words of the command line; `laws` has
-//! what follows, for each of these.
+//! of one, or whether a given report is one of them, or a trace of a run that hangs. `words` reads the words
+//! of the command line; `laws` has what follows, for each of these.
 //!
 //! # What a contract sees
 //! The words as lists of bytes; the bytes that the source reports, of which at most 8,388,609 are read, with
@@ -11,8 +11,8 @@
 //! that texts are the reports of all lawful runs of a script, each once, in dictionary order. `outcomes` says
 //! by one relation, `IsDone`, that the right answer is written and nothing else.
 //! # What is proved
-//! - Status 0 and 1 without `--trace` and `--among`: the reports of all lawful runs of the script that the
-//!   bytes spell were written, in the sizes that the words say, each once and after a line with its number,
+//! - Status 0 and 1 without `--trace`, `--among` and `--hangs`: the reports of all lawful runs of the script that
+//!   the bytes spell were written, in the sizes that the words say, each once and after a line with its number,
 //!   and the line of their numbers; the status is 1 exactly if one of them is stuck.
 //! - With `--eager either`: the reports of all lawful runs where each standard send of at most 4,096 bytes, by
 //!   itself, is buffered or waits (`AreVariantOutcomes` of `nm_variants`), behind a line with the number of
@@ -22,6 +22,7 @@
 //! - With `--among`: at 0 the given report is one of them, with its number; at 8 it is not, with the first
 //!   line that none of them has after the lines before it. Status 9 only if there is no line `---` or the
 //!   input is too long.
+//! - With `--hangs`: at 1 the trace of a lawful run that hangs was written, at 0 no run hangs.
 //! - Status 2 exactly if the words are not accepted, and then nothing was read; 3 exactly if the bytes spell
 //!   no script, with the first fault. 5 and 6 may come in place of each, and 4 in place of 3.
 //! - If the bytes spell a script the status is one of these, or 10, or a read, a write or memory failed; 10

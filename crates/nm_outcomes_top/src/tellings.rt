@@ -10,6 +10,7 @@ ghost use Rattle.nm_outcomes_top.specs.Texts.{fewer_text as fewer_text_lem, plac
 
 use crate::listing::{is_one_stuck, is_stuck, joined_text, outcomes_text};
 use nm_listed::{Place, Texts};
+use nm_shell::line;
 use nm_types::Memory;
 use std::alloc::{AllocError, Global};
 
@@ -26,6 +27,10 @@ pub enum Telling {
     Placed { place: Place },
     /// These are all of them where each standard send may wait, and how many variants that makes.
     Joined { texts: Texts, count: u32 },
+    /// The trace of a run that hangs.
+    Hung { trace: Vec<u8> },
+    /// No run hangs.
+    NoHang,
 }
 
 /// What is said where there is no report with this number.
@@ -57,6 +62,8 @@ pub fn telling_text(alloc: Global, telling: &Telling) -> Result<Vec<u8>, Memory>
         Telling::Fewer { number, count } => Ok(fewer_text(alloc, *number, *count)?),
         Telling::Placed { place } => Ok(place_text(alloc, *place)?),
         Telling::Joined { texts, count } => joined_text(alloc, texts, *count),
+        Telling::Hung { trace } => Ok(Vec::from_slice(alloc, trace.as_slice())?),
+        Telling::NoHang => Ok(line(alloc, "no hang\n")?),
     }
 }
 
@@ -94,5 +101,7 @@ pub fn telling_status(telling: &Telling) -> u8
         Telling::Fewer { .. } => 7,
         Telling::Placed { place } => placed_status(*place),
         Telling::Joined { texts, .. } => listed_status(texts),
+        Telling::Hung { .. } => 1,
+        Telling::NoHang => 0,
     }
 }

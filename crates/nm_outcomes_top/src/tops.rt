@@ -105,17 +105,18 @@ fn find_answer<S: Source>(
 /// Does all that the program does: reads a script of the source, searches for every report that a
 /// lawful run of it can have, and writes to the sink what is asked of them.
 ///
-/// The words are those of the command line without the program's name: `--trace K`, `--among` or
-/// nothing, then options, and behind them how many states the search may meet. All reports are
+/// The words are those of the command line without the program's name: `--trace K`, `--among`,
+/// `--hangs` or nothing, then options, and behind them how many states the search may meet. All reports are
 /// written where nothing more is asked; behind `--trace K` the trace of a lawful run whose report is
 /// the K-th of them, 1 for the first; behind `--among` the number of the report that stands in the
-/// source behind the script and a line `---`.
+/// source behind the script and a line `---`; behind `--hangs` the trace of a lawful run that hangs, or
+/// that no run does.
 ///
 /// The status is 0 where that was written and no report of it is stuck, 1 where one is, 2 where the
 /// words are not taken, 3 where the bytes spell no script, 4 where a read failed, 5 where a write
 /// failed, 6 for want of memory, 7 where there are fewer than K reports, 8 where the given report is
 /// none of them, 9 where there is no line `---` or the source has more than 67,108,864 bytes, and 10
-/// where the search met more states or the reports have more than 134,217,728 bytes. The whole text is
+/// where the search met more states, or the reports have more than 134,217,728 bytes. The whole text is
 /// in memory before the first write.
 pub fn outcomes<S: Source, K: Sink>(
     alloc: Global,

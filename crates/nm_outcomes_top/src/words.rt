@@ -1,7 +1,8 @@
 //! The words of the command line of `outcomes`.
 //!
-//! What is asked of the reports stands first: `--trace K` or `--among`, or nothing where all are to be
-//! listed, or `--eager either` where all are to be listed that there are if each standard send may wait. Options follow as behind `nemesis run`, each at most once, in either spelling (`--cells 4` or
+//! What is asked of the reports stands first: `--trace K`, `--among` or `--hangs`, or nothing where all are
+//! to be listed, or `--eager either` where all are to be listed that there are if each standard send may
+//! wait. Options follow as behind `nemesis run`, each at most once, in either spelling (`--cells 4` or
 //! `--cells=4`), and behind them stands the number of states.
 //!
 //! # What a contract sees
@@ -36,6 +37,8 @@ pub enum Question {
     Among,
     /// All of them, where each standard send is buffered or waits by itself.
     Either,
+    /// Whether one of them is stuck.
+    Hangs,
 }
 
 /// What the words ask for.
@@ -190,13 +193,15 @@ fn question_of(words: &[String]) -> Option<(Question, &[String])>
         trace_question(others)
     } else if first.as_bytes() == b"--among".as_slice() {
         Some((Question::Among, others))
+    } else if first.as_bytes() == b"--hangs".as_slice() {
+        Some((Question::Hangs, others))
     } else {
         Some(listing_question(words))
     }
 }
 
-/// What the words ask for, or `None` where they are not taken: `--trace K`, `--among`, `--eager either` or nothing, then
-/// the options of `nemesis run`, in their spellings and ranges, and behind them the number of states.
+/// What the words ask for, or `None` where they are not taken: `--trace K`, `--among`, `--hangs`, `--eager either`
+/// or nothing, then the options of `nemesis run`, in their spellings and ranges, and behind them the number of states.
 ///
 /// The words are those of the command line without the program's name.
 pub fn read(alloc: Global, words: &[String]) -> Result<Option<Asked>, Memory>

@@ -30,6 +30,7 @@ fn plain(asked: Asked) -> Option<Asked>
         Question::Trace { .. } => None,
         Question::Among => None,
         Question::Either => None,
+        Question::Hangs => None,
     }
 }
 

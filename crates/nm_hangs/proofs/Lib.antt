@@ -1,0 +1,2 @@
+mod HangLemmas
+mod HuntLemmas
