@@ -1,22 +1,23 @@
 -- A deed and a message that comes may be swapped.
-use Rattle.std.proofs.Common.{◌≡◌, ◌≤◌, ◌||◌, Bool, true, false, cond, Option, Some, None, [], ◌∷◌, ◌++◌}
+use Rattle.std.proofs.Common.{◌≡◌, ℕ, ◌≤◌, ◌==◌, ◌||◌, not, Bool, true, false, cond, Option, Some, None, List, [], ◌∷◌, ◌++◌}
 use Rattle.std.proofs.Common.{refl, sym, ◌∙◌, ap, arith}
 use Rattle.std.specs.Prelude.{count_by}
-use Rattle.std.specs.List.{list_any}
+use Rattle.std.specs.List.{find, list_any}
 use Rattle.std.proofs.lemmas.Bool.{false≢true}
 use Rattle.std.proofs.lemmas.List.Folds.{list_any-append}
 use Rattle.std.proofs.Math.Bool.{or-false}
 use Rattle.nm_types.specs.declared.messages.Arrival.{Arrival}
 use Rattle.nm_history.specs.Matching.{is_of_message}
+use Rattle.nm_history.specs.Selection.{matches}
 use Rattle.nm_outcomes.specs.declared.spots.deeds.Deed.{Deed}
 use Rattle.nm_outcomes.specs.declared.spots.deeds.Deed.TheVariants as deed
 use Rattle.nm_outcomes.specs.declared.spots.deeds.Receive.{Receive}
 use Rattle.nm_outcomes.specs.Looks.{is_receive_by}
 use Rattle.nm_outcomes.specs.RankStates.{Spot, arrived_at, arrived_by, is_claim_by, is_gone_at, is_that, receive_of_spot}
-use Rattle.nm_outcomes.specs.RankStates.{spot_after, with_arrival}
+use Rattle.nm_outcomes.specs.RankStates.{spot_after, with_arrival, with_pair, without_number}
 use Rattle.nm_explored.specs.Orderly.{IsOrderly, came_of, is_rare_by}
-use Rattle.nm_explored.proofs.OrderlyLemmas.{IsNewDeed, no_cancel, not_gone}
-use Rattle.nm_explored.proofs.PostLemmas.{post_behind}
+use Rattle.nm_explored.proofs.OrderlyLemmas.{IsNewDeed, not_gone}
+use Rattle.nm_explored.proofs.PostLemmas.{arrives_at, both_left, find_still, pair_for, post_behind}
 
 -- a deed that changes no queue
 abbrev pub is_plain : Deed → Bool
@@ -67,14 +68,48 @@ arrive_behind x a (deed.Cancel number done) plain = absurd (false≢true plain)
 arrive_behind x a (deed.Recall to n) plain = absurd (false≢true plain)
 arrive_behind x a (deed.Claim from n line) plain = absurd (false≢true plain)
 
--- a deed of such a script and a message that comes may be swapped
+-- a cancel is of another receive than the one that takes a message
+abbrev pub IsKept : Spot → Arrival → Deed → Type 0
+IsKept x a (deed.Cancel number done) =
+    (o : Receive) × (receive_of_spot x a ≡ Some o) × ((number == o.number) ≡ false)
+IsKept x a _ = Unit {0}
+
+-- without another receive it goes to the same one
+pub still_to : (x : Spot) (a : Arrival) (o : Receive) → receive_of_spot x a ≡ Some o → (number : ℕ) →
+    (number == o.number) ≡ false →
+    find (λ (r : Receive). matches r.from r.tag r.ctx a.env) (without_number number x.receives) ≡ Some o
+still_to x a o to number apart =
+    find_still (λ (r : Receive). matches r.from r.tag r.ctx a.env) (λ (r : Receive). not (number == r.number))
+    x.receives o to (ap (λ (b : Bool). not b) apart)
+
+-- such a cancel and a message that comes may be swapped
+cancel_behind : (x : Spot) (a : Arrival) (o : Receive) → receive_of_spot x a ≡ Some o → (number : ℕ) →
+    (number == o.number) ≡ false → (done : Bool) →
+    arrived_at (spot_after x (deed.Cancel number done)) a ≡ spot_after (arrived_at x a) (deed.Cancel number done)
+cancel_behind x a o to number apart false =
+    arrives_at a (spot_after x (deed.Cancel number false)) o to
+    ∙ sym (ap (λ (y : Spot). spot_after y (deed.Cancel number false)) (arrives_at a x o to))
+cancel_behind x a o to number apart true =
+    arrives_at a (spot_after x (deed.Cancel number true)) o (still_to x a o to number apart)
+    ∙ ap (λ (rs : List Receive). record {
+      deeds = x.deeds ++ deed.Cancel number true ∷ [];
+      receives = rs;
+      free = x.free;
+      pairs = with_pair (pair_for o a) x.pairs;
+      came = with_arrival a x.came;
+      withdrawn = x.withdrawn;
+    }) (both_left o.number number x.receives)
+    ∙ sym (ap (λ (y : Spot). spot_after y (deed.Cancel number true)) (arrives_at a x o to))
+
+-- a deed of such a rank and a message that comes may be swapped
 pub deed_behind : (x : Spot) → IsOrderly x → (a : Arrival) → a.n ≡ came_of x a.env.from → (d : Deed) →
-    is_rare_by d ≡ false → IsNewDeed x d → arrived_at (spot_after x d) a ≡ spot_after (arrived_at x a) d
-deed_behind x is a new (deed.Send to n tag ctx len how line) common number =
+    is_rare_by d ≡ false → IsNewDeed x d → IsKept x a d →
+    arrived_at (spot_after x d) a ≡ spot_after (arrived_at x a) d
+deed_behind x is a new (deed.Send to n tag ctx len how line) common number kept =
     arrive_behind x a (deed.Send to n tag ctx len how line) refl
-deed_behind x is a new (deed.Ran line r) common number = arrive_behind x a (deed.Ran line r) refl
-deed_behind x is a new (deed.Post r line) common number =
-    post_behind x r line a (is.opens r.number started) (is.paired r.number started) (no_cancel x is r.number)
+deed_behind x is a new (deed.Ran line r) common number kept = arrive_behind x a (deed.Ran line r) refl
+deed_behind x is a new (deed.Post r line) common number kept =
+    post_behind x r line a (is.opens r.number started) (is.paired r.number started) (is.cancelled r.number started)
     (is.free a.env.from a.n past) (not_gone x is a.env.from a.n past) is.alone
   where
     started : count_by is_receive_by x.deeds ≤ r.number
@@ -82,7 +117,8 @@ deed_behind x is a new (deed.Post r line) common number =
 
     past : came_of x a.env.from ≤ a.n
     past = omega (arith, new)
-deed_behind x is a new (deed.Match number from n cap line) common number' = absurd (false≢true (sym common))
-deed_behind x is a new (deed.Cancel number done) common number' = absurd (false≢true (sym common))
-deed_behind x is a new (deed.Recall to n) common number = absurd (false≢true (sym common))
-deed_behind x is a new (deed.Claim from n line) common number = absurd (false≢true (sym common))
+deed_behind x is a new (deed.Cancel number done) common number' kept =
+    cancel_behind x a kept.0 kept.1 number kept.2 done
+deed_behind x is a new (deed.Match number from n cap line) common number' kept = absurd (false≢true (sym common))
+deed_behind x is a new (deed.Recall to n) common number kept = absurd (false≢true (sym common))
+deed_behind x is a new (deed.Claim from n line) common number kept = absurd (false≢true (sym common))

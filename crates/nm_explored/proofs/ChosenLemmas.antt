@@ -38,9 +38,10 @@ use Rattle.nm_explored.specs.Moves.{IsAct, IsChoiceOf, IsDeedOf, moved_at}
 use Rattle.nm_explored.specs.Chosen.{Acts, Goes, IsSettled, IsSettledBy, LetsAct}
 use Rattle.nm_explored.specs.Ends.{AreAtRest, is_waiting}
 use Rattle.nm_explored.specs.Orderly.{HasNoClaim, IsOrderly, came_of}
-use Rattle.nm_explored.proofs.BehindLemmas.{arrive_behind, deed_behind, is_plain}
+use Rattle.nm_explored.proofs.BehindLemmas.{IsKept, arrive_behind, deed_behind, is_plain}
 use Rattle.nm_explored.proofs.CalmLemmas.{calm_next, no_withdrawal}
-use Rattle.nm_explored.proofs.OrderlyLemmas.{common_deed, new_number, orderly_next}
+use Rattle.nm_explored.proofs.OrderlyLemmas.{common_receive, new_number, orderly_next}
+use Rattle.nm_explored.proofs.StartedLemmas.{of_deed, started_next}
 use Rattle.nm_explored.proofs.SeenLemmas.{AreSeen, IsLater, act_kept, after_arrival, after_deed, later_self, next_kept}
 use Rattle.nm_explored.proofs.SeenLemmas.{seen_arrival, seen_deed, set_seen, wait_kept}
 
@@ -92,7 +93,7 @@ module _ (eager ranks : ℕ) (lines : List Line) (v w : ℕ → Option Spot) (se
         by_command (command.Mprobe m from tag ctx) settled = absurd settled
         by_command (command.Mrecv q m cap) settled = absurd settled
 
-    module _ (orderly : HasNoClaim lines → IsOrderly x) (d : Deed) where
+    module _ (orderly : HasNoClaim lines i → IsOrderly x) (d : Deed) where
       abbrev IsBefore : Command → Type 0
       IsBefore c = IsDeedOf eager lines v i x is.line c d × IsBehind x d
 
@@ -126,15 +127,20 @@ module _ (eager ranks : ℕ) (lines : List Line) (v w : ℕ → Option Spot) (se
               plain_as (deed.Ran is.line r.0) refl r.2
           by_kind (inr (inr denies)) = absurd (no_some d denies)
 
-      recv_before : (q : ℕ) (from : Peer) (tag : TagPick) (ctx cap : ℕ) → HasNoClaim lines →
+      recv_before : (q : ℕ) (from : Peer) (tag : TagPick) (ctx cap : ℕ) → HasNoClaim lines i →
           IsDeedOf eager lines w i y is.line (command.Recv q from tag ctx cap) d →
           IsBefore (command.Recv q from tag ctx cap)
       recv_before q from tag ctx cap none does =
           let before : IsDeedOf eager lines v i x is.line (command.Recv q from tag ctx cap) d =
           subst (λ (ds : List Deed). IsDeedOf eager lines v i (record y { deeds = ds }) is.line
           (command.Recv q from tag ctx cap) d) later.deeds does in
-          let common = common_deed eager lines v i x is.line d (command.Recv q from tag ctx cap) refl refl before in
-          (before, λ a new. deed_behind x (orderly none) a new d common.0 common.1)
+          let common = common_receive eager lines v i x is.line q from tag ctx cap d before in (
+            before,
+            λ a new.
+                deed_behind x (orderly none) a new d common.0 common.1
+                (of_deed (λ (z : Deed). IsKept x a z) eager lines v i x is.line (command.Recv q from tag ctx cap) d
+                (λ z starts. subst (λ (e : Deed). IsKept x a e) (same_some _ z starts) tt) (λ r. tt) before),
+          )
 
       wait_before : (q : ℕ) → IsSettledBy v lines i x is.line (command.Wait q) →
           IsDeedOf eager lines w i y is.line (command.Wait q) d → IsBefore (command.Wait q)
@@ -212,9 +218,11 @@ module _ (eager ranks : ℕ) (lines : List Line) (i : ℕ) (s : List Spot) (at :
   moved_on u y go seen here later back =
       inr (
         record {
-          no_cancel = at.no_cancel;
-          calm = calm_next eager ranks lines at.no_cancel s u at.calm go;
-          orderly = λ none. orderly_next eager ranks lines at.no_cancel none s u at.calm (at.orderly none) go;
+          no_recall = at.no_recall;
+          started = started_next eager ranks lines s u at.started go;
+          calm = calm_next eager ranks lines at.no_recall s u at.started at.calm go;
+          orderly = λ none.
+              orderly_next eager ranks lines at.no_recall i none s u at.started at.calm (at.orderly none) go;
           inside = at.inside;
           spot = y;
           here = here;
@@ -226,7 +234,7 @@ module _ (eager ranks : ℕ) (lines : List Line) (i : ℕ) (s : List Spot) (at :
             let act : IsAct eager lines (λ k. slice_get u k) i y acts.2 =
             subst (λ (z : Spot). IsAct eager lines (λ k. slice_get u k) i z acts.2) same acts.3 in
             let before = act_before eager ranks lines (λ k. slice_get s k) (λ k. slice_get u k) seen i at.spot y later
-            at.settled (λ none. at.orderly none i at.spot at.here)
+            at.settled (λ none. at.orderly none at.spot at.here)
             acts.2 act in (
               slice_set s i (spot_after at.spot acts.2),
               (at.spot, at.here, acts.2, before.0, refl),

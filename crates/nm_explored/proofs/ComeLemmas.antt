@@ -1,9 +1,8 @@
 -- The arrival of a message that goes to a receive which can take no other rank's is enough.
 use Rattle.std.proofs.Common.{◌≡◌, ◌≢◌, ◌⊎◌, inl, inr, ℕ, ◌+◌, ◌<◌, ◌≤◌, ◌==◌, ◌&&◌, ◌||◌, not, Bool, true, false, cond}
 use Rattle.std.proofs.Common.{Option, Some, None, List, [], ◌∷◌, ◌++◌, length, refl, sym, ◌∙◌, ap, subst, arith}
-use Rattle.std.specs.Prelude.{if◌then◌else◌, count_by, nat_lt, option_and_then, option_map}
+use Rattle.std.specs.Prelude.{if◌then◌else◌, count_by, nat_lt, option_and_then}
 use Rattle.std.specs.List.{filter, find, list_any, slice_get, slice_set}
-use Rattle.std.specs.Option.{option_map_or}
 use Rattle.std.proofs.lemmas.Bool.{false≢true}
 use Rattle.std.proofs.lemmas.Bool.Decides.{nat_tests}
 use Rattle.std.proofs.lemmas.List.{set_comm}
@@ -11,74 +10,57 @@ use Rattle.std.proofs.lemmas.List.Sums.{length-filter}
 use Rattle.nm_types.specs.declared.messages.Arrival.{Arrival}
 use Rattle.nm_types.specs.declared.messages.Peer.{Peer}
 use Rattle.nm_types.specs.declared.messages.Peer.TheVariants as peer
-use Rattle.nm_types.specs.declared.messages.TagPick.{TagPick}
 use Rattle.nm_types.specs.declared.scripts.Command.{Command}
 use Rattle.nm_types.specs.declared.scripts.Command.TheVariants as command
 use Rattle.nm_types.specs.declared.scripts.Line.{Line}
 use Rattle.nm_history.specs.declared.plain.Pair.{Pair}
 use Rattle.nm_history.specs.Matching.{is_of_message, is_of_receive}
 use Rattle.nm_history.specs.Selection.{matches, matches_source, matches_tag}
-use Rattle.nm_history.specs.RankRun.{is_canceller}
+use Rattle.nm_history.specs.Completion.{Request}
+use Rattle.nm_history.specs.Completion.Request.{Receiving, Sending}
 use Rattle.nm_match.specs.Deeds.{is_message}
 use Rattle.nm_types.proofs.ListLemmas.{find_passes, get_set_other, get_set_same, place_below, set_twice}
 use Rattle.nm_types.proofs.NumberLemmas.{differ, same_number}
-use Rattle.nm_types.proofs.OptionLemmas.{mapped_some, no_some, same_some}
+use Rattle.nm_types.proofs.OptionLemmas.{no_some, same_some}
+use Rattle.std.proofs.Math.Bool.{or-false}
 use Rattle.nm_types.proofs.TruthLemmas.{and_left, not_true, or_left}
-use Rattle.nm_outcomes.specs.Places.{or_else}
 use Rattle.nm_outcomes.specs.Searches.{AreEnough}
-use Rattle.nm_outcomes.proofs.PlaceLemmas.{find-append}
 use Rattle.nm_outcomes.specs.declared.spots.deeds.Deed.{Deed}
 use Rattle.nm_outcomes.specs.declared.spots.deeds.Deed.TheVariants as deed
 use Rattle.nm_match.specs.declared.names.Message.{Message}
 use Rattle.nm_outcomes.specs.declared.spots.deeds.Receive.{Receive}
-use Rattle.nm_outcomes.specs.declared.spots.deeds.Reply.{Reply}
-use Rattle.nm_outcomes.specs.declared.spots.deeds.Reply.TheVariants as reply
-use Rattle.nm_outcomes.specs.Looks.{found_at, is_answer_by, is_receive_by, is_send_by, live_in}
-use Rattle.nm_outcomes.specs.RankStates.{Spot, arrived_at, is_behind, is_cancel_by, is_claim_by, is_gone_at, is_that}
-use Rattle.nm_outcomes.specs.RankStates.{message_of_spot, receive_of_spot, spot_after}
+use Rattle.nm_outcomes.specs.Looks.{is_recall_by, is_send_by, live_in}
+use Rattle.nm_outcomes.specs.RankStates.{Spot, arrived_at, is_behind, is_claim_by, is_gone_at, is_that}
+use Rattle.nm_outcomes.specs.RankStates.{receive_of_spot, spot_after}
 use Rattle.nm_outcomes.specs.RankStates.{with_arrival, with_pair, without_number}
-use Rattle.nm_outcomes.proofs.ListLemmas.{count-placed_new}
+use Rattle.nm_outcomes.proofs.ListLemmas.{any-placed_new, count-placed_new}
+use Rattle.nm_search.proofs.ListLemmas.{then_some}
 use Rattle.nm_explored.specs.declared.choices.moves.Move.{Move}
 use Rattle.nm_explored.specs.declared.choices.moves.Move.TheVariants as move
-use Rattle.nm_explored.specs.Successors.{arrival_by, message_next, result_in, seen_at}
-use Rattle.nm_explored.specs.Lines.{line_in}
-use Rattle.nm_explored.specs.Moves.{IsAct, IsChoiceOf, IsDeedOf, IsNextMessage, moved_at}
+use Rattle.nm_explored.specs.Successors.{arrival_by, cancel_at, message_next}
+use Rattle.nm_explored.specs.Successors.{start_in}
+use Rattle.nm_explored.specs.Moves.{IsAct, IsChoiceOf, IsNextMessage, moved_at}
 use Rattle.nm_explored.specs.Chosen.{Goes}
 use Rattle.nm_explored.specs.Coming.{AreEnoughAt, Choice, Comes, LetsCome, Makes}
 use Rattle.nm_explored.specs.Coming.Choice.{Acting, Arriving}
 use Rattle.nm_explored.specs.Ends.{AreAtRest}
-use Rattle.nm_explored.specs.Orderly.{IsOrderly, came_of, is_claiming, is_rare_by}
-use Rattle.nm_explored.proofs.CalmLemmas.{calm_next, no_withdrawal, passes_from}
-use Rattle.nm_explored.proofs.BehindLemmas.{deed_behind}
+use Rattle.nm_explored.specs.Orderly.{IsOrderly, came_of, is_claiming}
+use Rattle.nm_explored.proofs.AfterLemmas.{act_behind, other_cancelled, receive_behind}
+use Rattle.nm_explored.proofs.CalmLemmas.{calm_next, no_withdrawal}
+use Rattle.nm_explored.proofs.BehindLemmas.{IsKept, deed_behind}
 use Rattle.nm_explored.proofs.ChosenLemmas.{acts_are_enough, arrival_later}
-use Rattle.nm_explored.proofs.OrderlyLemmas.{common_deed, new_number, not_gone, no_cancel, no_claim}
-use Rattle.nm_explored.proofs.OrderlyLemmas.{IsNewDeed, numbered, orderly_next}
-use Rattle.nm_explored.proofs.PostLemmas.{arrived, arrives_at, arrives_free, found_has, none_of_three}
-use Rattle.nm_explored.proofs.PostLemmas.{none_placed, pair_for, pairs_swap, posts_found, posts_open}
+use Rattle.nm_explored.proofs.OrderlyLemmas.{IsCommon, common_act, new_number, no_claim, not_gone}
+use Rattle.nm_explored.proofs.OrderlyLemmas.{numbered, orderly_next}
+use Rattle.nm_explored.proofs.PostLemmas.{arrived, arrives_at, arrives_free, both_left, find_still, found_has}
+use Rattle.nm_explored.proofs.PostLemmas.{none_of_three, none_placed, pair_for, pairs_swap}
 use Rattle.nm_explored.proofs.PostLemmas.{put_swap, turned}
-use Rattle.nm_explored.proofs.SenderLemmas.{selects_no_other, sent_next}
-use Rattle.nm_explored.proofs.SeenLemmas.{AreSeen, IsLater, act_kept, after_arrival, after_deed, coming_kept}
+use Rattle.nm_explored.proofs.SenderLemmas.{selects_no_other}
+use Rattle.nm_explored.proofs.StartedLemmas.{none_of_rank, of_deed, started_next}
+use Rattle.nm_explored.proofs.SeenLemmas.{AreSeen, act_kept, after_arrival, after_deed, coming_kept}
 use Rattle.nm_explored.proofs.SeenLemmas.{next_kept}
-use Rattle.nm_explored.proofs.SeenLemmas.{seen_arrival, seen_deed, set_seen, wait_kept}
+use Rattle.nm_explored.proofs.SeenLemmas.{seen_arrival, seen_deed, set_seen}
 
--- what is found is found without others
-find_still : {X : Type 0} (p q : X → Bool) (xs : List X) (x : X) → find p xs ≡ Some x → q x ≡ true →
-    find p (filter q xs) ≡ Some x
-find_still p q [] x found keeps = absurd (no_some x found)
-find_still {X} p q (y ∷ ys) x found keeps =
-    by_both (p y) (q y) refl refl found (λ found. find_still p q ys x found keeps)
-  where
-    by_both : (a b : Bool) → p y ≡ a → q y ≡ b → cond a (Some y) (find p ys) ≡ Some x →
-        (find p ys ≡ Some x → find p (filter q ys) ≡ Some x) →
-        find p (cond b (y ∷ filter q ys) (filter q ys)) ≡ Some x
-    by_both true true one two found later = ap (λ (c : Bool). cond c (Some y) (find p (filter q ys))) one ∙ found
-    by_both true false one two found later =
-        absurd (false≢true (sym two ∙ ap q (same_some y x found) ∙ keeps))
-    by_both false true one two found later =
-        ap (λ (c : Bool). cond c (Some y) (find p (filter q ys))) one ∙ later found
-    by_both false false one two found later = later found
-
--- .. and nothing, where nothing is found
+-- nothing is found without others, where nothing is found
 find_none : {X : Type 0} (p q : X → Bool) (xs : List X) → find p xs ≡ None → find p (filter q xs) ≡ None
 find_none p q [] none = refl
 find_none {X} p q (y ∷ ys) none = by_both (p y) (q y) refl none (find_none p q ys)
@@ -90,29 +72,6 @@ find_none {X} p q (y ∷ ys) none = by_both (p y) (q y) refl none (find_none p q
     by_both false true one none later =
         ap (λ (c : Bool). cond c (Some y) (find p (filter q ys))) one ∙ later none
     by_both false false one none later = later none
-
-both_left : (a b : ℕ) (rs : List Receive) → without_number a (without_number b rs) ≡ without_number b
-    (without_number a rs)
-both_left a b [] = refl
-both_left a b (r ∷ rs) = by_both (a == r.number) (b == r.number) refl refl (both_left a b rs)
-  where
-    by_both : (c d : Bool) → (a == r.number) ≡ c → (b == r.number) ≡ d →
-        without_number a (without_number b rs) ≡ without_number b (without_number a rs) →
-        without_number a (if not d then r ∷ without_number b rs else without_number b rs)
-        ≡ without_number b (if not c then r ∷ without_number a rs else without_number a rs)
-    by_both true true one two later = later
-    by_both true false one two later =
-        ap (λ (e : Bool). if not e then r ∷ without_number a (without_number b rs)
-        else without_number a (without_number b rs)) one ∙ later
-    by_both false true one two later =
-        later ∙ sym (ap (λ (e : Bool). if not e then r ∷ without_number b (without_number a rs)
-        else without_number b (without_number a rs)) two)
-    by_both false false one two later =
-        ap (λ (e : Bool). if not e then r ∷ without_number a (without_number b rs)
-        else without_number a (without_number b rs)) one
-        ∙ ap (λ (qs : List Receive). r ∷ qs) later
-        ∙ sym (ap (λ (e : Bool). if not e then r ∷ without_number b (without_number a rs)
-        else without_number b (without_number a rs)) two)
 
 -- two messages of different senders stand in the order of these
 came_swap : (a b : Arrival) (came : List Arrival) → (a.env.from == b.env.from) ≡ false →
@@ -331,88 +290,6 @@ message_kept v w seen i x y here there from same a next =
     option_and_then (arrival_by from n) (slice_get (filter (is_send_by i) other.deeds) n)) (v from)) o) (sym here)
     ∙ next)
 
-found_same : (x y : Spot) (from : Peer) (tag : TagPick) (ctx : ℕ) → y.free ≡ x.free →
-    found_at y from tag ctx ≡ found_at x from tag ctx
-unfolding found_at
-found_same x y from tag ctx same = ap (λ (ms : List Arrival). find (λ a. matches from tag ctx a.env) ms) same
-
--- what a rank may do, it may do behind a message that went to a receive
-act_behind : (eager : ℕ) (lines : List Line) (v w : ℕ → Option Spot) → AreSeen v w →
-    (i : ℕ) (x y : Spot) → IsLater x y →
-    y.free ≡ x.free → (d : Deed) → (act : IsAct eager lines v i x d) → not (is_canceller act.command) ≡ true →
-    not (is_claiming act.command) ≡ true → IsAct eager lines w i y d
-act_behind eager lines v w seen i x y later free d act none claims = record {
-  line = act.line;
-  command = act.command;
-  place = ap (λ (ds : List Deed). line_in lines i (count_by is_answer_by ds)) later.deeds ∙ act.place;
-  at = act.at;
-  deed_of = subst (λ (ds : List Deed). IsDeedOf eager lines w i (record y { deeds = ds }) act.line act.command d)
-      (sym later.deeds) (by_command act.command none claims act.deed_of);
-}
-  where
-    waits : (q : ℕ) →
-        option_map (λ (r : Reply). deed.Ran act.line r)
-        (option_map_or (result_in v i x) (live_in lines i x.deeds q) (Some reply.Null)) ≡ Some d →
-        option_map (λ (r : Reply). deed.Ran act.line r)
-        (option_map_or (result_in w i (record y { deeds = x.deeds })) (live_in lines i x.deeds q) (Some reply.Null))
-        ≡ Some d
-    waits q says =
-        let r = mapped_some (λ (r : Reply). deed.Ran act.line r)
-        (option_map_or (result_in v i x) (live_in lines i x.deeds q) (Some reply.Null)) d says in
-        ap (λ (o : Option Reply). option_map (λ (r : Reply). deed.Ran act.line r) o)
-        (wait_kept v w seen i lines x (record y { deeds = x.deeds }) (record { deeds = refl; pairs = later.pairs }) q
-        r.0 r.1)
-        ∙ ap (λ (e : Deed). Some e) r.2
-
-    by_command : (c : Command) → not (is_canceller c) ≡ true → not (is_claiming c) ≡ true →
-        IsDeedOf eager lines v i x act.line c d → IsDeedOf eager lines w i (record y { deeds = x.deeds }) act.line c d
-    by_command (command.Send to q tag ctx sync body) none claims does = does
-    by_command (command.Recv q from tag ctx cap) none claims does = does
-    by_command (command.Wait q) none claims (inl begins) = inl begins
-    by_command (command.Wait q) none claims (inr (inl says)) = inr (inl (waits q says))
-    by_command (command.Wait q) none claims (inr (inr denies)) = inr (inr denies)
-    by_command (command.Test q) none claims (inl begins) = inl begins
-    by_command (command.Test q) none claims (inr (inl says)) = inr (inl (waits q says))
-    by_command (command.Test q) none claims (inr (inr denies)) = inr (inr denies)
-    by_command (command.Probe from tag ctx) none claims (inl begins) = inl begins
-    by_command (command.Probe from tag ctx) none claims (inr (inl says)) =
-        inr (inl (ap (λ (o : Option Arrival). Some (deed.Ran act.line (option_map_or seen_at o reply.Nothing)))
-        (found_same x (record y { deeds = x.deeds }) from tag ctx free) ∙ says))
-    by_command (command.Probe from tag ctx) none claims (inr (inr denies)) = inr (inr denies)
-    by_command (command.Await from tag ctx) none claims (inl begins) = inl begins
-    by_command (command.Await from tag ctx) none claims (inr (inl says)) =
-        inr (inl (ap (λ (o : Option Arrival). option_map (λ (r : Reply). deed.Ran act.line r) (option_map seen_at o))
-        (found_same x (record y { deeds = x.deeds }) from tag ctx free) ∙ says))
-    by_command (command.Await from tag ctx) none claims (inr (inr denies)) = inr (inr denies)
-    by_command (command.Cancel q) none claims does = absurd (false≢true none)
-    by_command (command.Mprobe m from tag ctx) none claims does = absurd (false≢true claims)
-    by_command (command.Mrecv q m cap) none claims does = absurd (false≢true claims)
-
--- the oldest receive that selects a message is so behind a deed
-receive_behind : (x : Spot) → IsOrderly x → (a : Arrival) (o : Receive) → receive_of_spot x a ≡ Some o → (d : Deed) →
-    is_rare_by d ≡ false → IsNewDeed x d → receive_of_spot (spot_after x d) a ≡ Some o
-receive_behind x is a o to (deed.Send p n tag ctx len how line) common number = to
-receive_behind x is a o to (deed.Ran line r) common number = to
-receive_behind x is a o to (deed.Post r line) common number = by_message (message_of_spot x r) refl
-  where
-    started : count_by is_receive_by x.deeds ≤ r.number
-    started = omega (arith, number)
-
-    by_message : (m : Option Arrival) → message_of_spot x r ≡ m →
-        receive_of_spot (spot_after x (deed.Post r line)) a ≡ Some o
-    by_message None none =
-        ap (λ (y : Spot). receive_of_spot y a)
-        (posts_open r line x none
-        (ap (λ (b : Bool). b || list_any (is_cancel_by r.number) x.deeds) (is.paired r.number started)
-        ∙ no_cancel x is r.number))
-        ∙ find-append (λ (q : Receive). matches q.from q.tag q.ctx a.env) x.receives (r ∷ [])
-        ∙ ap (λ (p : Option Receive). or_else p (find (λ (q : Receive). matches q.from q.tag q.ctx a.env) (r ∷ []))) to
-    by_message (Some m) found = ap (λ (y : Spot). receive_of_spot y a) (posts_found r line x m found) ∙ to
-receive_behind x is a o to (deed.Match number from n cap line) common number' = absurd (false≢true (sym common))
-receive_behind x is a o to (deed.Cancel number done) common number' = absurd (false≢true (sym common))
-receive_behind x is a o to (deed.Recall to' n) common number = absurd (false≢true (sym common))
-receive_behind x is a o to (deed.Claim from n line) common number = absurd (false≢true (sym common))
-
 module _ (eager ranks : ℕ) (lines : List Line) (i from : ℕ) (s : List Spot) (at : LetsCome ranks lines i from s) where
   abbrev x : Spot
   x = at.is.spot
@@ -421,7 +298,7 @@ module _ (eager ranks : ℕ) (lines : List Line) (i from : ℕ) (s : List Spot) 
   a = at.arrival
 
   orderly : IsOrderly x
-  orderly = at.orderly i x at.is.here
+  orderly = at.orderly x at.is.here
 
   below : i < length s
   below = place_below s i x at.is.here
@@ -458,11 +335,11 @@ module _ (eager ranks : ℕ) (lines : List Line) (i from : ℕ) (s : List Spot) 
   moved_on u y go here next to back =
       inr (
         record {
-          no_cancel = at.no_cancel;
-          no_claim = at.no_claim;
-          calm = calm_next eager ranks lines at.no_cancel s u at.calm go;
-          orderly = orderly_next eager ranks lines at.no_cancel at.no_claim s u at.calm at.orderly go;
-          sent = sent_next eager ranks lines s u at.sent go;
+          no_recall = at.no_recall;
+          started = started_next eager ranks lines s u at.started go;
+          calm = calm_next eager ranks lines at.no_recall s u at.started at.calm go;
+          orderly = orderly_next eager ranks lines at.no_recall i at.is.named.no_claim s u at.started at.calm at.orderly
+              go;
           arrival = a;
           is = record {
             inside = at.is.inside;
@@ -527,29 +404,77 @@ module _ (eager ranks : ℕ) (lines : List Line) (i from : ℕ) (s : List Spot) 
       (message_kept (λ k. slice_get s k) (λ k. slice_get (slice_set s i (spot_after x d)) k)
       (set_seen s i x (spot_after x d) at.is.here (seen_deed x d)) i x (spot_after x d) at.is.here own from
       (ap (λ (y : Spot). came_of y from) (after_deed x d).3) a at.is.next)
-      (receive_behind x orderly a at.is.receive at.is.to d common.0 common.1) (
+      (receive_behind x orderly a at.is.receive at.is.to d common.0 common.1 kept) (
         record { rank = i; by = move.Act d },
         at.is.inside,
         record {
           spot = arrived_at x a;
           here = t_here;
           choice = act_behind eager lines (λ k. slice_get s k) (λ k. slice_get t k) t_seen i x (arrived_at x a)
-              (arrival_later x a) (ap (λ (y : Spot). y.free) (arrives_at a x at.is.receive at.is.to)) d act none claims;
+              (arrival_later x a) (ap (λ (y : Spot). y.free) (arrives_at a x at.is.receive at.is.to)) d act same_pairs
+              claims;
         },
         set_twice s i (spot_after x d) (arrived_at (spot_after x d) a)
-            ∙ ap (λ (y : Spot). slice_set s i y) (deed_behind x orderly a new d common.0 common.1)
+            ∙ ap (λ (y : Spot). slice_set s i y) (deed_behind x orderly a new d common.0 common.1 kept)
             ∙ sym (set_twice s i (arrived_at x a) (spot_after (arrived_at x a) d)),
       )
     where
-      none : not (is_canceller act.command) ≡ true
-      none = passes_from (λ (c : Command). not (is_canceller c)) i 2 act.line lines act.command at.no_cancel act.at
+      claims : is_claiming act.command ≡ false
+      claims = none_of_rank lines i act.line act.command is_claiming at.is.named.no_claim act.at
 
-      claims : not (is_claiming act.command) ≡ true
-      claims = passes_from (λ (c : Command). not (is_claiming c)) i 2 act.line lines act.command at.no_claim act.at
-
-      common : (is_rare_by d ≡ false) × IsNewDeed x d
+      common : IsCommon x d
       common =
-          common_deed eager lines (λ k. slice_get s k) i x act.line d act.command none claims act.deed_of
+          common_act eager lines at.no_recall (λ k. slice_get s k) i at.is.named.no_claim x (at.started i x at.is.here)
+          orderly d act
+
+      -- a cancel is of another receive
+      apart : (q number : ℕ) → act.command ≡ command.Cancel q → live_in lines i x.deeds q ≡ Some (Receiving number) →
+          (number == at.is.receive.number) ≡ false
+      apart q number is lives =
+          other_cancelled lines i x orderly (at.started i x at.is.here) at.is.receive
+          (found_has (λ (r : Receive). matches r.from r.tag r.ctx a.env) x.receives at.is.receive at.is.to)
+          at.is.named.spared act.line q (act.at ∙ ap (λ (c : Command). Some c) is) number lives
+
+      same_pairs : (q number : ℕ) → act.command ≡ command.Cancel q →
+          live_in lines i x.deeds q ≡ Some (Receiving number) →
+          list_any (is_of_receive number) (arrived_at x a).pairs ≡ list_any (is_of_receive number) x.pairs
+      same_pairs q number is lives =
+          ap (λ (y : Spot). list_any (is_of_receive number) y.pairs) (arrives_at a x at.is.receive at.is.to)
+          ∙ any-placed_new (is_of_receive at.is.receive.number) (is_of_receive number)
+          (λ p. nat_lt at.is.receive.number p.number) (pair_for at.is.receive a) x.pairs
+          ∙ ap (λ (b : Bool). list_any (is_of_receive number) x.pairs || (b || false))
+          (turned at.is.receive.number number ∙ apart q number is lives)
+          ∙ or-false (list_any (is_of_receive number) x.pairs)
+
+      kept_as : (z e : Deed) → Some e ≡ Some z → IsKept x a e → IsKept x a z
+      kept_as z e same kept = subst (λ (d : Deed). IsKept x a d) (same_some e z same) kept
+
+      kept_start : (c : Command) → act.command ≡ c → is_claiming c ≡ false → (z : Deed) →
+          start_in eager lines i x act.line c ≡ Some z → IsKept x a z
+      kept_start (command.Send to q tag ctx sync body) is claims z starts = kept_as z _ starts tt
+      kept_start (command.Recv q from tag ctx cap) is claims z starts = kept_as z _ starts tt
+      kept_start (command.Cancel q) is claims z starts =
+          let r = then_some (cancel_at x) (live_in lines i x.deeds q) z starts in by_request r.0 r.1 r.2
+        where
+          by_recall : (to n : ℕ) (b : Bool) → (if b then None else Some (deed.Recall to n)) ≡ Some z → IsKept x a z
+          by_recall to n true makes = absurd (no_some z makes)
+          by_recall to n false makes = kept_as z _ makes tt
+
+          by_request : (r : Request) → live_in lines i x.deeds q ≡ Some r → cancel_at x r ≡ Some z → IsKept x a z
+          by_request (Receiving number) lives makes =
+              kept_as z _ makes (at.is.receive, at.is.to, apart q number is lives)
+          by_request (Sending to n) lives makes = by_recall to n (list_any (is_recall_by to n) x.deeds) makes
+      kept_start (command.Mprobe m from tag ctx) is claims z starts = absurd (false≢true (sym claims))
+      kept_start (command.Mrecv q m cap) is claims z starts = absurd (false≢true (sym claims))
+      kept_start (command.Wait q) is claims z starts = absurd (no_some z starts)
+      kept_start (command.Test q) is claims z starts = absurd (no_some z starts)
+      kept_start (command.Probe from tag ctx) is claims z starts = absurd (no_some z starts)
+      kept_start (command.Await from tag ctx) is claims z starts = absurd (no_some z starts)
+
+      kept : IsKept x a d
+      kept =
+          of_deed (λ (z : Deed). IsKept x a z) eager lines (λ k. slice_get s k) i x act.line act.command d
+          (λ z starts. kept_start act.command refl claims z starts) (λ r. tt) act.deed_of
 
       own : slice_get (slice_set s i (spot_after x d)) i ≡ Some (spot_after x d)
       own = get_set_same s i (spot_after x d) below
@@ -598,10 +523,10 @@ module _ (eager ranks : ℕ) (lines : List Line) (i from : ℕ) (s : List Spot) 
       apart = ap (λ (k : ℕ). from == k) of_b ∙ other
 
       takes_not : matches at.is.receive.from at.is.receive.tag at.is.receive.ctx b.env ≡ false
-      takes_not = elim at.is.named [
+      takes_not = elim at.is.named.only [
         | inl names ↦ names_no_other at.is.receive from b names apart
         | inr none ↦
-            selects_no_other lines s at.sent i from next.from at.is.receive none (turned next.from from ∙ other) b
+            selects_no_other lines s at.started i from next.from at.is.receive none (turned next.from from ∙ other) b
             next.next
       ]
 

@@ -26,7 +26,7 @@ use Rattle.nm_explored.specs.Stores.{states_in}
 use Rattle.nm_explored.proofs.CalmLemmas.{met_calm}
 use Rattle.nm_explored.proofs.MetLemmas.{low_kept, low_set, state_at, states_kept, turn_same}
 use Rattle.nm_explored.proofs.OrderlyLemmas.{met_orderly}
-use Rattle.nm_explored.proofs.SenderLemmas.{met_sent}
+use Rattle.nm_explored.proofs.StartedLemmas.{met_started}
 use Rattle.nm_explored.proofs.StoreLemmas.{own_place, spot_kept}
 
 pub there_kept : (a b : Store) → Grows a b → (u : List Spot) → IsThere a u → IsThere b u
@@ -121,9 +121,11 @@ module _ (eager ranks : ℕ) (lines : List Line) where
           inr (
             Acting one.rank,
             record {
-              no_cancel = one.no_cancel;
-              calm = met_calm eager ranks lines one.no_cancel state (made.sound k ids here).met;
-              orderly = λ none. met_orderly eager ranks lines one.no_cancel none state (made.sound k ids here).met;
+              no_recall = one.no_recall;
+              started = met_started eager ranks lines state (made.sound k ids here).met;
+              calm = met_calm eager ranks lines one.no_recall state (made.sound k ids here).met;
+              orderly = λ none.
+                  met_orderly eager ranks lines one.no_recall one.rank none state (made.sound k ids here).met;
               inside = one.inside;
               spot = one.spot;
               here = at one.rank ∙ one.here;
@@ -142,11 +144,11 @@ module _ (eager ranks : ℕ) (lines : List Line) where
           inr (
             Arriving one.turn.rank one.is.1,
             record {
-              no_cancel = one.no_cancel;
-              no_claim = one.no_claim;
-              calm = met_calm eager ranks lines one.no_cancel state (made.sound k ids here).met;
-              orderly = met_orderly eager ranks lines one.no_cancel one.no_claim state (made.sound k ids here).met;
-              sent = met_sent eager ranks lines state (made.sound k ids here).met;
+              no_recall = one.no_recall;
+              started = met_started eager ranks lines state (made.sound k ids here).met;
+              calm = met_calm eager ranks lines one.no_recall state (made.sound k ids here).met;
+              orderly = met_orderly eager ranks lines one.no_recall one.turn.rank one.is.2.named.no_claim state
+                  (made.sound k ids here).met;
               arrival = one.is.0;
               is = named one.turn.rank one.is.1 one.is.0 one.is.2;
             },

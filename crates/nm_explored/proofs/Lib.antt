@@ -1,3 +1,4 @@
+mod AfterLemmas
 pub mod AnswerLemmas
 mod BackLemmas
 mod BehindLemmas
@@ -20,6 +21,7 @@ mod SenderLemmas
 pub mod SendLemmas
 pub mod SetLemmas
 pub mod SinceLemmas
+mod StartedLemmas
 pub mod StoreLemmas
 pub mod TellLemmas
 pub mod ToldLemmas

@@ -2,7 +2,7 @@
 use Rattle.std.proofs.Common.{◌≡◌, ℕ, zero, suc, ◌==◌, ◌&&◌, ◌||◌, not, Bool, true, false, cond, Option, Some, None, List, [], ◌∷◌}
 use Rattle.std.proofs.Common.{◌++◌, append-nil, arith, refl, sym, ◌∙◌, ap, subst}
 use Rattle.std.specs.Prelude.{if◌then◌else◌, nat_lt}
-use Rattle.std.specs.List.{find, list_any, slice_get}
+use Rattle.std.specs.List.{filter, find, list_any, slice_get}
 use Rattle.std.proofs.lemmas.Bool.{false≢true}
 use Rattle.std.proofs.lemmas.Bool.Decides.{nat_tests}
 use Rattle.std.proofs.lemmas.List.Elements.{filter-append}
@@ -178,6 +178,47 @@ pairs_swap p q pairs new_p new_q other = by_order (nat_lt p.number q.number) ref
         sym (put_swap (λ (a b : Pair). is_of_receive a.number b) (λ (a b : Pair). nat_lt a.number b.number) pairs q p
         new_q new_p other reverse lt is
         (λ z later. less_then q.number p.number z.number lt later))
+
+-- what is found is found without others
+pub find_still : {X : Type 0} (p q : X → Bool) (xs : List X) (x : X) → find p xs ≡ Some x → q x ≡ true →
+    find p (filter q xs) ≡ Some x
+find_still p q [] x found keeps = absurd (no_some x found)
+find_still {X} p q (y ∷ ys) x found keeps =
+    by_both (p y) (q y) refl refl found (λ found. find_still p q ys x found keeps)
+  where
+    by_both : (a b : Bool) → p y ≡ a → q y ≡ b → cond a (Some y) (find p ys) ≡ Some x →
+        (find p ys ≡ Some x → find p (filter q ys) ≡ Some x) →
+        find p (cond b (y ∷ filter q ys) (filter q ys)) ≡ Some x
+    by_both true true one two found later = ap (λ (c : Bool). cond c (Some y) (find p (filter q ys))) one ∙ found
+    by_both true false one two found later =
+        absurd (false≢true (sym two ∙ ap q (same_some y x found) ∙ keeps))
+    by_both false true one two found later =
+        ap (λ (c : Bool). cond c (Some y) (find p (filter q ys))) one ∙ later found
+    by_both false false one two found later = later found
+
+-- two receives that are left out
+pub both_left : (a b : ℕ) (rs : List Receive) → without_number a (without_number b rs) ≡ without_number b
+    (without_number a rs)
+both_left a b [] = refl
+both_left a b (r ∷ rs) = by_both (a == r.number) (b == r.number) refl refl (both_left a b rs)
+  where
+    by_both : (c d : Bool) → (a == r.number) ≡ c → (b == r.number) ≡ d →
+        without_number a (without_number b rs) ≡ without_number b (without_number a rs) →
+        without_number a (if not d then r ∷ without_number b rs else without_number b rs)
+        ≡ without_number b (if not c then r ∷ without_number a rs else without_number a rs)
+    by_both true true one two later = later
+    by_both true false one two later =
+        ap (λ (e : Bool). if not e then r ∷ without_number a (without_number b rs)
+        else without_number a (without_number b rs)) one ∙ later
+    by_both false true one two later =
+        later ∙ sym (ap (λ (e : Bool). if not e then r ∷ without_number b (without_number a rs)
+        else without_number b (without_number a rs)) two)
+    by_both false false one two later =
+        ap (λ (e : Bool). if not e then r ∷ without_number a (without_number b rs)
+        else without_number a (without_number b rs)) one
+        ∙ ap (λ (qs : List Receive). r ∷ qs) later
+        ∙ sym (ap (λ (e : Bool). if not e then r ∷ without_number b (without_number a rs)
+        else without_number b (without_number a rs)) two)
 
 -- what is new is not left out
 without_new : (number : ℕ) (rs : List Receive) → list_any (is_numbered number) rs ≡ false →

@@ -3,14 +3,10 @@ use Rattle.std.specs.Prelude.{◌≡◌, ◌⊎◌, ℕ, ◌<◌, ◌==◌, ◌&
 use Rattle.std.specs.List.{list_all, slice_get, slice_set}
 use Rattle.nm_types.specs.declared.messages.Arrival.{Arrival}
 use Rattle.nm_types.specs.declared.messages.Peer.TheVariants as peer
-use Rattle.nm_types.specs.declared.scripts.Body.{Body}
 use Rattle.nm_types.specs.declared.scripts.Command.{Command}
 use Rattle.nm_types.specs.declared.scripts.Command.TheVariants as command
 use Rattle.nm_types.specs.declared.scripts.Line.{Line}
-use Rattle.nm_types.specs.Commands.{command_at, commands_of}
 use Rattle.nm_history.specs.Selection.{matches_tag}
-use Rattle.nm_outcomes.specs.declared.spots.deeds.Deed.{Deed}
-use Rattle.nm_outcomes.specs.declared.spots.deeds.Deed.TheVariants as deed
 use Rattle.nm_outcomes.specs.declared.spots.deeds.Receive.{Receive}
 use Rattle.nm_outcomes.specs.RankStates.{Spot, arrived_at, receive_of_spot}
 use Rattle.nm_explored.specs.declared.choices.moves.Move.TheVariants as move
@@ -18,8 +14,9 @@ use Rattle.nm_explored.specs.declared.choices.moves.Turn.{Turn}
 use Rattle.nm_explored.specs.Successors.{message_next}
 use Rattle.nm_search.specs.Lists.{Has}
 use Rattle.nm_explored.specs.Moves.{AreMovesOf}
-use Rattle.nm_explored.specs.Chosen.{Acts, AreActsOfOne, AreCalm, HasNoCancel, LetsAct}
-use Rattle.nm_explored.specs.Orderly.{AreOrderly, HasNoClaim}
+use Rattle.nm_explored.specs.Chosen.{Acts, AreActsOfOne, LetsAct}
+use Rattle.nm_explored.specs.Orderly.{HasNoClaim, IsOrderlyAt}
+use Rattle.nm_explored.specs.Started.{AreCalm, AreStarted, HasNoRecall, IsSpared}
 
 -- a command sends a message to rank i that a receive there selects, whatever rank the receive names
 abbrev pub may_send : ℕ → Receive → Command → Bool
@@ -36,18 +33,13 @@ HasNoOtherSender lines i from r =
 abbrev pub TakesOnlyFrom : List Line → ℕ → ℕ → Receive → Type 0
 TakesOnlyFrom lines i from r = (r.from ≡ peer.One from) ⊎ HasNoOtherSender lines i from r
 
--- what a rank sent is sent by a line of its own
-abbrev pub IsSent : List Line → ℕ → Deed → Type 0
-IsSent lines i (deed.Send to n tag ctx len how line) =
-    (q : ℕ) × (sync : Bool) × (body : Body)
-    × (command_at (commands_of i lines) line ≡ Some (command.Send to q tag ctx sync body))
-IsSent lines i _ = Unit {0}
+-- .. and no command of rank i is in their way: none cancels it, none is a matched probe or a matched receive
+pub record TakesSurely (lines : List Line) (i from : ℕ) (r : Receive) : Type 0 where
+  pub only : TakesOnlyFrom lines i from r
+  pub no_claim : HasNoClaim lines i
+  pub spared : IsSpared lines i r
 
--- so it is with all that the ranks sent
-abbrev pub AreSent : List Line → List Spot → Type 0
-AreSent lines s = (i : ℕ) (x : Spot) → slice_get s i ≡ Some x → (d : Deed) → Has x.deeds d → IsSent lines i d
-
--- this is the next message from a rank, and goes to a receive that takes messages of this rank alone
+-- this is the next message from a rank, and goes to such a receive
 pub record IsNamed (ranks : ℕ) (lines : List Line) (v : ℕ → Option Spot) (i from : ℕ) (a : Arrival) : Type 0 where
   pub inside : i < ranks
   pub low : from < ranks
@@ -56,16 +48,14 @@ pub record IsNamed (ranks : ℕ) (lines : List Line) (v : ℕ → Option Spot) (
   pub next : message_next v i from ≡ Some a
   pub receive : Receive
   pub to : receive_of_spot spot a ≡ Some receive
-  pub named : TakesOnlyFrom lines i from receive
+  pub named : TakesSurely lines i from receive
 
--- In these states of all ranks it is enough that this message arrives: in a script without cancels,
--- matched probes and matched receives.
+-- In these states of all ranks it is enough that this message arrives: in a script without recalls.
 pub record LetsCome (ranks : ℕ) (lines : List Line) (i from : ℕ) (s : List Spot) : Type 0 where
-  pub no_cancel : HasNoCancel lines
-  pub no_claim : HasNoClaim lines
+  pub no_recall : HasNoRecall lines
+  pub started : AreStarted lines s
   pub calm : AreCalm s
-  pub orderly : AreOrderly s
-  pub sent : AreSent lines s
+  pub orderly : IsOrderlyAt i s
   pub arrival : Arrival
   pub is : IsNamed ranks lines (λ k. slice_get s k) i from arrival
 
@@ -91,15 +81,14 @@ abbrev pub Makes : ℕ → List Line → Choice → List Spot → List Spot → 
 Makes eager lines (Acting i) s u = Acts eager lines i s u
 Makes eager lines (Arriving i from) s u = Comes i from s u
 
--- a message that goes to a receive that takes messages of its sender alone arrives
+-- a message that goes to such a receive arrives
 abbrev pub IsNamedTurn : ℕ → List Line → (ℕ → Option Spot) → Turn → Type 0
 IsNamedTurn ranks lines v t =
     (a : Arrival) × (from : ℕ) × IsNamed ranks lines v t.rank from a × (t.by ≡ move.Arrive a)
 
 -- such an arrival is among these
 pub record HasNamed (ranks : ℕ) (lines : List Line) (v : ℕ → Option Spot) (turns : List Turn) : Type 0 where
-  pub no_cancel : HasNoCancel lines
-  pub no_claim : HasNoClaim lines
+  pub no_recall : HasNoRecall lines
   pub turn : Turn
   pub is : IsNamedTurn ranks lines v turn
   pub has : Has turns turn

@@ -6,5 +6,6 @@ pub mod Met
 pub mod Moves
 pub mod Orderly
 pub mod Settings
+pub mod Started
 pub mod Stores
 pub mod Successors

@@ -1,13 +1,13 @@
 //! Which moves are enough at a state.
 
-ghost use Rattle.std.specs.Prelude.{◌≡◌, ℕ, ◌<◌, ◌==◌, ◌||◌, ◌∷◌, [], IfOk, IfSome, IsTrue, Some, length, not};
-ghost use Rattle.std.specs.List.{list_all};
+ghost use Rattle.std.specs.Prelude.{◌≡◌, ℕ, ◌<◌, ◌==◌, ◌&&◌, ◌||◌, ◌∷◌, [], IfOk, IfSome, IsTrue, Some, length, not};
+ghost use Rattle.std.specs.List.{list_all, list_any};
 ghost use Rattle.nm_outcomes.specs.declared.spots.deeds.Deed as deed;
 ghost use Rattle.nm_outcomes.specs.declared.spots.deeds.Receive as receive;
 ghost use Rattle.nm_outcomes.specs.RankStates as spots;
 ghost use Rattle.nm_outcomes.specs.RankStates.{receive_of_spot};
-ghost use Rattle.nm_history.specs.RankRun.{is_canceller as is_cancel_lem};
 ghost use Rattle.nm_history.specs.Selection.{matches_tag as matches_tag_lem};
+ghost use Rattle.nm_match.specs.Picks.{same_peer as same_peer_lem, same_tag as same_tag_lem};
 ghost use Rattle.nm_explored.specs.declared.choices.moves.Move.TheVariants.{Act};
 ghost use Rattle.nm_explored.specs.declared.choices.moves.Turn as the_turn;
 ghost use Rattle.nm_explored.specs.Successors.{message_next, spot_in};
@@ -15,8 +15,11 @@ ghost use Rattle.nm_search.specs.Lists.{Has};
 ghost use Rattle.nm_explored.specs.Moves.{AreSendsShort, IsAct, IsTurn};
 ghost use Rattle.nm_explored.specs.Chosen.{IsSettled, IsSettledBy};
 ghost use Rattle.nm_explored.specs.Coming.{AreEnoughTurns, IsNamed, IsNamedTurn};
-ghost use Rattle.nm_explored.specs.Coming.{TakesOnlyFrom, may_send as may_send_lem};
+ghost use Rattle.nm_explored.specs.Coming.{TakesOnlyFrom, TakesSurely, may_send as may_send_lem};
 ghost use Rattle.nm_explored.specs.Orderly.{is_claiming as is_claiming_lem};
+ghost use Rattle.nm_explored.specs.Started.{HasNoRecall, any_of, may_cancel as may_cancel_lem};
+ghost use Rattle.nm_explored.specs.Started.{may_recall as may_recall_lem, posts_as as posts_as_lem};
+ghost use Rattle.nm_explored.specs.Started.{sends_as as sends_as_lem};
 
 use crate::choices::choices::{View, answer, line_at, next_message};
 use crate::choices::moves::{Move, Turn, push_deeds, turns};
@@ -27,18 +30,51 @@ use nm_outcomes::spots::ranks::Rank;
 use nm_types::{Arrival, Command, Line, Memory, Peer, TagPick};
 use std::alloc::Global;
 
-/// Whether a command is a cancel.
-fn is_cancel(command: &Command) -> bool
-    ensures { result ≡ is_cancel_lem command.now }
+/// Whether a command starts a send under this name.
+fn sends_as(q: u16, command: &Command) -> bool
+    ensures { result ≡ sends_as_lem q command.now }
 {
-    matches!(command, Command::Cancel { .. })
+    match command {
+        Command::Send { q: own, .. } => *own == q,
+        _ => false,
+    }
 }
 
-/// Whether no command of a script is a cancel.
-fn has_no_cancel(lines: &[Line]) -> bool
-    ensures { result ≡ list_all (λ line. not (is_cancel_lem line.command)) lines.now }
+/// Whether a line is a rank's, and starts such a send.
+fn is_send_as(line: &Line, i: u8, q: u16) -> bool
+    ensures { result ≡ (line.now.rank == i && sends_as_lem q line.now.command) }
 {
-    lines.iter().all(|line| !is_cancel(&line.command))
+    if line.rank == i {
+        sends_as(q, &line.command)
+    } else {
+        false
+    }
+}
+
+/// Whether a rank has such a send.
+fn has_send_as(lines: &[Line], i: u8, q: u16) -> bool
+    ensures { result ≡ any_of lines.now i (sends_as_lem q) }
+{
+    lines.iter().any(|line| is_send_as(line, i, q))
+}
+
+/// Whether a command of a rank is a cancel of a name that a send of the rank has.
+fn may_recall(lines: &[Line], i: u8, command: &Command) -> bool
+    ensures { result ≡ may_recall_lem lines.now i command.now }
+{
+    match command {
+        Command::Cancel { q } => has_send_as(lines, i, *q),
+        _ => false,
+    }
+}
+
+/// Whether a command of a script is one.
+fn has_recall(lines: &[Line]) -> bool
+    ensures { result ≡ list_any (λ line. may_recall_lem lines.now line.rank line.command) lines.now }
+{
+    lines
+        .iter()
+        .any(|line| may_recall(lines, line.rank, &line.command))
 }
 
 /// Whether a command is a matched probe or a matched receive.
@@ -48,11 +84,22 @@ fn is_claiming(command: &Command) -> bool
     matches!(command, Command::Mprobe { .. } | Command::Mrecv { .. })
 }
 
-/// Whether no command of a script is one of these.
-fn has_no_claim(lines: &[Line]) -> bool
-    ensures { result ≡ list_all (λ line. not (is_claiming_lem line.command)) lines.now }
+/// Whether a line is a rank's, and its command is one of these.
+fn is_claim_of(line: &Line, i: u8) -> bool
+    ensures { result ≡ (line.now.rank == i && is_claiming_lem line.now.command) }
 {
-    lines.iter().all(|line| !is_claiming(&line.command))
+    if line.rank == i {
+        is_claiming(&line.command)
+    } else {
+        false
+    }
+}
+
+/// Whether a command of a rank is one of these.
+fn has_claim(lines: &[Line], i: u8) -> bool
+    ensures { result ≡ any_of lines.now i is_claiming_lem }
+{
+    lines.iter().any(|line| is_claim_of(line, i))
 }
 
 /// Whether no move of others changes what a command does or answers.
@@ -62,7 +109,7 @@ fn is_settled_by(view: View, i: u8, rank: &Rank, line: u64, command: &Command) -
 {
     match command {
         Command::Send { .. } => true,
-        Command::Recv { .. } => has_no_claim(view.lines),
+        Command::Recv { .. } => !has_claim(view.lines, i),
         Command::Wait { .. } => answer(view, i, rank, line, command).is_some(),
         _ => false,
     }
@@ -184,12 +231,114 @@ fn takes_only(lines: &[Line], i: u8, from: u8, r: Receive) -> bool
     has_no_other_sender(lines, i, from, r)
 }
 
-/// The receive that takes a message, if it takes messages of this rank alone.
+/// Whether two receives name the same source.
+fn is_same_peer(a: Peer, b: Peer) -> bool
+    ensures { result ≡ same_peer_lem a b }
+{
+    match a {
+        Peer::Any => matches!(b, Peer::Any),
+        Peer::One(one) => match b {
+            Peer::One(other) => one == other,
+            _ => false,
+        },
+    }
+}
+
+/// Whether they name the same tag.
+fn is_same_tag(a: TagPick, b: TagPick) -> bool
+    ensures { result ≡ same_tag_lem a b }
+{
+    match a {
+        TagPick::Any => matches!(b, TagPick::Any),
+        TagPick::One(one) => match b {
+            TagPick::One(other) => one == other,
+            _ => false,
+        },
+    }
+}
+
+/// Whether a command posts a receive under this name, which selects as this one does.
+fn posts_as(q: u16, r: Receive, command: &Command) -> bool
+    ensures { result ≡ posts_as_lem q r command.now }
+{
+    match command {
+        Command::Recv {
+            q: own,
+            from,
+            tag,
+            ctx,
+            ..
+        } => *own == q
+            && (r.ctx == *ctx && (is_same_peer(r.from, *from) && is_same_tag(r.tag, *tag))),
+        _ => false,
+    }
+}
+
+/// Whether a line is a rank's, and posts such a receive.
+fn is_post_as(line: &Line, i: u8, q: u16, r: Receive) -> bool
+    ensures { result ≡ (line.now.rank == i && posts_as_lem q r line.now.command) }
+{
+    if line.rank == i {
+        posts_as(q, r, &line.command)
+    } else {
+        false
+    }
+}
+
+/// Whether a rank posts such a receive.
+fn has_post_as(lines: &[Line], i: u8, q: u16, r: Receive) -> bool
+    ensures { result ≡ any_of lines.now i (posts_as_lem q r) }
+{
+    lines.iter().any(|line| is_post_as(line, i, q, r))
+}
+
+/// Whether a command of a rank is a cancel of a name under which it posts one.
+fn may_cancel(lines: &[Line], i: u8, r: Receive, command: &Command) -> bool
+    ensures { result ≡ may_cancel_lem lines.now i r command.now }
+{
+    match command {
+        Command::Cancel { q } => has_post_as(lines, i, *q, r),
+        _ => false,
+    }
+}
+
+/// Whether a line is a rank's, and its command is such a cancel.
+fn is_cancel_of(lines: &[Line], line: &Line, i: u8, r: Receive) -> bool
+    ensures { result ≡ (line.now.rank == i && may_cancel_lem lines.now i r line.now.command) }
+{
+    if line.rank == i {
+        may_cancel(lines, i, r, &line.command)
+    } else {
+        false
+    }
+}
+
+/// Whether a rank has such a cancel.
+fn has_cancel_of(lines: &[Line], i: u8, r: Receive) -> bool
+    ensures { result ≡ any_of lines.now i (may_cancel_lem lines.now i r) }
+{
+    lines.iter().any(|line| is_cancel_of(lines, line, i, r))
+}
+
+/// Whether a receive of a rank takes messages of another rank alone, and no command of its rank is in their way.
+fn takes_surely(lines: &[Line], i: u8, from: u8, r: Receive) -> bool
+    ensures { IsTrue result → TakesSurely lines.now i from r }
+{
+    if !takes_only(lines, i, from, r) {
+        return false;
+    }
+    if has_claim(lines, i) {
+        return false;
+    }
+    !has_cancel_of(lines, i, r)
+}
+
+/// The receive that takes a message, if it is such a one.
 fn only_receive(lines: &[Line], i: u8, rank: &Rank, a: &Arrival, from: u8) -> Option<Receive>
-    ensures { IfSome result (λ r. (receive_of_spot rank.now a.now ≡ Some r) × TakesOnlyFrom lines.now i from r) }
+    ensures { IfSome result (λ r. (receive_of_spot rank.now a.now ≡ Some r) × TakesSurely lines.now i from r) }
 {
     match rank.receive_for(a) {
-        Some(r) => if takes_only(lines, i, from, r) {
+        Some(r) => if takes_surely(lines, i, from, r) {
             Some(r)
         } else {
             None
@@ -202,7 +351,7 @@ fn only_receive(lines: &[Line], i: u8, rank: &Rank, a: &Arrival, from: u8) -> Op
 fn named_next(view: View, i: u8, rank: &Rank, from: u8) -> Option<Arrival>
     ensures { IfSome result (λ a. (message_next (spot_in view.entry.table.now view.entry.ids.now) i from ≡ Some a)
         × (r : receive.Receive) × (receive_of_spot rank.now a ≡ Some r)
-        × TakesOnlyFrom view.entry.lines.now i from r) }
+        × TakesSurely view.entry.lines.now i from r) }
 {
     match next_message(view, i, from) {
         Some(a) => match only_receive(view.lines, i, rank, &a, from) {
@@ -213,7 +362,7 @@ fn named_next(view: View, i: u8, rank: &Rank, from: u8) -> Option<Arrival>
     }
 }
 
-/// The next message from a rank, if it goes to a receive that takes messages of this rank alone.
+/// The next message from a rank to a rank, if it goes to such a receive.
 fn named_arrival(view: View, i: u8, from: u8, ranks: u8) -> Option<Arrival>
     ensures { i < ranks → from < ranks → IfSome result
         (λ a. IsNamed ranks view.entry.lines.now (spot_in view.entry.table.now view.entry.ids.now) i from a) }
@@ -264,8 +413,7 @@ fn only(alloc: Global, turn: Turn) -> Result<Vec<Turn>, Memory>
 
 /// The arrival of a message that goes to a receive which can take no other rank's, or all moves.
 fn arrivals(alloc: Global, view: View, ranks: u8) -> Result<Vec<Turn>, Memory>
-    ensures enough { IsTrue (list_all (λ line. not (is_cancel_lem line.command)) view.entry.lines.now) →
-        length view.entry.lines.now < 4294967293 →
+    ensures enough { HasNoRecall view.entry.lines.now → length view.entry.lines.now < 4294967293 →
         IfOk result (λ turns. AreEnoughTurns view.entry.eager ranks view.entry.lines.now
         (spot_in view.entry.table.now view.entry.ids.now) turns.items) }
     ensures only { length view.entry.lines.now < 4294967293 → AreSendsShort view.entry.lines.now →
@@ -273,9 +421,6 @@ fn arrivals(alloc: Global, view: View, ranks: u8) -> Result<Vec<Turn>, Memory>
         IsTurn view.entry.eager ranks view.entry.lines.now
         (spot_in view.entry.table.now view.entry.ids.now) t) }
 {
-    if !has_no_claim(view.lines) {
-        return turns(alloc, view, ranks);
-    }
     match coming(view, ranks) {
         Some(turn) => only(alloc, turn),
         None => turns(alloc, view, ranks),
@@ -293,7 +438,7 @@ pub fn enough(alloc: Global, view: View, ranks: u8) -> Result<Vec<Turn>, Memory>
         IsTurn view.entry.eager ranks view.entry.lines.now
         (spot_in view.entry.table.now view.entry.ids.now) t) }
 {
-    if !has_no_cancel(view.lines) {
+    if has_recall(view.lines) {
         return turns(alloc, view, ranks);
     }
     match leader(view, ranks) {

@@ -12,10 +12,11 @@
 //! - The report of each lawful run of a script is that of one of the ends that `explore` finds, unless it
 //!   answers that there are too many states: then moves lead from the first state to more different states
 //!   than the limit.
-//! - At each state all moves are made, or those that are enough. Without cancels these are the moves of one
-//!   rank whose next command is a send, a receive (without matched probes and receives) or a wait that may
-//!   end; without all of these, also the arrival of a message for a receive that names its sender, or that no
-//!   other rank has a send for. The other moves can be postponed, and lead to the same state.
+//! - At each state all moves are made, or those that are enough. Where no cancel names a send, these are the
+//!   moves of one rank whose next command is a send, a receive (of a rank without matched probes and
+//!   receives) or a wait that may end; or the arrival of a message for a receive that names its sender, or
+//!   that no other rank has a send for, if no cancel of its rank names it, and the rank has no matched probe
+//!   and receive. The other moves can be postponed, and lead to the same state.
 //! - Each end is at a state that moves lead to, at which no rank has a move left (`TellsOnly`);
 //!   `nm_listed::lawful` says that it is a run's. The moves that go with an end lead there (`AreEndsByWay`).
 #![tactic(auto)]
