@@ -23,6 +23,17 @@ get_behind [] rest x (suc k) is = absurd (omega (arith, is))
 get_behind (y ∷ xs) rest x zero is = absurd (omega (arith, is))
 get_behind (y ∷ xs) rest x (suc k) is = get_behind xs rest x k (omega (arith, is))
 
+-- one place of two lists
+pub zip_at : {A B : Type 0} (R : A → B → Type 0) (xs : List A) (ys : List B) (k : ℕ) (y : B) → AllZip R xs ys →
+    slice_get ys k ≡ Some y → (x : A) × (slice_get xs k ≡ Some x) × R x y
+zip_at R [] [] k y all here = cc
+zip_at R [] (z ∷ ys) k y all here = absurd all
+zip_at R (x ∷ xs) [] k y all here = absurd all
+zip_at {A} {B} R (x ∷ xs) (z ∷ ys) zero y all here =
+    let same : z ≡ y = cc in
+    (x, refl, subst (λ (w : B). R x w) same all.0)
+zip_at R (x ∷ xs) (z ∷ ys) (suc k) y all here = zip_at R xs ys k y all.1 here
+
 module _ {A B : Type 0} (R : A → B → Type 0) (xs : List A) where
   pub none_yet : (rest : List A) (ys : List B) → rest ≡ xs → ys ≡ [] → SoFar R xs rest ys
   none_yet rest ys all none =

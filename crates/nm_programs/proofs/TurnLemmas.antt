@@ -21,6 +21,7 @@ use Rattle.nm_programs.specs.declared.stops.Stop.{Stop}
 use Rattle.nm_programs.specs.declared.stops.Stop.TheVariants.{Memory, Range}
 use Rattle.nm_programs.specs.HasRun.{AreProgramsOf, IsProgramOf, IsStopped, commands_in}
 use Rattle.nm_programs.specs.Turns.{BeginsWith, IsLeft, IsStray}
+use Rattle.nm_programs.proofs.SoFar.{zip_at}
 
 -- the commands of one rank are in range
 row_in_range : (ranks : ℕ) (given : List (List Command)) → AllByRecursion (AllInRange ranks) given → (i : ℕ) →
@@ -34,17 +35,6 @@ pub all_in_range : (ranks : ℕ) (given : List (List Command)) → AllByRecursio
     AreInRange ranks (commands_in given)
 all_in_range ranks given all i =
     numbered_in_range 2 ranks (unwrap_or (slice_get given i) []) (row_in_range ranks given all i)
-
--- one place of two lists
-pub zip_at : {A B : Type 0} (R : A → B → Type 0) (xs : List A) (ys : List B) (k : ℕ) (y : B) → AllZip R xs ys →
-    slice_get ys k ≡ Some y → (x : A) × (slice_get xs k ≡ Some x) × R x y
-zip_at R [] [] k y all here = cc
-zip_at R [] (z ∷ ys) k y all here = absurd all
-zip_at R (x ∷ xs) [] k y all here = absurd all
-zip_at {A} {B} R (x ∷ xs) (z ∷ ys) zero y all here =
-    let same : z ≡ y = cc in
-    (x, refl, subst (λ (w : B). R x w) same all.0)
-zip_at R (x ∷ xs) (z ∷ ys) (suc k) y all here = zip_at R xs ys k y all.1 here
 
 module _ {P : Type 0} where
   -- a source that was refused no memory shows what it was told

@@ -14,7 +14,7 @@
 //! - With these commands the record tells a run by MPI's rules that is at rest, and what went from rank to rank
 //!   is what its histories call for (the same clause). All cells are home (`home`), and `done` tells whether all
 //!   programs are at their ends (`done`).
-//! - So it is where the histories exist in proofs alone, and memory keeps the last event of each rank
+//! - So it is with any recorder (`run_kept`: `run`), and where memory keeps the last event of each rank alone
 //!   (`run_unrecorded`: `run`).
 //! - A command that is out of range never runs: the run has no outcome, and the error tells the rank and the
 //!   command (`stopped`).
@@ -29,5 +29,5 @@ mod running;
 mod stops;
 
 pub use nm_process::Program;
-pub use running::{Finished, Outcome, Unrecorded, run_programs, run_unrecorded};
+pub use running::{Finished, Kept, Outcome, Unrecorded, run_kept, run_programs, run_unrecorded};
 pub use stops::Stop;

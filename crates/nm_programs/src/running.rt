@@ -3,19 +3,20 @@
 ghost use Rattle.std.specs.Prelude.{◌≡◌, ◌*◌, ◌<◌, ◌≤◌, [], ◌∷◌, ◌++◌, ℕ, IfErr, IfOk, List, length};
 ghost use Rattle.std.specs.List.{All, AllZip};
 ghost use Rattle.nm_process.specs.Playing.{gives_on, shown_by};
-ghost use Rattle.nm_programs.specs.HasRun.{HasRun, HasRunUnrecorded, IsStopped};
+ghost use Rattle.nm_programs.specs.HasRun.{HasRun, HasRunTo, HasRunUnrecorded, IsStopped};
 ghost use Rattle.nm_programs.specs.Turns.{BeginsWith, IsLeft, IsStray};
 ghost use Rattle.nm_report.specs.Cells.{AllCellsFree};
-ghost use Rattle.nm_report.specs.Ends.{are_done, ends_of};
+ghost use Rattle.nm_report.specs.Ends.{are_done, ends_of, packets_of};
 ghost use Rattle.nm_world.specs.Players.{BeginsAt};
+ghost use Rattle.nm_world.specs.Records.{ends_by};
 
 use crate::stops::Stop;
 use nm_outside::Gate;
 use nm_process::{Given, Played, Program};
-use nm_rank::journal::Erased;
-use nm_report::RunRecord;
+use nm_rank::journal::{Erased, Recorder};
+use nm_report::{Pairs, RunRecord};
 use nm_types::{Account, Command, Memory, Shape};
-use nm_world::{Left, Rested, Ways, run_sources, run_to_rest};
+use nm_world::{Left, RankEnd, Rested, Ways, run_sources, run_to_rest};
 use std::alloc::Global;
 use std::sync::Wait;
 use std::thread::Threads;
@@ -36,6 +37,23 @@ pub struct Outcome<P> {
     pub ranks: Vec<Finished<P>>,
     /// What happened at each rank. Its k-th command, from 0, has line k + 2.
     pub record: RunRecord,
+    /// What the closed ways between ranks keep.
+    pub ways: Ways,
+}
+
+/// What became of a run of programs whose histories a recorder keeps.
+#[derive(Drop)]
+pub struct Kept<P, H> {
+    /// What became of each program, by rank.
+    pub ranks: Vec<Finished<P>>,
+    /// What the recorders keep of each rank, by rank. Its k-th command, from 0, has line k + 2.
+    pub ends: Vec<RankEnd<H>>,
+    /// The packets of each ordered pair that had any.
+    pub pairs: Pairs,
+    /// The account of the cells.
+    pub cells: Account,
+    /// Whether every program is at its end.
+    pub done: bool,
     /// What the closed ways between ranks keep.
     pub ways: Ways,
 }
@@ -138,6 +156,44 @@ pub fn run_programs<R: Threads + Wait + Sync, P: Program + Send, G: Gate + Sync>
     })
 }
 
+/// The same with any recorder: with that of `nm_recent` memory keeps the last events of each rank, and the histories of
+/// which the run is one exist in proofs alone.
+pub fn run_kept<R: Threads + Wait + Sync, P: Program + Send, H: Recorder + Send, G: Gate + Sync>(
+    rt: &R,
+    alloc: Global,
+    shape: Shape,
+    programs: Vec<P>,
+    gate: &G,
+) -> Result<Kept<P, H>, Stop>
+    requires many { length programs.items ≡ shape.ranks }
+    ensures run { IfOk result (λ x. HasRunTo P.says shape programs.items x.ranks.items (ends_by H.events x.ends.items)
+        (packets_of x.pairs) x.cells x.ways.cells x.ways.rings) }
+    ensures all { IfOk result (λ x. x.cells.total ≡ shape.ranks * shape.cells) }
+    ensures home { IfOk result (λ x. x.cells.home ≡ x.cells.total) }
+    ensures done { IfOk result (λ x. x.done ≡ are_done (ends_by H.events x.ends.items)) }
+    ensures stopped { IfErr result (IsStopped P.says shape.ranks programs.items) }
+{
+    let begun = begin(alloc, shape.ranks(), programs)?;
+    let left = run_to_rest::<R, Given<P>, H, G>(rt, alloc, shape, begun, gate)?;
+    let Rested {
+        sources,
+        ranks: ends,
+        pairs,
+        cells,
+        done,
+        ways,
+    } = left;
+    let ranks = finish(alloc, sources)?;
+    Ok(Kept {
+        ranks,
+        ends,
+        pairs,
+        cells,
+        done,
+        ways,
+    })
+}
+
 /// The same of programs that run long: their histories exist in proofs alone, and memory keeps the last event of
 /// each rank.
 pub fn run_unrecorded<R: Threads + Wait + Sync, P: Program + Send, G: Gate + Sync>(
@@ -154,17 +210,15 @@ pub fn run_unrecorded<R: Threads + Wait + Sync, P: Program + Send, G: Gate + Syn
     ensures home { IfOk result (λ x. x.cells.home ≡ x.cells.total) }
     ensures stopped { IfErr result (IsStopped P.says shape.ranks programs.items) }
 {
-    let begun = begin(alloc, shape.ranks(), programs)?;
-    let left = run_to_rest::<R, Given<P>, Erased, G>(rt, alloc, shape, begun, gate)?;
-    let Rested {
-        sources,
-        ranks: _,
+    let kept = run_kept::<R, P, Erased, G>(rt, alloc, shape, programs, gate)?;
+    let Kept {
+        ranks,
+        ends: _,
         pairs: _,
         cells,
         done,
         ways,
-    } = left;
-    let ranks = finish(alloc, sources)?;
+    } = kept;
     Ok(Unrecorded {
         ranks,
         done,

@@ -1,15 +1,13 @@
 -- From the sources at rest to a run of programs.
-use Rattle.std.proofs.Common.{◌≡◌, ℕ, map, sym, subst, ◌∙◌, arith}
-use Rattle.std.specs.Prelude.{Ok, Err, Result}
-use Rattle.std.specs.Result.{IfErr, IsErrAnd}
+use Rattle.std.proofs.Common.{ℕ, map, subst, ◌∙◌, arith}
 use Rattle.std.specs.List.{All, AllZip}
 use Rattle.std.proofs.lemmas.Slice.Zip.{AllZip-long}
 use Rattle.nm_process.specs.Playing.{GivenView, gives_on, shown_by}
 use Rattle.nm_report.specs.Ends.{ends_of}
 use Rattle.nm_world.specs.Players.{BeginsAt, GoesOn}
-use Rattle.nm_programs.specs.declared.stops.Stop.{Stop}
 use Rattle.nm_programs.specs.HasRun.{IsStopped, commands_in}
 use Rattle.nm_programs.specs.Turns.{BeginsWith}
+use Rattle.nm_programs.proofs.StopLemmas.{passed_on}
 use Rattle.nm_programs.proofs.TurnLemmas.{all_begin, all_given, all_in_range, given_at, given_in_range, programs_of, stopped_by}
 use Rattle.nm_programs.proofs.running.run_programs.Goals as goal
 
@@ -54,12 +52,6 @@ returns-clause-run g c =
       whole = c.in_ok-left.ensures.run (commands_in given) (all_in_range c.args.shape.ranks given in_range)
           (all_given (commands_in given) 0 left.sources.items (given_at left.sources.items));
     }
-
--- what holds of an error holds where it is passed on
-passed_on : {A : Type 0} (r : Result A Stop) (why : Stop) (Q : Stop → Type 0) → IsErrAnd r (λ w. w ≡ why) → Q why →
-    IfErr r Q
-passed_on (Ok a) why Q is holds = tt
-passed_on (Err w) why Q is holds = subst (λ (v : Stop). Q v) (sym is) holds
 
 pub returns-in_err-finished-clause-stopped : goal.returns-in_err-finished-clause-stopped
 returns-in_err-finished-clause-stopped g c =
