@@ -1,0 +1,8 @@
+-- The pending events are of the history.
+use Rattle.std.proofs.Common.{subst}
+use Rattle.nm_recent.specs.Recents.{AreOf, RecentView}
+use Rattle.nm_recent.proofs.recents.Recent.into_parts.Goals as goal
+
+pub returns-clause-pending : goal.returns-clause-pending
+returns-clause-pending c =
+    subst (λ (v : RecentView). AreOf v.events c.self.inside.pending.items) c.self.view_is c.self.invariant.1
