@@ -1,9 +1,9 @@
 -- Answers are the same by other numbers of lines, where different lines stay different.
-use Rattle.std.proofs.Common.{◌≡◌, ℕ, ◌==◌, Bool, true, false, cond, ◌&&◌, Option, Some, None, List, [], ◌∷◌, ◌++◌}
-use Rattle.std.proofs.Common.{map, refl, sym, ◌∙◌, ap}
+use Rattle.std.proofs.Common.{◌≡◌, ℕ, ◌==◌, Bool, true, false, cond, ◌&&◌, Option, Some, None, List, [], ◌∷◌}
+use Rattle.std.proofs.Common.{map, refl, ◌∙◌, ap}
 use Rattle.std.specs.Prelude.{if◌then◌else◌, is_some, option_and_then, option_map, unwrap_or}
 use Rattle.std.specs.Option.{option_map_or}
-use Rattle.std.specs.List.{filter_map, find, fold, list_any, slice_get}
+use Rattle.std.specs.List.{find, fold, slice_get}
 use Rattle.nm_types.specs.declared.answers.Answer.{Answer}
 use Rattle.nm_types.specs.declared.answers.Answer.TheVariants as answer
 use Rattle.nm_types.specs.declared.messages.Arrival.{Arrival}
@@ -13,16 +13,15 @@ use Rattle.nm_types.specs.Commands.{Numbered, command_at}
 use Rattle.nm_history.specs.declared.events.Event.{Event}
 use Rattle.nm_history.specs.declared.events.Happened.{Happened}
 use Rattle.nm_history.specs.declared.events.Happened.TheVariants.{Send, Post, Claim, Match, Ran}
-use Rattle.nm_history.specs.declared.plain.Pair.{Pair}
 use Rattle.nm_history.specs.Answers.{Message, answer_of, arrival_claimed, can_go_on, cancel_answer, claim_at}
 use Rattle.nm_history.specs.Answers.{claim_line_after, is_claim_for, is_question_of, is_receive_of, is_result, is_seen}
 use Rattle.nm_history.specs.Answers.{is_start_of, is_started, line_after, line_of_handle, line_of_name, live}
 use Rattle.nm_history.specs.Answers.{live_message, message_claimed, request_at, request_of, seen}
 use Rattle.nm_history.specs.Completion.{Request, is_complete, result_of}
 use Rattle.nm_history.specs.Completion.Request.{Sending, Receiving}
-use Rattle.nm_history.specs.Matching.{first_message, is_of_receive, matched_pairs}
+use Rattle.nm_history.specs.Matching.{first_message, matched_pairs}
 use Rattle.nm_history.specs.Sends.{message_of}
-use Rattle.nm_transcript.specs.Renumbered.{KeepsApart, renumbered, renumbered_all, renumbered_command, renumbered_event}
+use Rattle.nm_transcript.specs.Renumbered.{KeepsApart, renumbered, renumbered_all, renumbered_command}
 use Rattle.nm_transcript.proofs.SameLemmas.{complete_same, first_message_is, in_all, message_same, received_same}
 use Rattle.nm_transcript.proofs.SameLemmas.{result_same}
 

@@ -1,4 +1,5 @@
 mod AnswerLemmas
+mod CallLemmas
 mod LawfulLemmas
 mod LineLemmas
 pub mod MappedLemmas
@@ -6,6 +7,7 @@ mod NumberLemmas
 mod OrderLemmas
 mod OwnLemmas
 mod PairLemmas
+mod PlaceLemmas
 mod RankLemmas
 mod RunLemmas
 mod SameLemmas

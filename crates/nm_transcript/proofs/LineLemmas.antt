@@ -1,33 +1,23 @@
 -- The numbers that a script gives to the lines of a rank's commands.
 use Rattle.std.proofs.Common.{◌≡◌, ℕ, zero, suc, ◌+◌, ◌-◌, ◌<◌, ◌≤◌, ◌==◌, ◌⊎◌, inl, inr, Bool, true, false, cond}
-use Rattle.std.proofs.Common.{Option, Some, None, List, [], ◌∷◌, ◌++◌, length, map, get_or, take, refl, sym, ◌∙◌, ap, subst}
-use Rattle.std.proofs.Common.{arith, append-nil, append_assoc}
-use Rattle.std.specs.Prelude.{if◌then◌else◌, IfSome, MatchOption, option_map}
-use Rattle.std.specs.Option.{option_map_or}
-use Rattle.std.specs.List.{AllByRecursion, cons_option, filter, filter_map, slice_get}
+use Rattle.std.proofs.Common.{Option, Some, None, List, [], ◌∷◌, length, map, get_or, refl, sym, ◌∙◌, ap, subst}
+use Rattle.std.proofs.Common.{arith}
+use Rattle.std.specs.Prelude.{IfSome, option_map}
+use Rattle.std.specs.List.{slice_get}
 use Rattle.std.proofs.lemmas.Bool.{cases_order}
 use Rattle.std.proofs.lemmas.Bool.Decides.{nat_tests}
-use Rattle.std.proofs.lemmas.List.Sums.{fold_push}
 use Rattle.nm_types.specs.declared.scripts.Command.{Command}
-use Rattle.nm_types.specs.declared.scripts.Command.TheVariants as command
 use Rattle.nm_types.specs.declared.scripts.Line.{Line}
-use Rattle.nm_types.specs.Commands.{Numbered, command_at, commands_from, commands_of}
-use Rattle.nm_types.specs.Sizes.{Sizes}
+use Rattle.nm_types.specs.Commands.{Numbered, commands_from, commands_of}
 use Rattle.nm_history.specs.declared.events.Event.{Event}
 use Rattle.nm_history.specs.declared.events.Happened.{Happened}
 use Rattle.nm_history.specs.declared.events.Happened.TheVariants.{Send, Post, Claim, Match, Ran}
-use Rattle.nm_history.specs.Answers.{Message, is_seen, is_started, live_message}
-use Rattle.nm_history.specs.AtEach.{AtEach, AtEachAfter}
 use Rattle.nm_history.specs.Happens.{at}
 use Rattle.nm_history.specs.Quiescence.{Ended}
-use Rattle.nm_history.specs.RankRun.{ClaimAt, IsRankRun, StartAt, claims_since, is_matched_probe, is_start, line_of_claim}
-use Rattle.nm_history.specs.RankRun.{ran_lines, since_after, since_command, start_of, starts_since, without_number}
-use Rattle.nm_history.specs.Run.{IsRunBy}
 use Rattle.nm_process.specs.Playing.{all_numbered, numbered_at}
-use Rattle.nm_transcript.specs.Orders.{AreAll, calls_of}
 use Rattle.nm_transcript.specs.Renumbered.{AreOf, IsOneOf, KeepsApart, line_of, number_in, renumbered, renumbered_all}
 use Rattle.nm_transcript.specs.Renumbered.{renumbered_command, renumbered_end, renumbered_ends, renumbered_event}
-use Rattle.nm_transcript.specs.Transcripts.{AreEndsOf, IsEndOf, numbers_of}
+use Rattle.nm_transcript.specs.Transcripts.{IsEndOf, numbers_of}
 
 -- the number of the k-th command, and numbers beyond all of them where there are fewer commands
 abbrev pub placed : List ℕ → ℕ → ℕ → ℕ

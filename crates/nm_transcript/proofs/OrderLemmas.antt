@@ -1,17 +1,16 @@
 -- The commands of all ranks, one after another.
 use Rattle.std.proofs.Common.{◌≡◌, ℕ, zero, suc, ◌+◌, ◌<◌, ◌≤◌, ◌==◌, ◌⊎◌, inl, inr, Bool, true, false, cond, Option, Some}
-use Rattle.std.proofs.Common.{None, List, [], ◌∷◌, ◌++◌, length, map, get_or, refl, sym, ◌∙◌, ap, subst, arith}
+use Rattle.std.proofs.Common.{List, [], ◌∷◌, ◌++◌, length, map, get_or, refl, sym, ◌∙◌, ap, subst, arith}
 use Rattle.std.proofs.Common.{append_assoc, append-nil}
-use Rattle.std.specs.Prelude.{IfSome, IsTrue, set, unwrap_or}
+use Rattle.std.specs.Prelude.{IsTrue, set, unwrap_or}
 use Rattle.std.specs.List.{slice_get}
 use Rattle.std.proofs.lemmas.Bool.{cases_eq, cases_lt, false≢true}
-use Rattle.std.proofs.lemmas.Bool.Decides.{nat_tests}
 use Rattle.std.proofs.lemmas.List.{length-set, length_push}
 use Rattle.std.proofs.lemmas.Option.{slice_get_read}
 use Rattle.nm_types.specs.declared.limits.TheConstants.{MAX_LINES}
 use Rattle.nm_types.specs.declared.scripts.Command.{Command}
 use Rattle.nm_types.specs.declared.scripts.Line.{Line}
-use Rattle.nm_types.specs.Commands.{Numbered, commands_from, commands_of, rank_line}
+use Rattle.nm_types.specs.Commands.{Numbered, commands_from, rank_line}
 use Rattle.nm_types.specs.Limits.{IsScript}
 use Rattle.nm_types.proofs.NumberLemmas.{eq_true, unequal}
 use Rattle.nm_transcript.specs.Orders.{AreAll, AreFirst, HasNext, IsGiven, IsTooLong, calls_in, calls_of}

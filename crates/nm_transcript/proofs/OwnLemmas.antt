@@ -1,9 +1,9 @@
 -- The lines in a rank's history are those of its own commands.
-use Rattle.std.proofs.Common.{◌≡◌, ℕ, zero, suc, ◌+◌, ◌<◌, ◌≤◌, Bool, true, false, cond, ◌&&◌, Option, Some, None, List}
+use Rattle.std.proofs.Common.{◌≡◌, ℕ, zero, suc, ◌+◌, ◌<◌, ◌≤◌, Bool, true, false, ◌&&◌, Option, Some, None, List}
 use Rattle.std.proofs.Common.{[], ◌∷◌, ◌++◌, length, map, take, refl, sym, ◌∙◌, ap, subst, arith, append-nil, append_assoc}
 use Rattle.std.specs.Prelude.{if◌then◌else◌, IfSome, MatchOption}
 use Rattle.std.specs.Option.{option_map_or}
-use Rattle.std.specs.List.{AllByRecursion, cons_option, filter, filter_map, slice_get}
+use Rattle.std.specs.List.{AllByRecursion, filter, filter_map, slice_get}
 use Rattle.std.proofs.lemmas.List.Sums.{fold_push}
 use Rattle.nm_types.specs.declared.answers.Answer.{Answer}
 use Rattle.nm_types.specs.declared.scripts.Command.{Command}
@@ -12,8 +12,8 @@ use Rattle.nm_types.specs.Commands.{Numbered, command_at}
 use Rattle.nm_types.specs.Sizes.{Sizes}
 use Rattle.nm_history.specs.declared.events.Event.{Event}
 use Rattle.nm_history.specs.declared.events.Happened.{Happened}
-use Rattle.nm_history.specs.declared.events.Happened.TheVariants.{Send, Post, Arrive, Whole, Out, Cancel, Recall}
-use Rattle.nm_history.specs.declared.events.Happened.TheVariants.{Withdraw, Undone, Claim, Match, Ran}
+use Rattle.nm_history.specs.declared.events.Happened.TheVariants.{Send, Post}
+use Rattle.nm_history.specs.declared.events.Happened.TheVariants.{Claim, Match, Ran}
 use Rattle.nm_history.specs.Answers.{Message, can_go_on, is_seen, is_started, live_message}
 use Rattle.nm_history.specs.AtEach.{AtEach, AtEachAfter}
 use Rattle.nm_history.specs.Quiescence.{Ended, IsStopped, Packets}

@@ -1,12 +1,11 @@
 -- A rank's run is one by other numbers of lines, where different lines stay different.
-use Rattle.std.proofs.Common.{◌≡◌, ℕ, ◌<◌, ◌≤◌, ◌==◌, Bool, true, false, cond, not, ◌&&◌, Option, Some, None, List, []}
+use Rattle.std.proofs.Common.{◌≡◌, ℕ, ◌<◌, ◌≤◌, Bool, true, false, cond, not, ◌&&◌, Option, Some, None, List, []}
 use Rattle.std.proofs.Common.{◌∷◌, ◌++◌, length, map, refl, sym, ◌∙◌, ap, subst, take, zero, suc}
 use Rattle.std.specs.Prelude.{if◌then◌else◌, is_some, All, IsSomeAnd, IsTrue, MatchOption, option_map}
 use Rattle.std.specs.Bool.{OnTrue}
 use Rattle.std.specs.Option.{option_map_or}
-use Rattle.std.specs.List.{cons_option, filter, filter_map, fold, list_any}
+use Rattle.std.specs.List.{cons_option, filter, filter_map, fold}
 use Rattle.std.proofs.lemmas.List.{length-map, map_push}
-use Rattle.nm_types.specs.declared.answers.Answer.{Answer}
 use Rattle.nm_types.specs.declared.messages.Arrival.{Arrival}
 use Rattle.nm_types.specs.declared.scripts.Command.{Command}
 use Rattle.nm_types.specs.declared.scripts.Command.TheVariants as command
@@ -20,14 +19,14 @@ use Rattle.nm_history.specs.Answers.{Message, answer_of, is_seen, is_started, li
 use Rattle.nm_history.specs.AtEach.{AtEach, AtEachAfter}
 use Rattle.nm_history.specs.Completion.{Request, is_taken}
 use Rattle.nm_history.specs.Completion.Request.{Sending, Receiving}
-use Rattle.nm_history.specs.Happens.{happened, is_arrival, is_out, is_recall, is_send, is_undone, is_whole, is_withdraw}
-use Rattle.nm_history.specs.Matching.{first_message, is_claimed, is_free_message, is_of_receive, matched_pairs}
-use Rattle.nm_history.specs.RankRun.{Always, AnswerAt, Answers, CancelAt, Cancels, CancelsFor, CancelsOf, ClaimAt}
-use Rattle.nm_history.specs.RankRun.{Claims, EndAt, IsRankRun, NumberAt, StampAt, StartAt, Starts, WholeAt}
+use Rattle.nm_history.specs.Happens.{happened, is_arrival, is_recall, is_send}
+use Rattle.nm_history.specs.Matching.{first_message, is_claimed, matched_pairs}
+use Rattle.nm_history.specs.RankRun.{Always, AnswerAt, CancelAt, CancelsFor, CancelsOf, ClaimAt}
+use Rattle.nm_history.specs.RankRun.{EndAt, IsRankRun, NumberAt, StampAt, StartAt, WholeAt}
 use Rattle.nm_history.specs.RankRun.{cancels_since, claim_of, claims_since, is_asking, is_cancelling}
-use Rattle.nm_history.specs.RankRun.{is_matched_probe, is_start, lacks_message, last_stamp, line_of_claim, ran_lines}
+use Rattle.nm_history.specs.RankRun.{is_matched_probe, is_start, lacks_message, line_of_claim, ran_lines}
 use Rattle.nm_history.specs.RankRun.{ran_of, since_after, since_command, start_of, starts_since, without_number}
-use Rattle.nm_history.specs.Sends.{Arrived, Sent, arrivals, receives, sends}
+use Rattle.nm_history.specs.Sends.{Arrived, Sent, sends}
 use Rattle.nm_transcript.specs.Renumbered.{KeepsApart, renumbered, renumbered_all, renumbered_command, renumbered_event}
 use Rattle.nm_transcript.proofs.AnswerLemmas.{answer_same, found_same, live_message_same, live_same}
 use Rattle.nm_transcript.proofs.SameLemmas.{arrivals_same, asking_same, came_same, claimed_is, first_message_is}

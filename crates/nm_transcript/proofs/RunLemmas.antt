@@ -7,7 +7,7 @@ use Rattle.std.specs.Bool.{OnTrue}
 use Rattle.std.specs.Option.{option_map_or}
 use Rattle.std.specs.List.{AllByRecursion, filter, range_with_len, slice_get}
 use Rattle.nm_types.specs.declared.scripts.Command.{Command}
-use Rattle.nm_types.specs.Commands.{Numbered, command_at}
+use Rattle.nm_types.specs.Commands.{Numbered}
 use Rattle.nm_types.specs.Sizes.{Sizes}
 use Rattle.nm_history.specs.declared.events.Event.{Event}
 use Rattle.nm_history.specs.declared.events.Happened.{Happened}

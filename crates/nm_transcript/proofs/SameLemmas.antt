@@ -1,12 +1,11 @@
 -- What a history says of messages is the same by other numbers of lines.
 use Rattle.std.proofs.Common.{◌≡◌, ℕ, ◌==◌, Bool, true, false, cond, not, ◌&&◌, ◌||◌, Option, Some, None, List, [], ◌∷◌}
-use Rattle.std.proofs.Common.{◌++◌, length, map, refl, sym, ◌∙◌, ap, subst}
+use Rattle.std.proofs.Common.{◌++◌, map, refl, sym, ◌∙◌, ap}
 use Rattle.std.proofs.Math.Path.{fun_ext}
 use Rattle.std.proofs.lemmas.List.{map_push}
 use Rattle.std.specs.Prelude.{if◌then◌else◌, option_and_then, option_map, option_to_list}
 use Rattle.std.specs.Option.{option_map_or}
 use Rattle.std.specs.List.{cons_option, filter, filter_map, find, list_any}
-use Rattle.nm_types.specs.declared.answers.Answer.{Answer}
 use Rattle.nm_types.specs.declared.answers.Answer.TheVariants as answer
 use Rattle.nm_types.specs.declared.messages.Arrival.{Arrival}
 use Rattle.nm_types.specs.declared.messages.Envelope.{Envelope}
@@ -15,8 +14,8 @@ use Rattle.nm_types.specs.declared.messages.Post as post
 use Rattle.nm_types.specs.declared.messages.TagPick.{TagPick}
 use Rattle.nm_history.specs.declared.events.Event.{Event}
 use Rattle.nm_history.specs.declared.events.Happened.{Happened}
-use Rattle.nm_history.specs.declared.events.Happened.TheVariants.{Send, Post, Arrive, Whole, Out, Cancel, Recall}
-use Rattle.nm_history.specs.declared.events.Happened.TheVariants.{Withdraw, Undone, Claim, Match, Ran}
+use Rattle.nm_history.specs.declared.events.Happened.TheVariants.{Post, Arrive}
+use Rattle.nm_history.specs.declared.events.Happened.TheVariants.{Match, Ran}
 use Rattle.nm_history.specs.declared.plain.Pair.{Pair}
 use Rattle.nm_history.specs.Completion.{Request, is_complete, is_here, is_taken, pair_of_receive, result_of, shown}
 use Rattle.nm_history.specs.Completion.Request.{Sending, Receiving}

@@ -3,7 +3,8 @@
 ghost use Rattle.std.specs.Prelude.{if◌then◌else◌, ◌≡◌, ◌==◌, ◌∷◌, ◌++◌, [], IfOk, IfSome, OnOk, length, option_map};
 ghost use Rattle.nm_history.specs.Quiescence.{EachRank};
 ghost use Rattle.nm_report.specs.Ends.{end_of_account, ends_of};
-ghost use Rattle.nm_transcript.specs.Renumbered.{AreOf, IsOneOf, line_of, number_in as number_in_lem, renumbered as renumbered_lem};
+ghost use Rattle.nm_transcript.specs.Renumbered.{AreOf, IsOneOf, line_of as line_of_lem, number_in as number_in_lem};
+ghost use Rattle.nm_transcript.specs.Renumbered.{renumbered as renumbered_lem};
 ghost use Rattle.nm_transcript.specs.Renumbered.{renumbered_all, renumbered_end, renumbered_ends};
 ghost use Rattle.nm_transcript.specs.Transcripts.{IsEndOf, numbers_of as numbers_of_lem};
 
@@ -21,10 +22,23 @@ fn number_in(numbers: &[u64], line: u64) -> u64
     numbers[(line - 2) as usize]
 }
 
-// What happened, by the numbers of the commands' lines.
-fn renumbered(what: Happened, numbers: &[u64]) -> Happened
-    requires { IfSome (line_of what) (IsOneOf (length numbers.now)) }
-    ensures { result ≡ renumbered_lem (number_in_lem numbers.now) what }
+/// The line of the command of an event, if it has one.
+pub fn line_of(what: &Happened) -> Option<u64>
+    ensures { result ≡ line_of_lem what.now }
+{
+    match what {
+        Happened::Send { line, .. }
+        | Happened::Post { line, .. }
+        | Happened::Claim { line, .. }
+        | Happened::Match { line, .. }
+        | Happened::Ran { line, .. } => Some(*line),
+        _ => None,
+    }
+}
+
+/// What happened, of the command in this line.
+pub fn with_line(what: Happened, line: u64) -> Happened
+    ensures { result ≡ renumbered_lem (λ _. line) what }
 {
     match what {
         Happened::Send {
@@ -34,7 +48,7 @@ fn renumbered(what: Happened, numbers: &[u64]) -> Happened
             ctx,
             len,
             how,
-            line,
+            line: _,
         } => Happened::Send {
             to,
             n,
@@ -42,41 +56,42 @@ fn renumbered(what: Happened, numbers: &[u64]) -> Happened
             ctx,
             len,
             how,
-            line: number_in(numbers, line),
+            line,
         },
-        Happened::Post { post, line } => Happened::Post {
-            post,
-            line: number_in(numbers, line),
-        },
-        Happened::Claim { from, n, line } => Happened::Claim {
-            from,
-            n,
-            line: number_in(numbers, line),
-        },
+        Happened::Post { post, line: _ } => Happened::Post { post, line },
+        Happened::Claim { from, n, line: _ } => Happened::Claim { from, n, line },
         Happened::Match {
             number,
             from,
             n,
             cap,
-            line,
+            line: _,
         } => Happened::Match {
             number,
             from,
             n,
             cap,
-            line: number_in(numbers, line),
+            line,
         },
-        Happened::Ran { line, answer } => Happened::Ran {
-            line: number_in(numbers, line),
-            answer,
-        },
+        Happened::Ran { line: _, answer } => Happened::Ran { line, answer },
         what => what,
+    }
+}
+
+// What happened, by the numbers of the commands' lines.
+fn renumbered(what: Happened, numbers: &[u64]) -> Happened
+    requires { IfSome (line_of_lem what) (IsOneOf (length numbers.now)) }
+    ensures { result ≡ renumbered_lem (number_in_lem numbers.now) what }
+{
+    match line_of(&what) {
+        Some(line) => with_line(what, number_in(numbers, line)),
+        None => what,
     }
 }
 
 // An event, by the numbers of the commands' lines.
 fn renumbered_event(event: Event, numbers: &[u64]) -> Event
-    requires { IfSome (line_of event.what) (IsOneOf (length numbers.now)) }
+    requires { IfSome (line_of_lem event.what) (IsOneOf (length numbers.now)) }
     ensures stamp { result.stamp ≡ event.stamp }
     ensures what { result.what ≡ renumbered_lem (number_in_lem numbers.now) event.what }
 {

@@ -1,6 +1,7 @@
 //! When the commands of a run could start, by the clocks of their ranks. Nothing is proved of it: in whatever order
 //! the commands of different ranks stand, they are a script of which the run is one.
 
+use crate::renumbered::line_of;
 use nm_history::{Happened, History};
 use nm_report::RankAccount;
 use nm_types::Memory;
@@ -13,16 +14,21 @@ pub struct Starts {
     ranks: Vec<VecDeque<u64>>,
 }
 
-// When the commands of this history could start: the first one at 0, each other one at the answer of the one
-// before.
+// When the commands of this history could start: the first one at 0, each other one at the answer before its first
+// event.
 fn starts_in(alloc: Global, history: &History) -> Result<VecDeque<u64>, Memory> {
     let mut starts = VecDeque::new(alloc);
-    starts.push_back(0)?;
+    let mut answered = 0;
     for event in history.as_slice() {
+        let next = (starts.len() as u64).saturating_add(2);
+        if line_of(&event.what) == Some(next) {
+            starts.push_back(answered)?;
+        }
         if let Happened::Ran { .. } = event.what {
-            starts.push_back(event.stamp)?;
+            answered = event.stamp;
         }
     }
+    starts.push_back(answered)?;
     Ok(starts)
 }
 
