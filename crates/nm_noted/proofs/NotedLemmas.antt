@@ -7,14 +7,15 @@ use Rattle.nm_process.specs.Playing.{HasPlayed, Talked}
 use Rattle.nm_noted.specs.declared.noted.Noted.{Noted}
 use Rattle.nm_noted.specs.Noted.{notes}
 
-module _ {P : Type 0} (says : P → Option Answer → Option Command → P → Type 0) where
-  talked_on : (p : Noted P) (now : Option Command) (answers : List Answer) (q : Noted P) (last : Option Command)
-      (given before : List Command) → Talked (notes says) p now answers q last given →
-      p.calls ≡ before ++ option_to_list now →
-      Talked says p.program now answers q.program last given × (q.calls ≡ before ++ given)
+module _ {P C : Type 0} (says : P → Option Answer → Option Command → P → Type 0) (calls : C → List Command) where
+  talked_on : (p : Noted P C) (now : Option Command) (answers : List Answer) (q : Noted P C) (last : Option Command)
+      (given before : List Command) → Talked (notes says calls) p now answers q last given →
+      calls p.calls ≡ before ++ option_to_list now →
+      Talked says p.program now answers q.program last given × (calls q.calls ≡ before ++ given)
   talked_on p now [] q last given before talked noted = (
-    (ap (λ (r : Noted P). r.program) talked.0, talked.1, talked.2),
-    ap (λ (r : Noted P). r.calls) talked.0 ∙ noted ∙ ap (λ (xs : List Command). before ++ xs) (sym talked.2),
+    (ap (λ (r : Noted P C). r.program) talked.0, talked.1, talked.2),
+    ap (λ (r : Noted P C). calls r.calls) talked.0 ∙ noted
+        ∙ ap (λ (xs : List Command). before ++ xs) (sym talked.2),
   )
   talked_on p None (a ∷ answers) q last given before talked noted = absurd talked
   talked_on p (Some c) (a ∷ answers) q last given before talked noted =
@@ -29,9 +30,9 @@ module _ {P : Type 0} (says : P → Option Answer → Option Command → P → T
       )
 
   -- from its start on, where no call is noted
-  pub played_on : (start : Noted P) (answers : List Answer) (left : Noted P) (last : Option Command)
-      (given : List Command) → start.calls ≡ [] → HasPlayed (notes says) start answers left last given →
-      HasPlayed says start.program answers left.program last given × (left.calls ≡ given)
+  pub played_on : (start : Noted P C) (answers : List Answer) (left : Noted P C) (last : Option Command)
+      (given : List Command) → calls start.calls ≡ [] → HasPlayed (notes says calls) start answers left last given →
+      HasPlayed says start.program answers left.program last given × (calls left.calls ≡ given)
   played_on start answers left last given none played =
       let on =
       talked_on played.begun played.first answers left last given [] played.talked

@@ -1,15 +1,14 @@
 -- A run of programs whose calls are noted is a run of the programs.
-use Rattle.std.proofs.Common.{◌≡◌, ℕ, zero, suc, Option, Some, None, List, [], ◌∷◌, ◌++◌, length, map, refl, sym, ◌∙◌, ap, subst}
-use Rattle.std.specs.Prelude.{Err, Ok, Result}
-use Rattle.std.specs.List.{slice_get}
-use Rattle.std.specs.Result.{IfErr, IsErrAnd}
+use Rattle.std.proofs.Common.{◌≡◌, ℕ, suc, Option, Some, None, List, [], ◌∷◌, ◌++◌, length, map, refl, sym, ◌∙◌, ap, subst}
+use Rattle.std.specs.List.{AllZip}
+use Rattle.nm_types.specs.declared.answers.Account.{Account}
 use Rattle.nm_types.specs.declared.answers.Answer.{Answer}
 use Rattle.nm_types.specs.declared.packets.Packet.{Packet}
 use Rattle.nm_types.specs.declared.scripts.Command.{Command}
 use Rattle.nm_types.specs.Sizes.{Sizes}
 use Rattle.nm_cells.specs.declared.closed.Closed.{Closed}
 use Rattle.nm_copyring.specs.declared.close.RingAccount.{RingAccount}
-use Rattle.nm_history.specs.Quiescence.{Ended}
+use Rattle.nm_history.specs.Quiescence.{Ended, Packets}
 use Rattle.nm_history.specs.Totals.{answers_given}
 use Rattle.nm_history.specs.Run.{IsRunBy}
 use Rattle.nm_process.specs.Playing.{HasPlayed}
@@ -19,61 +18,98 @@ use Rattle.nm_report.specs.Ends.{are_done, ends_of, packets_of}
 use Rattle.nm_programs.specs.declared.running.Finished.{Finished}
 use Rattle.nm_programs.specs.declared.stops.Stop.{Stop}
 use Rattle.nm_programs.specs.declared.stops.Stop.TheVariants.{Memory, Range}
-use Rattle.nm_programs.specs.HasRun.{AreProgramsOf, HasRun, IsProgramOf, IsStopped, commands_in}
+use Rattle.nm_programs.specs.HasRun.{AreProgramsOf, HasRunTo, IsProgramOf, IsStopped, commands_in}
+use Rattle.nm_programs.proofs.SoFar.{zip_at}
 use Rattle.nm_transcript.specs.Transcripts.{IsRecordOf}
 use Rattle.nm_noted.specs.declared.noted.Noted.{Noted}
-use Rattle.nm_noted.specs.Noted.{HasRunNoted, bare, fresh, noted_calls, notes}
+use Rattle.nm_noted.specs.Noted.{HasRunNoted, IsFresh, bare, notes}
 use Rattle.nm_noted.proofs.NotedLemmas.{played_on}
 
-module _ {P : Type 0} (says : P → Option Answer → Option Command → P → Type 0) where
-  program_of : (p : P) (given : List Command) (rank : Ended) (left : Finished (Noted P)) →
-      IsProgramOf (notes says) (fresh p) given rank left →
-      IsProgramOf says p given rank (bare left) × (left.program.calls ≡ given)
-  program_of p given rank left is =
-      let on = played_on says (fresh p) (answers_given rank.events) left.program left.waits given refl is.played in
-      (record { played = on.0; counted = is.counted; waits = is.waits }, on.1)
+-- contracts know all calls, whatever keeps them
+abbrev pub all_calls : List Command → List Command
+all_calls calls = calls
 
-  programs_of : (programs : List P) (given : List (List Command)) (ranks : List Ended)
-      (left : List (Finished (Noted P))) → AreProgramsOf (notes says) (map fresh programs) given ranks left →
-      AreProgramsOf says programs given ranks (map bare left) × (given ≡ noted_calls left)
-  programs_of [] [] [] [] are = (tt, refl)
-  programs_of [] [] [] (f ∷ left) are = absurd are
-  programs_of [] [] (e ∷ ranks) left are = absurd are
-  programs_of [] (xs ∷ given) ranks left are = absurd are
-  programs_of (p ∷ programs) [] ranks left are = absurd are
-  programs_of (p ∷ programs) (xs ∷ given) [] left are = absurd are
-  programs_of (p ∷ programs) (xs ∷ given) (e ∷ ranks) [] are = absurd are
-  programs_of (p ∷ programs) (xs ∷ given) (e ∷ ranks) (f ∷ left) are =
-      let here = program_of p xs e f are.0 in
-      let rest = programs_of programs given ranks left are.1 in (
-        (here.0, rest.0),
-        ap (λ (ys : List Command). ys ∷ given) (sym here.1)
-            ∙ ap (λ (yss : List (List Command)). f.program.calls ∷ yss) rest.1,
+module _ {P C : Type 0} (says : P → Option Answer → Option Command → P → Type 0) (calls_in : C → List Command) where
+  program_of : (p : P) (start : Noted P C) (given : List Command) (rank : Ended) (left : Finished (Noted P C)) →
+      IsFresh calls_in p start → IsProgramOf (notes says calls_in) start given rank left →
+      IsProgramOf says p given rank (bare left) × (calls_in left.program.calls ≡ given)
+  program_of p start given rank left fresh is =
+      let on =
+      played_on says calls_in start (answers_given rank.events) left.program left.waits given fresh.none is.played in (
+        record {
+          played = subst (λ (q : P). HasPlayed says q (answers_given rank.events) left.program.program left.waits given)
+              fresh.program on.0;
+          counted = is.counted;
+          waits = is.waits;
+        },
+        on.1,
       )
 
-  pub run_of : (shape : Sizes) (programs : List P) (starts : List (Noted P)) (left : List (Finished (Noted P)))
-      (ranks : List (Finished P)) (calls : List (List Command)) (run : RunRecord) (cells : Closed Packet)
-      (rings : RingAccount) → starts ≡ map fresh programs → ranks ≡ map bare left → calls ≡ noted_calls left →
-      HasRun (notes says) shape starts left run cells rings →
-      HasRunNoted says shape programs ranks calls run cells rings
-  run_of shape programs starts left ranks calls run cells rings starts_are ranks_are calls_are ran =
-      let on =
-      programs_of programs ran.given (ends_of run.ranks) left
-      (subst (λ (ns : List (Noted P)). AreProgramsOf (notes says) ns ran.given (ends_of run.ranks) left) starts_are
-      ran.each) in
-      record {
-        ran = record {
+  programs_of : (programs : List P) (starts : List (Noted P C)) (given : List (List Command)) (ranks : List Ended)
+      (left : List (Finished (Noted P C))) → AllZip (IsFresh calls_in) programs starts →
+      AreProgramsOf (notes says calls_in) starts given ranks left →
+      AreProgramsOf says programs given ranks (map bare left)
+      × (given ≡ map (λ (f : Finished (Noted P C)). calls_in f.program.calls) left)
+  programs_of [] (n ∷ starts) given ranks left fresh are = absurd fresh
+  programs_of (p ∷ programs) [] given ranks left fresh are = absurd fresh
+  programs_of [] [] [] [] [] fresh are = (tt, refl)
+  programs_of [] [] [] [] (f ∷ left) fresh are = absurd are
+  programs_of [] [] [] (e ∷ ranks) left fresh are = absurd are
+  programs_of [] [] (xs ∷ given) ranks left fresh are = absurd are
+  programs_of (p ∷ programs) (n ∷ starts) [] ranks left fresh are = absurd are
+  programs_of (p ∷ programs) (n ∷ starts) (xs ∷ given) [] left fresh are = absurd are
+  programs_of (p ∷ programs) (n ∷ starts) (xs ∷ given) (e ∷ ranks) [] fresh are = absurd are
+  programs_of (p ∷ programs) (n ∷ starts) (xs ∷ given) (e ∷ ranks) (f ∷ left) fresh are =
+      let here = program_of p n xs e f fresh.0 are.0 in
+      let rest = programs_of programs starts given ranks left fresh.1 are.1 in (
+        (here.0, rest.0),
+        ap (λ (ys : List Command). ys ∷ given) (sym here.1)
+            ∙ ap (λ (yss : List (List Command)). calls_in f.program.calls ∷ yss) rest.1,
+      )
+
+  -- so they ran, and what they gave is what is noted
+  pub ran_of : (shape : Sizes) (programs : List P) (starts : List (Noted P C)) (left : List (Finished (Noted P C)))
+      (ranks : List (Finished P)) (ends : List Ended) (packets : List Packets) (account : Account)
+      (cells : Closed Packet) (rings : RingAccount) → AllZip (IsFresh calls_in) programs starts →
+      ranks ≡ map bare left → HasRunTo (notes says calls_in) shape starts left ends packets account cells rings →
+      (ran : HasRunTo says shape programs ranks ends packets account cells rings)
+      × (ran.given ≡ map (λ (f : Finished (Noted P C)). calls_in f.program.calls) left)
+  ran_of shape programs starts left ranks ends packets account cells rings fresh ranks_are ran =
+      let on = programs_of programs starts ran.given ends left fresh ran.each in (
+        record {
           given = ran.given;
-          each = subst (λ (fs : List (Finished P)). AreProgramsOf says programs ran.given (ends_of run.ranks) fs)
-              (sym ranks_are) on.0;
+          each = subst (λ (fs : List (Finished P)). AreProgramsOf says programs ran.given ends fs) (sym ranks_are) on.0;
           in_range = ran.in_range;
           whole = ran.whole;
-        };
-        are = on.1 ∙ sym calls_are;
+        },
+        on.1,
+      )
+
+  -- why a run stopped
+  pub stopped_so : (n : ℕ) (programs : List P) (starts : List (Noted P C)) (why : Stop) →
+      AllZip (IsFresh calls_in) programs starts → IsStopped (notes says calls_in) n starts why →
+      IsStopped says n programs why
+  stopped_so n programs starts Memory fresh stopped = tt
+  stopped_so n programs starts (Range rank command) fresh stopped =
+      let at = zip_at (IsFresh calls_in) programs starts rank stopped.start fresh stopped.is in
+      let on =
+      played_on says calls_in stopped.start stopped.told stopped.left (Some command) (stopped.given ++ command ∷ [])
+      at.2.none stopped.played in
+      record {
+        start = at.0;
+        is = at.1;
+        told = stopped.told;
+        given = stopped.given;
+        left = stopped.left.program;
+        played = subst (λ (q : P). HasPlayed says q stopped.told stopped.left.program (Some command)
+            (stopped.given ++ command ∷ [])) at.2.program on.0;
+        ran = stopped.ran;
+        never = stopped.never;
       }
 
+module _ {P : Type 0} (says : P → Option Answer → Option Command → P → Type 0) where
   -- as many lists of calls as ranks
-  as_many : (programs : List P) (given : List (List Command)) (ranks : List Ended) (left : List (Finished P)) →
+  pub as_many : (programs : List P) (given : List (List Command)) (ranks : List Ended) (left : List (Finished P)) →
       AreProgramsOf says programs given ranks left → length given ≡ length ranks
   as_many [] [] [] [] are = refl
   as_many [] [] [] (f ∷ left) are = absurd are
@@ -100,38 +136,10 @@ module _ {P : Type 0} (says : P → Option Answer → Option Command → P → T
         done = done;
       })
 
-  fresh_at : (programs : List P) (k : ℕ) (start : Noted P) → slice_get (map fresh programs) k ≡ Some start →
-      (slice_get programs k ≡ Some start.program) × (start.calls ≡ [])
-  fresh_at [] k start here = cc
-  fresh_at (p ∷ programs) zero start here =
-      let same : fresh p ≡ start = cc in
-      subst (λ (m : Noted P). (Some p ≡ Some m.program) × (m.calls ≡ [])) same (refl, refl)
-  fresh_at (p ∷ programs) (suc k) start here = fresh_at programs k start here
-
-  -- why a run stopped
-  pub stopped_so : (n : ℕ) (programs : List P) (starts : List (Noted P)) (why : Stop) → starts ≡ map fresh programs →
-      IsStopped (notes says) n starts why → IsStopped says n programs why
-  stopped_so n programs starts Memory starts_are stopped = tt
-  stopped_so n programs starts (Range rank command) starts_are stopped =
-      let at =
-      fresh_at programs rank stopped.start
-      (subst (λ (ns : List (Noted P)). slice_get ns rank ≡ Some stopped.start) starts_are stopped.is) in
-      let on =
-      played_on says stopped.start stopped.told stopped.left (Some command) (stopped.given ++ command ∷ []) at.1
-      stopped.played in
-      record {
-        start = stopped.start.program;
-        is = at.0;
-        told = stopped.told;
-        given = stopped.given;
-        left = stopped.left.program;
-        played = on.0;
-        ran = stopped.ran;
-        never = stopped.never;
-      }
-
--- what holds of an error holds where it is passed on
-pub passed_on : {A : Type 0} (r : Result A Stop) (why : Stop) (Q : Stop → Type 0) → IsErrAnd r (λ w. w ≡ why) → Q why →
-    IfErr r Q
-passed_on (Ok a) why Q is holds = tt
-passed_on (Err w) why Q is holds = subst (λ (v : Stop). Q v) (sym is) holds
+-- what holds of each made of a list holds of the list
+pub zip_mapped : {A B D : Type 0} (f : A → B) (R : B → D → Type 0) (xs : List A) (ys : List D) →
+    AllZip (λ x y. R (f x) y) xs ys → AllZip R (map f xs) ys
+zip_mapped f R [] [] all = tt
+zip_mapped f R [] (y ∷ ys) all = absurd all
+zip_mapped f R (x ∷ xs) [] all = absurd all
+zip_mapped f R (x ∷ xs) (y ∷ ys) all = (all.0, zip_mapped f R xs ys all.1)

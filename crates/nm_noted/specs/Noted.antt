@@ -1,5 +1,6 @@
 -- Programs whose calls are noted.
 use Rattle.std.specs.Prelude.{◌≡◌, ◌++◌, Option, List, [], ◌∷◌, map, option_to_list}
+use Rattle.std.specs.List.{AllZip}
 use Rattle.nm_types.specs.declared.answers.Answer.{Answer}
 use Rattle.nm_types.specs.declared.packets.Packet.{Packet}
 use Rattle.nm_types.specs.declared.scripts.Command.{Command}
@@ -8,31 +9,33 @@ use Rattle.nm_cells.specs.declared.closed.Closed.{Closed}
 use Rattle.nm_copyring.specs.declared.close.RingAccount.{RingAccount}
 use Rattle.nm_report.specs.declared.records.RunRecord.{RunRecord}
 use Rattle.nm_programs.specs.declared.running.Finished.{Finished}
-use Rattle.nm_programs.specs.HasRun.{HasRun}
+use Rattle.nm_programs.specs.HasRun.{HasRun, HasRunTo}
 use Rattle.nm_noted.specs.declared.noted.Noted.{Noted}
 use Rattle.nm_noted.specs.declared.runs.Parted.{Parted}
 
 -- it goes on as its program does, and notes what that gives
 abbrev pub notes :
-    {P : Type 0} → (P → Option Answer → Option Command → P → Type 0) → Noted P → Option Answer → Option Command →
-    Noted P → Type 0
-notes says p answer command q =
-    says p.program answer command q.program × (q.calls ≡ p.calls ++ option_to_list command)
+    {P C : Type 0} → (P → Option Answer → Option Command → P → Type 0) → (C → List Command) → Noted P C →
+    Option Answer → Option Command → Noted P C → Type 0
+notes says calls p answer command q =
+    says p.program answer command q.program × (calls q.calls ≡ calls p.calls ++ option_to_list command)
 
 -- the program, of which no call is noted
-abbrev pub fresh : {P : Type 0} → P → Noted P
-fresh p = record { program = p; calls = [] }
+pub record IsFresh {P C : Type 0} (calls : C → List Command) (p : P) (noted : Noted P C) : Type 0 where
+  pub program : noted.program ≡ p
+  pub none : calls noted.calls ≡ []
 
 -- the program as it was left, without its calls
-abbrev pub bare : {P : Type 0} → Finished (Noted P) → Finished P
+abbrev pub bare : {P C : Type 0} → Finished (Noted P C) → Finished P
 bare left = record { program = left.program.program; waits = left.waits }
 
--- the calls of each rank
-abbrev pub noted_calls : {P : Type 0} → List (Finished (Noted P)) → List (List Command)
+-- what is noted of the calls of each rank
+abbrev pub noted_calls : {P C : Type 0} → List (Finished (Noted P C)) → List C
 noted_calls ranks = map (λ left. left.program.calls) ranks
 
 -- one rank more: its program as it was left, and its calls
-pub record IsParted {P : Type 0} (before : Parted P) (left : Finished (Noted P)) (after : Parted P) : Type 0 where
+pub record IsParted {P C : Type 0} (before : Parted P C) (left : Finished (Noted P C)) (after : Parted P C)
+    : Type 0 where
   pub ranks : after.ranks.items ≡ before.ranks.items ++ bare left ∷ []
   pub calls : after.calls.items ≡ before.calls.items ++ left.program.calls ∷ []
 

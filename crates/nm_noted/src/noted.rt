@@ -1,21 +1,22 @@
 //! A program whose calls are noted.
 
 ghost use Rattle.std.specs.Prelude.{◌≡◌, ◌++◌, OnOk, option_to_list};
-ghost use Rattle.nm_noted.specs.Noted.{fresh, notes};
+ghost use Rattle.nm_noted.specs.Noted.{IsFresh, notes};
 
 use crate::copies::copy_command;
+use crate::keepers::Keeper;
 use nm_programs::Program;
 use nm_transcript::Calls;
 use nm_types::{Answer, Command, Memory};
 use std::alloc::Global;
 
-/// A program, and all calls that it made.
-pub struct Noted<P> {
+/// A program, and the calls that it made: all, or the last ones.
+pub struct Noted<P, C = Calls> {
     pub program: P,
-    pub calls: Calls,
+    pub calls: C,
 }
 
-impl<P: Drop> Drop for Noted<P> {
+impl<P: Drop, C: Drop> Drop for Noted<P, C> {
     fn drop(self) {
         let Noted {
             program: _,
@@ -24,19 +25,19 @@ impl<P: Drop> Drop for Noted<P> {
     }
 }
 
-impl<P: Program> Noted<P> {
+impl<P: Program, C: Keeper> Noted<P, C> {
     /// A program that made no call yet.
-    pub fn new(alloc: Global, program: P) -> Noted<P>
-        ensures { result ≡ fresh program }
+    pub fn new(alloc: Global, program: P) -> Noted<P, C>
+        ensures { IsFresh C.calls program result }
     {
         Noted {
             program,
-            calls: Calls::new(alloc),
+            calls: C::empty(alloc),
         }
     }
 
     /// The program, and its calls.
-    pub fn into_parts(self) -> (P, Calls)
+    pub fn into_parts(self) -> (P, C)
         ensures { (result.0 ≡ self.program) × (result.1 ≡ self.calls) }
     {
         let Noted { program, calls } = self;
@@ -44,21 +45,31 @@ impl<P: Program> Noted<P> {
     }
 }
 
+// The last call got this answer, if there was one.
+fn hear<C: Keeper>(calls: &mut C, answer: Option<&Answer>)
+    ensures { C.calls calls.new ≡ C.calls calls.old }
+{
+    if let Some(answer) = answer {
+        calls.hear(answer);
+    }
+}
+
 // Notes a call.
-fn note(calls: &mut Calls, command: &Option<Command>) -> Result<(), Memory>
-    ensures { OnOk result (calls.new ≡ calls.old ++ option_to_list command.now) }
+fn note<C: Keeper>(calls: &mut C, command: &Option<Command>) -> Result<(), Memory>
+    ensures { OnOk result (C.calls calls.new ≡ C.calls calls.old ++ option_to_list command.now) }
 {
     if let Some(command) = command {
-        calls.push(copy_command(command)?)?;
+        calls.keep(copy_command(command)?)?;
     }
     Ok(())
 }
 
-impl<P: Program> Program for Noted<P> {
+impl<P: Program, C: Keeper> Program for Noted<P, C> {
     // It goes on as its program does, and notes what that gives.
-    ghost says = { notes P.says };
+    ghost says = { notes P.says C.calls };
 
     fn next(&mut self, answer: Option<&Answer>) -> Result<Option<Command>, Memory> {
+        hear(&mut self.calls, answer);
         let command = self.program.next(answer)?;
         note(&mut self.calls, &command)?;
         Ok(command)
