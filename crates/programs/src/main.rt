@@ -5,7 +5,7 @@
 //!
 //! With two words, a length and a number of batches, it runs a flood of messages of that length, with no record
 //! (`flood`). With one word, the name of a program, it prints the script and the trace of its run (`transcripts`); with
-//! `stuck`, the last events of a run that got stuck after a million messages (`stuck`).
+//! `stuck`, those of the end of a run that got stuck after a million messages (`stuck`).
 #![tactic(auto)]
 
 ghost use Rattle.std.specs.Prelude.{◌≡◌, ◌<◌, IfOk, length};
@@ -34,8 +34,8 @@ use std::env;
 use std::sync::Wait;
 use std::test::Fail;
 use std::thread::Threads;
-use stuck::{run_stuck, show_stuck};
-use transcripts::{holds, print, transcribe};
+use stuck::{FEW, MANY, talkers};
+use transcripts::{holds, print, transcribe, transcribe_end};
 
 // Whether a run keeps a record.
 #[derive(Clone, Copy)]
@@ -43,9 +43,6 @@ enum Keeps {
     Record,
     Nothing,
 }
-
-// What became of ranks of `ends`.
-type Ended = Result<Vec<Finished<Rank>>, Stop>;
 
 // The shape of a run of so many ranks, with 8 cells each, where messages of up to 1,024 bytes are eager.
 fn shape_of(ranks: u8) -> Result<Shape, Fail>
@@ -87,7 +84,7 @@ fn summed<R: Threads + Wait + Sync>(
     }
 }
 
-fn show_ping_pong(rt: &HostRuntime, ranks: Vec<Finished<Player>>) -> Result<(), Fail> {
+fn show_ping_pong(rt: &HostRuntime, ranks: &[Finished<Player>]) -> Result<(), Fail> {
     for (rank, finished) in ranks.iter().enumerate() {
         println!(rt;
             "ping-pong: {} bytes came to rank {rank}",
@@ -97,16 +94,16 @@ fn show_ping_pong(rt: &HostRuntime, ranks: Vec<Finished<Player>>) -> Result<(), 
     Ok(())
 }
 
-fn show_ring(rt: &HostRuntime, ranks: Vec<Finished<Link>>) -> Result<(), Fail> {
+fn show_ring(rt: &HostRuntime, ranks: &[Finished<Link>]) -> Result<(), Fail> {
     for (rank, finished) in ranks.iter().enumerate() {
         println!(rt; "ring: the sum at rank {rank} is {}", finished.program.sum)?;
     }
     Ok(())
 }
 
-fn show_farm(rt: &HostRuntime, ranks: Vec<Finished<Hand>>) -> Result<(), Fail> {
+fn show_farm(rt: &HostRuntime, ranks: &[Finished<Hand>]) -> Result<(), Fail> {
     let mut all: u64 = 0;
-    for finished in ranks.iter() {
+    for finished in ranks {
         let total = finished.program.total;
         match finished.program.role {
             Role::Master(_) => println!(rt; "farm: the results add up to {total}")?,
@@ -118,15 +115,41 @@ fn show_farm(rt: &HostRuntime, ranks: Vec<Finished<Hand>>) -> Result<(), Fail> {
 }
 
 // The values of the whole rod.
-fn values(alloc: Global, ranks: Vec<Finished<Part>>) -> Result<Vec<u64>, Fail> {
+fn values(alloc: Global, parts: &[Finished<Part>]) -> Result<Vec<u64>, Fail> {
     let mut values = Vec::new(alloc);
-    for finished in ranks.iter() {
+    for finished in parts {
         values.extend_from_slice(finished.program.cells.as_slice())?;
     }
     Ok(values)
 }
 
-fn show_rod(rt: &HostRuntime, one: Vec<u64>, four: Vec<u64>) -> Result<(), Fail> {
+// The same of a rod of which so many ranks have parts.
+fn rod_of<R: Threads + Wait + Sync>(
+    rt: &R,
+    alloc: Global,
+    ranks: u8,
+    keeps: Keeps,
+) -> Result<Vec<u64>, Fail>
+    requires { 0 < ranks }
+{
+    let parts = run(
+        rt,
+        alloc,
+        shape_of(ranks)?,
+        rod::parts(alloc, ranks)?,
+        keeps,
+    )?;
+    values(alloc, parts.as_slice())
+}
+
+fn show_rod<R: Threads + Wait + Sync>(
+    rt: &HostRuntime,
+    threads: &R,
+    alloc: Global,
+    keeps: Keeps,
+) -> Result<(), Fail> {
+    let one = rod_of(threads, alloc, 1, keeps)?;
+    let four = rod_of(threads, alloc, 4, keeps)?;
     println!(rt; "rod: {:?}", four.as_slice())?;
     println!(rt;
         "rod: the same by one rank: {}",
@@ -135,9 +158,30 @@ fn show_rod(rt: &HostRuntime, one: Vec<u64>, four: Vec<u64>) -> Result<(), Fail>
     Ok(())
 }
 
-// How a run ended whose rank 0 is at its end at once.
-fn show_end(rt: &HostRuntime, ended: Ended) -> Result<(), Fail> {
-    match ended {
+// Who waits for good.
+fn show_waits(rt: &HostRuntime, ranks: &[Finished<Rank>]) -> Result<(), Fail> {
+    for (rank, finished) in ranks.iter().enumerate() {
+        let waits = finished.waits.is_some();
+        println!(rt; "ends: rank {rank} waits for good: {waits}")?;
+    }
+    Ok(())
+}
+
+// How a run ends whose rank 0 is at its end at once.
+fn show_end<R: Threads + Wait + Sync>(
+    rt: &HostRuntime,
+    threads: &R,
+    alloc: Global,
+    other: Rank,
+    keeps: Keeps,
+) -> Result<(), Fail> {
+    match run(
+        threads,
+        alloc,
+        shape_of(2)?,
+        ends::beside(alloc, other)?,
+        keeps,
+    ) {
         Err(
             Stop::Range {
                 rank,
@@ -145,17 +189,12 @@ fn show_end(rt: &HostRuntime, ended: Ended) -> Result<(), Fail> {
             },
         ) => println!(rt; "ends: rank {rank} gave a send to rank {to}, which never ran")?,
         Err(stop) => println!(rt; "ends: {stop:?}")?,
-        Ok(ranks) => {
-            for (rank, finished) in ranks.iter().enumerate() {
-                let waits = finished.waits.is_some();
-                println!(rt; "ends: rank {rank} waits for good: {waits}")?;
-            }
-        }
+        Ok(ranks) => show_waits(rt, ranks.as_slice())?,
     }
     Ok(())
 }
 
-fn show_flood(rt: &HostRuntime, ranks: Vec<Finished<Flooded>>) -> Result<(), Fail> {
+fn show_flood(rt: &HostRuntime, ranks: &[Finished<Flooded>]) -> Result<(), Fail> {
     for (rank, finished) in ranks.iter().enumerate() {
         println!(rt;
             "flood: {} messages came to rank {rank}",
@@ -165,52 +204,29 @@ fn show_flood(rt: &HostRuntime, ranks: Vec<Finished<Flooded>>) -> Result<(), Fai
     Ok(())
 }
 
-// What is left of all programs.
-#[derive(Drop)]
-struct All {
-    players: Vec<Finished<Player>>,
-    links: Vec<Finished<Link>>,
-    hands: Vec<Finished<Hand>>,
-    one: Vec<Finished<Part>>,
-    four: Vec<Finished<Part>>,
-    waits: Ended,
-    strays: Ended,
-    refused: Ended,
-}
-
-fn run_all<R: Threads + Wait + Sync>(rt: &R, alloc: Global, keeps: Keeps) -> Result<All, Fail> {
-    let two = shape_of(2)?;
-    let four = shape_of(4)?;
-    Ok(All {
-        players: run(rt, alloc, two, ping_pong::players(alloc)?, keeps)?,
-        links: summed(rt, alloc, keeps)?,
-        hands: run(rt, alloc, four, farm::hands(alloc)?, keeps)?,
-        one: run(rt, alloc, shape_of(1)?, rod::parts(alloc, 1)?, keeps)?,
-        four: run(rt, alloc, four, rod::parts(alloc, 4)?, keeps)?,
-        waits: run(rt, alloc, two, ends::beside(alloc, Rank::Waits)?, keeps),
-        strays: run(rt, alloc, two, ends::beside(alloc, Rank::Strays)?, keeps),
-        refused: run(rt, alloc, two, ends::beside(alloc, Rank::Refused)?, keeps),
-    })
-}
-
-fn show(rt: &HostRuntime, alloc: Global, all: All) -> Result<(), Fail> {
-    let All {
-        players,
-        links,
-        hands,
-        one,
-        four,
-        waits,
-        strays,
-        refused,
-    } = all;
-    show_ping_pong(rt, players)?;
-    show_ring(rt, links)?;
-    show_farm(rt, hands)?;
-    show_rod(rt, values(alloc, one)?, values(alloc, four)?)?;
-    show_end(rt, waits)?;
-    show_end(rt, strays)?;
-    show_end(rt, refused)
+// The four programs, and the runs that come to another end.
+fn show<R: Threads + Wait + Sync>(
+    rt: &HostRuntime,
+    threads: &R,
+    alloc: Global,
+    keeps: Keeps,
+) -> Result<(), Fail> {
+    let players = run(
+        threads,
+        alloc,
+        shape_of(2)?,
+        ping_pong::players(alloc)?,
+        keeps,
+    )?;
+    show_ping_pong(rt, players.as_slice())?;
+    let links = summed(threads, alloc, keeps)?;
+    show_ring(rt, links.as_slice())?;
+    let hands = run(threads, alloc, shape_of(4)?, farm::hands(alloc)?, keeps)?;
+    show_farm(rt, hands.as_slice())?;
+    show_rod(rt, threads, alloc, keeps)?;
+    show_end(rt, threads, alloc, Rank::Waits, keeps)?;
+    show_end(rt, threads, alloc, Rank::Strays, keeps)?;
+    show_end(rt, threads, alloc, Rank::Refused, keeps)
 }
 
 // The run of the program of this name, as a script and a record.
@@ -224,35 +240,72 @@ fn transcript_of<R: Threads + Wait + Sync>(
         "ring" => transcribe(rt, alloc, shape_of(5)?, ring::links(alloc)?),
         "farm" => transcribe(rt, alloc, shape_of(4)?, farm::hands(alloc)?),
         "rod" => transcribe(rt, alloc, shape_of(4)?, rod::parts(alloc, 4)?),
+        "stuck" => transcribe_end(rt, alloc, shape_of(2)?, talkers(alloc, MANY)?),
         _ => Err(Fail::new("no program has this name")),
     }
 }
 
-fn show_judged(rt: &HostRuntime, alloc: Global, name: &str, run: Transcript) -> Result<(), Fail> {
-    let holds = holds(alloc, &run)?;
+fn show_judged<R: Threads + Wait + Sync>(
+    rt: &HostRuntime,
+    threads: &R,
+    alloc: Global,
+    name: &str,
+) -> Result<(), Fail> {
+    let told = transcript_of(threads, alloc, name)?;
+    let holds = holds(alloc, &told)?;
     println!(rt; "{name}: the trace of its script holds: {holds}")?;
     Ok(())
+}
+
+// A shorter run that gets stuck, as text.
+fn show_stuck<R: Threads + Wait + Sync>(
+    rt: &HostRuntime,
+    threads: &R,
+    alloc: Global,
+) -> Result<(), Fail> {
+    let told = transcribe_end(threads, alloc, shape_of(2)?, talkers(alloc, FEW)?)?;
+    let holds = holds(alloc, &told)?;
+    println!(rt; "stuck: the trace of its script holds: {holds}")?;
+    print(rt, alloc, told)
+}
+
+fn show_all<R: Threads + Wait + Sync>(
+    rt: &HostRuntime,
+    threads: &R,
+    alloc: Global,
+) -> Result<(), Fail> {
+    show(rt, threads, alloc, Keeps::Record)?;
+    println!(rt; "with no record:")?;
+    show(rt, threads, alloc, Keeps::Nothing)?;
+    show_judged(rt, threads, alloc, "ring")?;
+    show_judged(rt, threads, alloc, "farm")?;
+    show_stuck(rt, threads, alloc)
+}
+
+fn run_flood<R: Threads + Wait + Sync>(
+    rt: &HostRuntime,
+    threads: &R,
+    alloc: Global,
+    bytes: &str,
+    batches: &str,
+) -> Result<(), Fail> {
+    let ranks = flood::ranks(alloc, bytes.parse::<u32>()?, batches.parse::<u64>()?)?;
+    let left = run(threads, alloc, shape_of(2)?, ranks, Keeps::Nothing)?;
+    show_flood(rt, left.as_slice())
 }
 
 fn main(rt: HostRuntime) -> Result<(), Fail> {
     let alloc = rt.alloc();
     let mut words = env::args(&rt)?.skip(1);
     match (words.next(), words.next()) {
-        (Some(bytes), Some(batches)) => {
-            let ranks = flood::ranks(alloc, bytes.parse::<u32>()?, batches.parse::<u64>()?)?;
-            return show_flood(&rt, run(&rt, alloc, shape_of(2)?, ranks, Keeps::Nothing)?);
-        }
-        (Some(name), None) => {
-            if name.as_str() == "stuck" {
-                return show_stuck(&rt, alloc, run_stuck(&rt, alloc, shape_of(2)?)?);
-            }
-            return print(&rt, alloc, transcript_of(&rt, alloc, name.as_str())?);
-        }
-        _ => {}
+        (Some(bytes), Some(batches)) => run_flood(
+            &rt,
+            &rt,
+            alloc,
+            bytes.as_str(),
+            batches.as_str(),
+        ),
+        (Some(name), None) => print(&rt, alloc, transcript_of(&rt, alloc, name.as_str())?),
+        _ => show_all(&rt, &rt, alloc),
     }
-    show(&rt, alloc, run_all(&rt, alloc, Keeps::Record)?)?;
-    println!(&rt; "with no record:")?;
-    show(&rt, alloc, run_all(&rt, alloc, Keeps::Nothing)?)?;
-    show_judged(&rt, alloc, "ring", transcript_of(&rt, alloc, "ring")?)?;
-    show_judged(&rt, alloc, "farm", transcript_of(&rt, alloc, "farm")?)
 }

@@ -1,87 +1,95 @@
-//! A flood whose receiver waits for a batch more than is sent. Memory keeps the last 64 events of each rank, however
-//! many came before, and these tell what a rank did before it got stuck.
+//! Two ranks of which one asks and the other answers, once too few: the first waits for good, however many messages
+//! went before. From the start on it has a receive posted for a word to stop, which never comes. Each has its next
+//! receive posted before it sends, so the order of its events is always the same.
 
 ghost use Rattle.std.specs.Prelude.{◌≡◌, length, IfOk};
-ghost use Rattle.std.specs.List.{All};
-ghost use Rattle.nm_process.specs.Playing.{gives_on, shown_by};
-ghost use Rattle.nm_world.specs.Players.{BeginsAt};
 
-use crate::flood::{Flooded, Side};
-use nm_history::Event;
-use nm_outside::OpenGate;
-use nm_process::Given;
-use nm_recent::Recent;
-use nm_report::push_happened;
-use nm_types::{Memory, Shape};
-use nm_world::{Rested, run_to_rest};
+use nm_programs::Program;
+use nm_programs::bodies::generated;
+use nm_programs::calls::{receive, send, wait};
+use nm_types::{Answer, Command, Memory};
 use std::alloc::Global;
-use std::collections::VecDeque;
-use std::sync::Wait;
-use std::test::Fail;
-use std::thread::Threads;
 
-const BYTES: u32 = 100;
+const TAG: u16 = 1;
 
-const BATCHES: u64 = 16000;
+const STOP: u16 = 2;
 
-const SHOWN: usize = 4;
+const BYTES: u32 = 8;
 
-// What gives the calls of one of the two.
-fn source(side: Side, batches: u64) -> Result<Given<Flooded>, Memory>
-    ensures { IfOk result (λ g. BeginsAt shown_by gives_on 2 g) }
-{
-    Given::new(Flooded::new(side, BYTES, batches), 2)
+/// So many questions make a million messages, with their answers.
+pub const MANY: u64 = 500001;
+
+/// A few.
+pub const FEW: u64 = 5001;
+
+// What a rank does next.
+#[derive(Clone, Copy)]
+enum Step {
+    // posts a receive for a word to stop
+    ListenForStop,
+    // posts its first receive, before it has anything to send
+    Listen,
+    Receive,
+    Send,
+    WaitForReceive,
+    WaitForSend,
 }
 
-// What gives the calls of both.
-fn sources(alloc: Global) -> Result<Vec<Given<Flooded>>, Memory>
-    ensures many { IfOk result (λ v. length v.items ≡ 2) }
-    ensures begins { IfOk result (λ v. All (BeginsAt shown_by gives_on 2) v.items) }
-{
-    let sender = source(Side::Sender, BATCHES)?;
-    let receiver = source(Side::Receiver, BATCHES + 1)?;
-    let mut sources = Vec::new(alloc);
-    sources.push(sender)?;
-    sources.push(receiver)?;
-    Ok(sources)
+/// One of the two ranks.
+#[derive(Drop)]
+pub struct Talker {
+    other: u8,
+    step: Step,
+    // how many calls it has still to make
+    left: u64,
 }
 
-/// The two ranks at rest.
-pub fn run_stuck<R: Threads + Wait + Sync>(
-    rt: &R,
-    alloc: Global,
-    shape: Shape,
-) -> Result<Rested<Given<Flooded>, Recent>, Memory>
-    requires { shape.ranks ≡ 2 }
-{
-    let sources = sources(alloc)?;
-    run_to_rest::<R, Given<Flooded>, Recent, OpenGate>(rt, alloc, shape, sources, &OpenGate)
-}
-
-// The last of these events, in the words of a trace.
-fn show_last(rt: &HostRuntime, alloc: Global, events: &VecDeque<Event>) -> Result<(), Fail> {
-    let others = events.len().saturating_sub(SHOWN);
-    for event in events.iter().skip(others) {
-        let mut text = String::new(alloc);
-        push_happened(&mut text, &event.what)?;
-        println!(rt; "stuck:   {text}")?;
+impl Talker {
+    // The next call, and the step that comes after it. A wait for a request that was not started is answered at once.
+    fn call(&self) -> (Command, Step) {
+        match self.step {
+            Step::ListenForStop => (receive(2, self.other, STOP, 0), Step::Receive),
+            Step::Listen => (receive(0, self.other, TAG, BYTES), Step::WaitForReceive),
+            Step::Receive => (receive(0, self.other, TAG, BYTES), Step::Send),
+            Step::Send => (
+                send(1, self.other, TAG, generated(BYTES)),
+                Step::WaitForReceive,
+            ),
+            Step::WaitForReceive => (wait(0), Step::WaitForSend),
+            Step::WaitForSend => (wait(1), Step::Receive),
+        }
     }
-    Ok(())
 }
 
-/// What each rank did last, where it waits for good.
-pub fn show_stuck(
-    rt: &HostRuntime,
-    alloc: Global,
-    rested: Rested<Given<Flooded>, Recent>,
-) -> Result<(), Fail> {
-    for (rank, end) in rested.ranks.iter().enumerate() {
-        let Some(line) = end.waits else {
-            println!(rt; "stuck: rank {rank} is at its end")?;
-            continue;
-        };
-        println!(rt; "stuck: rank {rank} waits at line {line}, and last had")?;
-        show_last(rt, alloc, end.history.events())?;
+impl Program for Talker {
+    ghost says = { λ p answer command q. Unit {0} };
+
+    fn next(&mut self, _answer: Option<&Answer>) -> Result<Option<Command>, Memory> {
+        if self.left == 0 {
+            return Ok(None);
+        }
+        self.left -= 1;
+        let (call, step) = self.call();
+        self.step = step;
+        Ok(Some(call))
     }
-    Ok(())
+}
+
+/// The two ranks: one asks so many questions, the other is at its end when it has the last one.
+pub fn talkers(alloc: Global, questions: u64) -> Result<Vec<Talker>, Memory>
+    ensures { IfOk result (λ v. length v.items ≡ 2) }
+{
+    let calls = questions.saturating_mul(4);
+    let mut talkers = Vec::new(alloc);
+    talkers.push(Talker {
+        other: 1,
+        step: Step::ListenForStop,
+        left: calls.saturating_add(1),
+    })?;
+    talkers.push(Talker {
+        other: 0,
+        step: Step::Listen,
+        left: calls.saturating_sub(1),
+    })?;
+    Ok(talkers)
 }
