@@ -1,0 +1,170 @@
+"""Draws a run of a script that ends beside one that hangs: lists the reports by `outcomes`, and has `chart` draw a trace of
+each (docs/use/why.md)."""
+from __future__ import annotations
+
+import os
+import pathlib
+import re
+import subprocess
+import sys
+
+sys.dont_write_bytecode = True
+from differences import common, decisive, differences
+from page import Ways, no_hang, page_of
+from picture import picture_of
+from runs import Run, run_of
+
+TOP = pathlib.Path(__file__).resolve().parent.parent
+USAGE = """usage: ways [--cells N] [--eager N] STATES <SCRIPT >PAGE
+"""
+# An option, or a number; `outcomes` says which numbers may stand there.
+WORD = re.compile(r"--(cells|eager)(=\d+)?|\d+")
+# Of each kind, how many reports are compared.
+MOST_COMPARED = 1000
+SAID = {4: "standard input can't be read", 6: "out of memory", 10: "too many states, or too long reports: allow more states"}
+# What `outcomes` ends with where it lists all reports.
+LISTED = (0, 1)
+
+
+class Failed(Exception):
+    """No page can be made: the status, and why in a sentence."""
+
+    def __init__(self, status: int, sentence: str):
+        super().__init__(sentence)
+        self.status = status
+
+
+class WrongWords(Exception):
+    """The words are not those of the usage."""
+
+
+def program(name: str) -> pathlib.Path:
+    """The launcher of a program, or what the variable of that name in capitals names."""
+    return pathlib.Path(os.environ.get(name.upper(), TOP / name))
+
+
+def start(name: str, words: list[str], text: bytes) -> tuple[int, str]:
+    try:
+        ran = subprocess.run([program(name), *words], input=text, stdout=subprocess.PIPE, check=False)
+    except OSError as failed:
+        raise Failed(70, f"{name} can't be started: {failed.strerror}") from failed
+    return ran.returncode, ran.stdout.decode()
+
+
+def searched(words: list[str], text: bytes) -> tuple[int, str]:
+    """What `outcomes` prints, and its status; raises where it is neither a list nor a trace."""
+    status, said = start("outcomes", words, text)
+    if status == 2:
+        raise WrongWords
+    if status == 3:
+        _, _, line, kind = said.split()
+        raise Failed(3, f"the input is no script: line {line}, {kind}")
+    if status not in LISTED:
+        raise Failed(status if status in SAID else 70, SAID.get(status, f"outcomes ended with status {status}"))
+    return status, said
+
+
+def reports_of(listed: str) -> list[list[str]]:
+    """The lines of each report of a list."""
+    reports: list[list[str]] = []
+    for line in listed.splitlines()[:-1]:
+        if line.startswith("outcome "):
+            reports.append([])
+        else:
+            reports[-1].append(line)
+    return reports
+
+
+def nearest(reports: list[list[str]]) -> tuple[int | None, int, bool]:
+    """Of all pairs of a report that is done and one that is stuck, the first with the fewest answers that differ, by their
+    numbers; and whether some were not compared."""
+    done = [it for it, report in enumerate(reports, 1) if report[-1] == "done"]
+    stuck = [it for it, report in enumerate(reports, 1) if report[-1] == "stuck"]
+    if not done:
+        return None, stuck[0], False
+    answers = {it: frozenset(reports[it - 1][:-2]) for it in [*done[:MOST_COMPARED], *stuck[:MOST_COMPARED]]}
+    pairs = ((len(answers[one] ^ answers[other]), one, other)
+             for one in done[:MOST_COMPARED] for other in stuck[:MOST_COMPARED])
+    _, one, other = min(pairs)
+    return one, other, max(len(done), len(stuck)) > MOST_COMPARED
+
+
+def traced(number: int, words: list[str], text: bytes, lines: list[str]) -> Run:
+    _, trace = searched(["--trace", str(number), *words], text)
+    return run_of(number, trace, [it.split(" ") for it in lines])
+
+
+def drawn(run: Run, ranks: str) -> str:
+    status, picture = start("chart", ["--of", ranks], run.trace.encode())
+    if status:
+        raise Failed(6 if status == 6 else 70, SAID[6] if status == 6 else f"chart ended with status {status}")
+    return picture
+
+
+def page(words: list[str], text: bytes) -> tuple[int, str]:
+    """The page of a script, and the status."""
+    status, listed = searched(words, text)
+    reports = reports_of(listed)
+    if status == 0:
+        return 0, no_hang(len(reports))
+    # Its lines, the first at 1.
+    lines = ["", *text.decode().removesuffix("\n").split("\n")]
+    ends_number, hangs_number, is_among_first = nearest(reports)
+    hangs = traced(hangs_number, words, text, lines)
+    ends = traced(ends_number, words, text, lines) if ends_number else None
+    found = differences(ends, hangs) if ends else []
+    deciding = decisive(found, ends, hangs) if ends else []
+    stuck = sum(it[-1] == "stuck" for it in reports)
+    ways = Ways(lines, len(reports), stuck, is_among_first, ends, hangs, found, deciding)
+    ranks = lines[1].removeprefix("ranks ")
+    same = common(ends, hangs) if ends else {}
+    right = picture_of("a run that hangs", drawn(hangs, ranks), hangs, same, [it.hangs.place for it in deciding])
+    if ends is None:
+        return 1, page_of(ways, None, right)
+    left = picture_of("a run that ends", drawn(ends, ranks), ends, same, [it.ends.place for it in deciding])
+    return 1, page_of(ways, left, right)
+
+
+def read() -> bytes:
+    try:
+        return sys.stdin.buffer.read()
+    except (AttributeError, OSError) as failed:
+        raise Failed(4, SAID[4]) from failed
+
+
+def write(text: str) -> None:
+    try:
+        os.set_blocking(1, True)
+        with open(1, "w", encoding="utf-8", closefd=False) as out:
+            out.write(text)
+    except OSError as failed:
+        raise Failed(5, f"the page can't be written: {failed.strerror}") from failed
+
+
+def ways(words: list[str]) -> int:
+    if not words or not all(map(WORD.fullmatch, words)):
+        raise WrongWords
+    status, text = page(words, read())
+    write(text)
+    return status
+
+
+def main(words: list[str]) -> int:
+    if words in (["--help"], ["--version"]):
+        write(USAGE if words == ["--help"] else "ways 1.0 (not proved)\n")
+        return 0
+    try:
+        return ways(words)
+    except WrongWords:
+        write(USAGE)
+        return 2
+    except MemoryError:
+        print(f"ways: {SAID[6]}", file=sys.stderr)
+        return 6
+    except Failed as failed:
+        print(f"ways: {failed}", file=sys.stderr)
+        return failed.status
+
+
+if __name__ == "__main__":
+    sys.exit(main(sys.argv[1:]))
