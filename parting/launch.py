@@ -5,6 +5,7 @@ from __future__ import annotations
 import os
 import pathlib
 import re
+import signal
 import subprocess
 import sys
 
@@ -20,7 +21,7 @@ USAGE = """usage: ways [--cells N] [--eager N] STATES <SCRIPT >PAGE
 # An option, or a number; `outcomes` says which numbers may stand there.
 WORD = re.compile(r"--(cells|eager)(=\d+)?|\d+")
 # Of each kind, how many reports are compared.
-MOST_COMPARED = 1000
+MOST_COMPARED = 500
 SAID = {4: "standard input can't be read", 6: "out of memory", 10: "too many states, or too long reports: allow more states"}
 # What `outcomes` ends with where it lists all reports.
 LISTED = (0, 1)
@@ -115,14 +116,14 @@ def page(words: list[str], text: bytes) -> tuple[int, str]:
     found = differences(ends, hangs) if ends else []
     deciding = decisive(found, ends, hangs) if ends else []
     stuck = sum(it[-1] == "stuck" for it in reports)
-    ways = Ways(lines, len(reports), stuck, is_among_first, ends, hangs, found, deciding)
+    both = Ways(lines, len(reports), stuck, is_among_first, ends, hangs, found, deciding)
     ranks = lines[1].removeprefix("ranks ")
     same = common(ends, hangs) if ends else {}
     right = picture_of("a run that hangs", drawn(hangs, ranks), hangs, same, [it.hangs.place for it in deciding])
     if ends is None:
-        return 1, page_of(ways, None, right)
+        return 1, page_of(both, None, right)
     left = picture_of("a run that ends", drawn(ends, ranks), ends, same, [it.ends.place for it in deciding])
-    return 1, page_of(ways, left, right)
+    return 1, page_of(both, left, right)
 
 
 def read() -> bytes:
@@ -134,7 +135,6 @@ def read() -> bytes:
 
 def write(text: str) -> None:
     try:
-        os.set_blocking(1, True)
         with open(1, "w", encoding="utf-8", closefd=False) as out:
             out.write(text)
     except OSError as failed:
@@ -150,6 +150,7 @@ def ways(words: list[str]) -> int:
 
 
 def main(words: list[str]) -> int:
+    signal.signal(signal.SIGINT, signal.SIG_DFL)
     if words in (["--help"], ["--version"]):
         write(USAGE if words == ["--help"] else "ways 1.0 (not proved)\n")
         return 0

@@ -65,14 +65,14 @@ def waiting(ways: Ways, line: int) -> str:
 
 def heading(ways: Ways) -> str:
     waits = "; ".join(waiting(ways, it) for it in ways.hangs.waits)
-    reports = f"This script can have {number_of(ways.reports, 'report')}, of which "
-    reports += f"{ways.stuck} {'is' if ways.stuck == 1 else 'are'} stuck"
     if ways.ends is None:
-        return f"<p>{reports}: no run ends. This one is outcome {ways.hangs.number}.</p>\n<p>For ever wait: {waits}.</p>\n"
-    among = " (of the first 1,000 of each kind)" if ways.is_among_first else ""
-    nearest = f"Of the pairs of one that ends and one that hangs{among}, outcomes {ways.ends.number} and " \
-              f"{ways.hangs.number} have the fewest answers that differ."
-    return f"<p>{reports}. {nearest}</p>\n<p>In the run that hangs wait for ever: {waits}.</p>\n"
+        return (f"<p>Each run of this script hangs: {number_of(ways.reports, 'report')}, none done. Below is outcome "
+                f"{ways.hangs.number}.</p>\n<p>For ever wait: {waits}.</p>\n")
+    among = " among the first 500 of each kind" if ways.is_among_first else ""
+    fewest = f", and of all such pairs{among} these differ in the fewest answers" if ways.reports > 2 else ""
+    shown = f"Outcome {ways.ends.number} is done, outcome {ways.hangs.number} is stuck{fewest}."
+    return (f"<p>This script can have {ways.reports} reports, {ways.stuck} of them stuck. {shown}</p>\n"
+            f"<p>In the run that hangs these wait for ever: {waits}.</p>\n")
 
 
 def sentence(ways: Ways, it: Difference) -> str:
@@ -144,5 +144,5 @@ def page_of(ways: Ways, ends: Picture | None, hangs: Picture) -> str:
     symbols = f"<svg class=\"symbols\"><defs>{hangs.symbols}</defs></svg>\n"
     figures = figure(f"ends: outcome {ways.ends.number}", "ends", ends) if ends else ""
     figures += figure(f"hangs: outcome {ways.hangs.number}", "hangs", hangs)
-    body = heading(ways) + parted(ways) + f"<h2>In pictures</h2>\n{symbols}<div class=\"ways\">\n{figures}</div>\n"
+    body = heading(ways) + parted(ways) + f"<h2>{'Both in pictures' if ends else 'The picture'}</h2>\n{symbols}<div class=\"ways\">\n{figures}</div>\n"
     return whole(title, hangs.style + STYLE, body + key(pictures, ends is not None) + script(ways))

@@ -111,7 +111,7 @@ class Drawn:
         bottom = max((float(it.get("y", it.get("y2", 0))) for it in self.inner), default=0)
         height = min(height, int(bottom) + 14 - TOP)
         self.root.set("viewBox", f"{LEFT} {TOP} {width} {height}")
-        self.root.set("style", f"width: {width}px; min-width: {width * 6 // 10}px")
+        self.root.set("style", f"width: {width}px; min-width: {width * 45 // 100}px")
         self.root.set("role", "img")
         self.root.set("aria-label", name)
         for it in ("width", "height"):

@@ -88,7 +88,7 @@ class Replay:
         self.run.met[line] = Met(words, place)
 
     def message(self, message: Message) -> str:
-        return f"the message of line {self.run.lines[message]}"
+        return f"the message of line {self.run.lines[message]} (rank {message[0]})"
 
     def take(self, place: Place, post: Event, arrival: Event) -> None:
         self.run.taken[arrival.received()] = place
