@@ -103,7 +103,7 @@ class Drawn:
     def ring(self, decided: list[Place]) -> None:
         for mark, place in self.marks:
             if place in decided:
-                around = {"class": "decides", "cx": mark.get("x"), "cy": mark.get("y"), "r": "12"}
+                around = {"class": "decides", "cx": mark.get("x"), "cy": mark.get("y"), "r": "10"}
                 tree.SubElement(self.inner, f"{{{SPACE}}}circle", around)
 
     def cropped(self, name: str) -> str:

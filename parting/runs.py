@@ -8,6 +8,8 @@ Message = tuple[int, int, int]
 # An event: the rank, and how many events of the rank went before it.
 Place = tuple[int, int]
 MOST_SHOWN = 48
+# What a cancel of a receive says (MPI 3.1, 3.8.4).
+IN_TIME = {"done": "comes in time", "late": "comes too late"}
 
 
 @dataclass(frozen=True)
@@ -152,6 +154,8 @@ class Replay:
             self.say(line, "asks, and has no answer")
         elif answer[0] == "seen" and command[1] != "mprobe":
             self.say(line, self.seen(command, answer), place)
+        elif command[1] == "cancel" and answer[0] in IN_TIME:
+            self.say(line, IN_TIME[answer[0]], place)
         elif answer[0] != "seen":
             is_wait = command[1] == "wait"
             self.say(line, f"answers {shortened(' '.join(answer))}", None if is_wait else place)
