@@ -38,3 +38,9 @@ _why_words() {
     mapfile -t COMPREPLY < <(compgen -W "$words" -- "$word")
 }
 complete -o default -F _why_words why ./why
+
+_ways_words() {
+    local word=${COMP_WORDS[COMP_CWORD]} words="--cells --eager"
+    mapfile -t COMPREPLY < <(compgen -W "$words" -- "$word")
+}
+complete -o default -F _ways_words ways ./ways
