@@ -12,7 +12,7 @@ import sys
 sys.dont_write_bytecode = True
 from differences import common, decisive, differences
 from page import Ways, no_hang, page_of
-from picture import picture_of
+from picture import Picture, picture_of
 from runs import Run, run_of
 
 TOP = pathlib.Path(__file__).resolve().parent.parent
@@ -22,7 +22,8 @@ USAGE = """usage: ways [--cells N] [--eager N] STATES <SCRIPT >PAGE
 WORD = re.compile(r"--(cells|eager)(=\d+)?|\d+")
 # Of each kind, how many reports are compared.
 MOST_COMPARED = 500
-SAID = {4: "standard input can't be read", 6: "out of memory", 10: "too many states, or too long reports: allow more states"}
+SAID = {4: "standard input can't be read", 6: "out of memory",
+        10: "too many states, or too long reports: allow more states"}
 # What `outcomes` ends with where it lists all reports.
 LISTED = (0, 1)
 
@@ -95,11 +96,35 @@ def traced(number: int, words: list[str], text: bytes, lines: list[str]) -> Run:
     return run_of(number, trace, [it.split(" ") for it in lines])
 
 
+def ways_of(reports: list[list[str]], words: list[str], text: bytes) -> Ways:
+    """The two runs that are nearest to each other, or the first that hangs, and what parts them."""
+    # The lines of the script, the first at 1.
+    lines = ["", *text.decode().removesuffix("\n").split("\n")]
+    stuck = sum(it[-1] == "stuck" for it in reports)
+    ends_number, hangs_number, is_among_first = nearest(reports)
+    hangs = traced(hangs_number, words, text, lines)
+    if ends_number is None:
+        return Ways(lines, len(reports), stuck, is_among_first, None, hangs, [], [])
+    ends = traced(ends_number, words, text, lines)
+    found = differences(ends, hangs)
+    return Ways(lines, len(reports), stuck, is_among_first, ends, hangs, found, decisive(found, ends, hangs))
+
+
 def drawn(run: Run, ranks: str) -> str:
     status, picture = start("chart", ["--of", ranks], run.trace.encode())
     if status:
         raise Failed(6 if status == 6 else 70, SAID[6] if status == 6 else f"chart ended with status {status}")
     return picture
+
+
+def pictures_of(both: Ways) -> tuple[Picture | None, Picture]:
+    ranks, same = both.lines[1].removeprefix("ranks "), common(both.ends, both.hangs) if both.ends else {}
+    places = [it.hangs.place for it in both.decisive]
+    right = picture_of("a run that hangs", drawn(both.hangs, ranks), both.hangs, same, places)
+    if both.ends is None:
+        return None, right
+    places = [it.ends.place for it in both.decisive]
+    return picture_of("a run that ends", drawn(both.ends, ranks), both.ends, same, places), right
 
 
 def page(words: list[str], text: bytes) -> tuple[int, str]:
@@ -108,22 +133,8 @@ def page(words: list[str], text: bytes) -> tuple[int, str]:
     reports = reports_of(listed)
     if status == 0:
         return 0, no_hang(len(reports))
-    # Its lines, the first at 1.
-    lines = ["", *text.decode().removesuffix("\n").split("\n")]
-    ends_number, hangs_number, is_among_first = nearest(reports)
-    hangs = traced(hangs_number, words, text, lines)
-    ends = traced(ends_number, words, text, lines) if ends_number else None
-    found = differences(ends, hangs) if ends else []
-    deciding = decisive(found, ends, hangs) if ends else []
-    stuck = sum(it[-1] == "stuck" for it in reports)
-    both = Ways(lines, len(reports), stuck, is_among_first, ends, hangs, found, deciding)
-    ranks = lines[1].removeprefix("ranks ")
-    same = common(ends, hangs) if ends else {}
-    right = picture_of("a run that hangs", drawn(hangs, ranks), hangs, same, [it.hangs.place for it in deciding])
-    if ends is None:
-        return 1, page_of(both, None, right)
-    left = picture_of("a run that ends", drawn(ends, ranks), ends, same, [it.ends.place for it in deciding])
-    return 1, page_of(both, left, right)
+    both = ways_of(reports, words, text)
+    return 1, page_of(both, *pictures_of(both))
 
 
 def read() -> bytes:

@@ -106,14 +106,16 @@ def figure(title: str, kind: str, picture: Picture) -> str:
     return f"<figure>\n<figcaption class=\"{kind}\">{title}</figcaption>\n{notes}{picture.svg}\n</figure>\n"
 
 
+def entry(mark: str, words: str) -> str:
+    return f"<li><svg viewBox=\"-20 -10 40 20\">{mark}</svg> {words}</li>\n"
+
+
 def key(pictures: list[Picture], is_pair: bool) -> str:
     legend = {symbol: words for it in pictures for symbol, words in it.legend.items()}
-    entries = [f"<li><svg viewBox=\"-20 -10 40 20\"><use href=\"{symbol}\"/></svg> {escape(words)}</li>\n"
-               for symbol, words in legend.items()]
+    entries = [entry(f"<use href=\"{symbol}\"/>", escape(words)) for symbol, words in legend.items()]
     if is_pair:
-        entries.append("<li><svg viewBox=\"-20 -10 40 20\"><circle class=\"decides\" r=\"8\"/></svg> here it is decided</li>\n")
-        entries.append("<li><svg viewBox=\"-20 -10 40 20\"><use class=\"same\" href=\"#send\"/></svg> pale: the beginning of "
-                       "each rank that both have</li>\n")
+        entries.append(entry("<circle class=\"decides\" r=\"8\"/>", "here it is decided"))
+        entries.append(entry("<use class=\"same\" href=\"#send\"/>", "pale: the beginning of each rank that both have"))
     return f"<ul class=\"key\">\n{''.join(entries)}</ul>\n<p>{escape(pictures[0].said)}</p>\n"
 
 
@@ -135,7 +137,8 @@ def whole(title: str, style: str, body: str) -> str:
 
 
 def no_hang(reports: int) -> str:
-    return whole("No run hangs", STYLE, f"<p>No run of this script hangs: {number_of(reports, 'report')}, none stuck.</p>\n")
+    sentence = f"No run of this script hangs: {number_of(reports, 'report')}, none stuck."
+    return whole("No run hangs", STYLE, f"<p>{sentence}</p>\n")
 
 
 def page_of(ways: Ways, ends: Picture | None, hangs: Picture) -> str:
@@ -144,5 +147,6 @@ def page_of(ways: Ways, ends: Picture | None, hangs: Picture) -> str:
     symbols = f"<svg class=\"symbols\"><defs>{hangs.symbols}</defs></svg>\n"
     figures = figure(f"ends: outcome {ways.ends.number}", "ends", ends) if ends else ""
     figures += figure(f"hangs: outcome {ways.hangs.number}", "hangs", hangs)
-    body = heading(ways) + parted(ways) + f"<h2>{'Both in pictures' if ends else 'The picture'}</h2>\n{symbols}<div class=\"ways\">\n{figures}</div>\n"
-    return whole(title, hangs.style + STYLE, body + key(pictures, ends is not None) + script(ways))
+    drawn = f"<h2>{'Both in pictures' if ends else 'The picture'}</h2>\n{symbols}<div class=\"ways\">\n{figures}</div>\n"
+    body = heading(ways) + parted(ways) + drawn + key(pictures, ends is not None) + script(ways)
+    return whole(title, hangs.style + STYLE, body)
