@@ -5,3 +5,5 @@ mod Later
 mod LaterSent
 -- one call more
 mod Longer
+-- the calls that were given
+mod Given
