@@ -1,0 +1,233 @@
+//! A rank that its caller drives.
+
+use crate::states::State;
+use crate::steps::{put, run, turn};
+use nm_calls::{Calls, Fault, check_range};
+use nm_copyring::Rings;
+use nm_port::Fabric;
+use nm_process::Step;
+use nm_rank::journal::Erased;
+use nm_types::{Answer, Command, Packet};
+use nm_world::Player;
+use std::alloc::Global;
+use std::sync::Arc;
+
+/// A rank of a world: what its caller has of it. One thread has it at a time.
+#[derive(Drop)]
+pub struct Handle {
+    pub(crate) fabric: Arc<Fabric<Packet>, Global>,
+    pub(crate) rings: Arc<Rings, Global>,
+    pub(crate) player: Player<Calls, Erased>,
+    pub(crate) state: State,
+    // how many requests are live
+    pub(crate) live: u32,
+}
+
+// How many requests are live after an answer, where so many were before.
+fn live_after(answer: Option<&Answer>, live: u32) -> u32 {
+    match answer {
+        Some(Answer::Started) => live.saturating_add(1),
+        Some(Answer::Sent) => live.saturating_sub(1),
+        Some(Answer::Got { .. }) => live.saturating_sub(1),
+        Some(Answer::Cut { .. }) => live.saturating_sub(1),
+        Some(Answer::Cancelled) => live.saturating_sub(1),
+        _ => live,
+    }
+}
+
+impl Handle {
+    ghost use Rattle.std.specs.Prelude.{◌≡◌, ◌≢◌, ◌+◌, ◌<◌, ◌≤◌, ◌⊎◌, true, None, Some, IfErr, IfOk, IsSome, OnErr, length, option_map};
+    ghost use Rattle.std.specs.Arc.{arc_value};
+    ghost use Rattle.nm_types.specs.Limits.{is_in_range};
+    ghost use Rattle.nm_rank.specs.Ranks.{IsFresh};
+    ghost use Rattle.nm_calls.specs.Calling.{gave, shown};
+    ghost use Rattle.nm_calls.specs.declared.faults.Fault.TheVariants as fault;
+    ghost use Rattle.nm_process.specs.LastAnswer.{last_answer};
+    ghost use Rattle.nm_world.specs.Players.{PlayerInvariant, PlaysOn};
+    ghost use Rattle.nm_handle.specs.Standing.{HasCalled, HasTurned, IsCause, Stands, calls_of, process_of};
+    ghost use Rattle.nm_handle.specs.declared.states.State.TheVariants as state_is;
+
+    /// The number of its rank.
+    pub fn me(&self) -> u8
+        ensures { result ≡ (process_of self.now).rank.me }
+    {
+        self.player.actor.process.me()
+    }
+
+    /// How many ranks its world has.
+    pub fn ranks(&self) -> u8
+        ensures { result ≡ (calls_of self.now).ranks }
+    {
+        self.player.source.ranks()
+    }
+
+    /// Whether it takes calls.
+    pub fn state(&self) -> State
+        ensures { result ≡ self.now.state }
+    {
+        self.state
+    }
+
+    /// How many of its requests are live. No clause counts them.
+    pub fn live(&self) -> u32 {
+        self.live
+    }
+
+    /// Whether packets or bytes of its messages are still to be sent.
+    pub fn has_to_send(&self) -> bool {
+        let rank = self.player.actor.process.rank();
+        rank.front_to().is_some() || rank.has_piece()
+    }
+
+    /// The answer of its last call, if nothing happened since.
+    pub fn answer(&self) -> Option<&Answer>
+        ensures { option_map (λ a. a.now) result ≡ last_answer (process_of self.now).rank.events }
+    {
+        self.player.actor.process.last_answer()
+    }
+
+    // That it takes calls.
+    fn check_open(&self) -> Result<(), Fault>
+        ensures ok { IfOk result (λ _. self.now.state ≡ state_is.Open) }
+        ensures err { IfErr result (λ e.
+            ((e ≡ fault.Closed) × (self.now.state ≡ state_is.Closed))
+            ⊎ ((e ≡ fault.Failed) × (self.now.state ≡ state_is.Failed))) }
+    {
+        match self.state {
+            State::Open => Ok(()),
+            State::Closed => Err(Fault::Closed),
+            State::Failed => Err(Fault::Failed),
+        }
+    }
+
+    // That no command that was given has still to run.
+    fn check_idle(&self) -> Result<(), Fault>
+        ensures ok { IfOk result (λ _. (calls_of self.now).next ≡ None) }
+        ensures err { IfErr result (λ e. (e ≡ fault.Waits) × IsSome (calls_of self.now).next) }
+    {
+        if self.player.source.waits() {
+            Err(Fault::Waits)
+        } else {
+            Ok(())
+        }
+    }
+
+    // The line of the next call.
+    fn line(&self) -> Result<u64, Fault>
+        ensures ok { IfOk result (λ line. (line ≡ (calls_of self.now).at + 2)
+            × ((calls_of self.now).at < 18446744073709551610)) }
+        ensures err { IfErr result (λ e. (e ≡ fault.Worn)
+            × ((¬ IsFresh (process_of self.now).rank) ⊎ (18446744073709551610 ≤ (calls_of self.now).at))) }
+    {
+        if self.player.actor.process.rank().is_worn() {
+            return Err(Fault::Worn);
+        }
+        match self.player.source.line() {
+            Some(line) => Ok(line),
+            None => Err(Fault::Worn),
+        }
+    }
+
+    /// Runs a command at once, if it can go on: only a wait and an await can be unable to.
+    ///
+    /// Where memory is refused the rank has failed. No other rank notices but by messages that do not come.
+    pub fn call(&mut self, command: &Command) -> Result<Step, Fault>
+        requires stands { Stands self.old }
+        ensures kept { Stands self.new }
+        ensures ran { IfOk result (HasCalled command.now self.old self.new) }
+        ensures cause { IfErr result (IsCause self.old command.now) }
+        ensures refused { IfErr result (λ e. e ≢ fault.Memory → self.new ≡ self.old) }
+    {
+        self.check_open()?;
+        self.check_idle()?;
+        check_range(self.player.source.ranks(), command)?;
+        let line = self.line()?;
+        self.run(command, line)
+    }
+
+    /// Gives a command that turns run as soon as it can go on, as MPI's blocking calls do. Till then no other one is
+    /// taken.
+    pub fn give(&mut self, command: Command) -> Result<(), Fault>
+        requires stands { Stands self.old }
+        ensures kept { Stands self.new }
+        ensures given { IfOk result (λ _. (self.new.state ≡ self.old.state)
+            × (process_of self.new ≡ process_of self.old)
+            × (calls_of self.new ≡ record (calls_of self.old) { next = Some command })) }
+        ensures cause { IfErr result (IsCause self.old command) }
+        ensures refused { OnErr result (self.new ≡ self.old) }
+    {
+        self.check_open()?;
+        self.check_idle()?;
+        check_range(self.player.source.ranks(), &command)?;
+        self.line()?;
+        put(&mut self.player, &self.fabric, &self.rings, command);
+        Ok(())
+    }
+
+    // Runs a command that is in range at its line.
+    fn run(&mut self, command: &Command, line: u64) -> Result<Step, Fault>
+        requires opened { self.old.state ≡ state_is.Open }
+        requires stands { PlayerInvariant shown gave (arc_value self.old.fabric) (arc_value self.old.rings)
+            self.old.player }
+        requires in_range { is_in_range (calls_of self.old).ranks command.now ≡ true }
+        requires line { (line ≡ (calls_of self.old).at + 2) × ((calls_of self.old).at < 18446744073709551610) }
+        requires idle { (calls_of self.old).next ≡ None }
+        ensures kept { Stands self.new }
+        ensures ran { IfOk result (HasCalled command.now self.old self.new) }
+        ensures err { IfErr result (λ e. e ≡ fault.Memory) }
+    {
+        self.state = State::Failed;
+        let step = run(&mut self.player, &self.fabric, &self.rings, command, line)?;
+        self.state = State::Open;
+        let live = live_after(self.answer(), self.live);
+        self.live = live;
+        Ok(step)
+    }
+
+    /// A turn of its rank, whether it is open or closed: it sends and pushes what there is, and takes what came. It
+    /// answers whether that was anything.
+    pub fn progress(&mut self) -> Result<bool, Fault>
+        requires stands { Stands self.old }
+        ensures kept { Stands self.new }
+        ensures turned { IfOk result (λ _. HasTurned self.old self.new) }
+        ensures cause { IfErr result (λ e. (e ≡ fault.Memory)
+            ⊎ ((e ≡ fault.Failed) × (self.old.state ≡ state_is.Failed) × (self.new ≡ self.old))) }
+    {
+        match self.state {
+            State::Failed => Err(Fault::Failed),
+            state => self.turn(state),
+        }
+    }
+
+    // A turn of a rank that has not failed.
+    fn turn(&mut self, state: State) -> Result<bool, Fault>
+        requires state { (state ≡ self.old.state) × (state ≢ state_is.Failed) }
+        requires stands { Stands self.old }
+        ensures kept { Stands self.new }
+        ensures turned { IfOk result (λ _. HasTurned self.old self.new) }
+        ensures err { IfErr result (λ e. e ≡ fault.Memory) }
+    {
+        self.state = State::Failed;
+        let moved = turn(&mut self.player, &self.fabric, &self.rings)?;
+        self.state = state;
+        Ok(moved)
+    }
+
+    /// Takes no call from now on. It can still make turns.
+    pub fn close(&mut self) -> Result<(), Fault>
+        requires stands { Stands self.old }
+        ensures kept { Stands self.new }
+        ensures ok { IfOk result (λ _. (self.old.state ≡ state_is.Open)
+            × (self.new ≡ record self.old { state = state_is.Closed })) }
+        ensures err { OnErr result (self.new ≡ self.old) }
+    {
+        match self.state {
+            State::Open => {
+                self.state = State::Closed;
+                Ok(())
+            }
+            State::Closed => Err(Fault::Closed),
+            State::Failed => Err(Fault::Failed),
+        }
+    }
+}

@@ -1,0 +1,28 @@
+//! Ranks that their callers drive: a world of ranks, each a handle that one thread calls.
+//!
+//! A `Handle` has a share of the fabric and the rings, its rank's ports and process, and no program: its caller
+//! gives one command after another, which runs at once (`call`) or as soon as it can go on (`give`), and has it make
+//! turns (`progress`), which send, take and run. It never waits for another rank. What happened exists in proofs
+//! alone, but for the last event.
+//!
+//! # What a contract sees
+//! The process of each handle, the calls that ran with their answers, and whether it is open.
+//! # What is proved
+//! - A handle stands (`Stands`) from its start on, after each call: its history is that of exactly the calls that
+//!   ran, each with its answer, its ports carried what that history calls for, and so it is a rank at its place
+//!   in a run (`world`: `new`; `call`, `give`, `progress`, `close`: `kept`).
+//! - A call does what its command does to the process (`ran`), and tells its answer (`answer`); one that is
+//!   refused does nothing, unless it was refused memory (`refused`), and each refusal has its cause (`cause`).
+//! - A turn takes at most 140 word steps for each rank, and 2,048 (`Player::turn`).
+//! # What is not
+//! - No clause counts the live requests (`live`), and nothing here runs in a thread: that is left to the callers.
+#![tactic(auto)]
+
+mod handles;
+mod states;
+mod steps;
+mod worlds;
+
+pub use handles::Handle;
+pub use states::State;
+pub use worlds::world;
