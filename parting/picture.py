@@ -2,6 +2,7 @@
 where both runs are the same, and ringed where they are decided."""
 from __future__ import annotations
 
+import bisect
 import re
 import xml.etree.ElementTree as tree
 from dataclasses import dataclass
@@ -13,6 +14,8 @@ MARK = re.compile(r"rank (\d+) at (\d+): ")
 BOW = re.compile(r"M (\S+) (\S+) C .* (\S+) (\S+)")
 # The legend stands left of the axis, and the names of the ranks below the heading.
 LEFT, TOP = 244, 36
+# How much lower than its mark the line of a label is, or more where the two would lie on another.
+BELOW = 3
 tree.register_namespace("", SPACE)
 Spot = tuple[str, str]
 
@@ -58,6 +61,11 @@ class Drawn:
             mark = MARK.match(title_of(it)) if is_of(it, "use") else None
             if mark:
                 self.marks.append((it, stamps[int(mark[1]), int(mark[2])]))
+        self.lanes: dict[str, list[str]] = {}
+        for mark, _ in self.marks:
+            self.lanes.setdefault(mark.get("x"), []).append(mark.get("y"))
+        for heights in self.lanes.values():
+            heights.sort(key=float)
         self.labels = [it for it in self.elements if it.get("class") == "label"]
 
     def taken_out(self) -> tuple[dict[str, str], list[str], list[str]]:
@@ -92,13 +100,20 @@ class Drawn:
             if it:
                 mark.set("class", "same")
                 spots.add((mark.get("x"), mark.get("y")))
-        if len(self.labels) == len(self.marks):
-            for label, it in zip(self.labels, is_same):
-                label.set("class", "label same" if it else "label")
+        for label in self.labels:
+            if self.spot_beside(label) in spots:
+                label.set("class", "label same")
         for it in self.elements:
             ends = ends_of(it) if title_of(it) else []
             if ends and spots.issuperset(ends):
                 it.set("class", f"{it.get('class')} same")
+
+    def spot_beside(self, label: tree.Element) -> Spot:
+        """The mark that a label stands right of: the nearest in height on the next line to the left."""
+        left, height = float(label.get("x")), float(label.get("y")) - BELOW
+        lane = max((it for it in self.lanes if float(it) < left), key=float)
+        at = bisect.bisect(self.lanes[lane], height, key=float)
+        return lane, min(self.lanes[lane][max(at - 1, 0):at + 1], key=lambda it: abs(float(it) - height))
 
     def ring(self, decided: list[Place]) -> None:
         for mark, place in self.marks:
