@@ -1,11 +1,13 @@
-"""What parts two runs of a script: the beginning of each rank's history that both have, the lines that came to something
-else, and which of them decide."""
+"""What parts two runs of a script: the two reports that are nearest to each other, the beginning of each rank's history
+that both runs have, the lines that came to something else, and which of them decide."""
 from __future__ import annotations
 
 from dataclasses import dataclass
 
 from runs import Event, Met, Place, Run
 
+# Of each kind, how many reports are compared.
+MOST_COMPARED = 500
 NOT_REACHED = Met("is not reached")
 
 
@@ -20,6 +22,20 @@ class Difference:
     @property
     def is_choice(self) -> bool:
         return self.ends.place is not None and self.hangs.place is not None
+
+
+def nearest(reports: list[list[str]]) -> tuple[int | None, int, bool]:
+    """Of all pairs of a report that is done and one that is stuck, the first with the fewest answers that differ, by their
+    numbers; and whether some were not compared."""
+    done = [it for it, report in enumerate(reports, 1) if report[-1] == "done"]
+    stuck = [it for it, report in enumerate(reports, 1) if report[-1] == "stuck"]
+    if not done:
+        return None, stuck[0], False
+    answers = {it: frozenset(reports[it - 1][:-2]) for it in [*done[:MOST_COMPARED], *stuck[:MOST_COMPARED]]}
+    pairs = ((len(answers[one] ^ answers[other]), one, other)
+             for one in done[:MOST_COMPARED] for other in stuck[:MOST_COMPARED])
+    _, one, other = min(pairs)
+    return one, other, max(len(done), len(stuck)) > MOST_COMPARED
 
 
 def common(one: Run, other: Run) -> dict[int, int]:

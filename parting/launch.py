@@ -10,7 +10,7 @@ import subprocess
 import sys
 
 sys.dont_write_bytecode = True
-from differences import common, decisive, differences
+from differences import common, decisive, differences, nearest
 from page import Ways, no_hang, page_of
 from picture import Picture, picture_of
 from runs import Run, run_of
@@ -20,8 +20,6 @@ USAGE = """usage: ways [--cells N] [--eager N] STATES <SCRIPT >PAGE
 """
 # An option, or a number; `outcomes` says which numbers may stand there.
 WORD = re.compile(r"--(cells|eager)(=\d+)?|\d+")
-# Of each kind, how many reports are compared.
-MOST_COMPARED = 500
 SAID = {4: "standard input can't be read", 6: "out of memory",
         10: "too many states, or too long reports: allow more states"}
 # What `outcomes` ends with where it lists all reports.
@@ -75,20 +73,6 @@ def reports_of(listed: str) -> list[list[str]]:
         else:
             reports[-1].append(line)
     return reports
-
-
-def nearest(reports: list[list[str]]) -> tuple[int | None, int, bool]:
-    """Of all pairs of a report that is done and one that is stuck, the first with the fewest answers that differ, by their
-    numbers; and whether some were not compared."""
-    done = [it for it, report in enumerate(reports, 1) if report[-1] == "done"]
-    stuck = [it for it, report in enumerate(reports, 1) if report[-1] == "stuck"]
-    if not done:
-        return None, stuck[0], False
-    answers = {it: frozenset(reports[it - 1][:-2]) for it in [*done[:MOST_COMPARED], *stuck[:MOST_COMPARED]]}
-    pairs = ((len(answers[one] ^ answers[other]), one, other)
-             for one in done[:MOST_COMPARED] for other in stuck[:MOST_COMPARED])
-    _, one, other = min(pairs)
-    return one, other, max(len(done), len(stuck)) > MOST_COMPARED
 
 
 def traced(number: int, words: list[str], text: bytes, lines: list[str]) -> Run:

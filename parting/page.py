@@ -4,7 +4,7 @@ from __future__ import annotations
 from dataclasses import dataclass
 from html import escape
 
-from differences import Difference
+from differences import MOST_COMPARED, Difference
 from picture import Picture
 from runs import Run, shortened
 
@@ -68,7 +68,7 @@ def heading(ways: Ways) -> str:
     if ways.ends is None:
         return (f"<p>Each run of this script hangs: {number_of(ways.reports, 'report')}, none done. Below is outcome "
                 f"{ways.hangs.number}.</p>\n<p>For ever wait: {waits}.</p>\n")
-    among = " among the first 500 of each kind" if ways.is_among_first else ""
+    among = f" among the first {MOST_COMPARED} of each kind" if ways.is_among_first else ""
     fewest = f", and of all such pairs{among} these differ in the fewest answers" if ways.reports > 2 else ""
     shown = f"Outcome {ways.ends.number} is done, outcome {ways.hangs.number} is stuck{fewest}."
     return (f"<p>This script can have {ways.reports} reports, {ways.stuck} of them stuck. {shown}</p>\n"
