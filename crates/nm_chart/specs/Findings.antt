@@ -17,27 +17,39 @@ use Rattle.nm_shell.specs.Inputs.{read_of}
 use Rattle.nm_check.specs.Found.{IsFound}
 use Rattle.nm_check.specs.declared.breaks.finding.Found.{Found}
 use Rattle.nm_check.specs.declared.breaks.finding.Found.TheVariants as found
-use Rattle.nm_check.specs.declared.breaks.places.Place.{Place}
-use Rattle.nm_check.specs.declared.breaks.places.Place.TheVariants as place
+use Rattle.nm_check.specs.Judgements.{judged_as}
+use Rattle.nm_check.specs.declared.breaks.judgements.Judgement.{Judgement}
+use Rattle.nm_check.specs.declared.breaks.judgements.Judgement.TheVariants.{Holds, Own, Carried, Left, Standing, Counted}
+use Rattle.nm_check.specs.declared.breaks.judgements.Judgement.TheVariants.{Home, Done}
+use Rattle.nm_check.specs.declared.breaks.places.EventLine.{EventLine}
 use Rattle.nm_chart.specs.declared.check.findings.Finding.{Finding}
 use Rattle.nm_chart.specs.declared.check.findings.Finding.TheVariants.{Usage, Unread, NoScript, NoTrace, Drawn}
 
--- the flag at an event of a rank, in this line of the trace
-abbrev pub event_flag : ℕ → ℕ → Option Event → Option Flag
-event_flag rank line None = None
-event_flag rank line (Some event) = Some (flag.Event rank event.stamp line)
+-- the flag at an event, in its line of the trace
+abbrev pub event_flag : EventLine → Option Event → Option Flag
+event_flag event None = None
+event_flag event (Some happened) = Some (flag.Event event.spot.rank happened.stamp event.line)
 
--- the flag at an event of a rank, where there is that rank
-abbrev pub flag_at : ℕ → ℕ → ℕ → Option RankAccount → Option Flag
-flag_at rank at line None = None
-flag_at rank at line (Some account) = event_flag rank line (slice_get account.history.events at)
+-- .. of a rank, where there is that rank
+abbrev pub flag_at : EventLine → Option RankAccount → Option Flag
+flag_at event None = None
+flag_at event (Some account) = event_flag event (slice_get account.history.events event.spot.at)
 
--- the flag at a place: at an event, or at the end of a rank
-abbrev pub flag_of : List RankAccount → Place → Option Flag
-flag_of ranks (place.Event rank at line command) = flag_at rank at line (slice_get ranks rank)
-flag_of ranks (place.Behind rank) = Some (flag.Behind rank)
-flag_of ranks (place.Standing rank waits) = Some (flag.Behind rank)
-flag_of ranks _ = None
+-- the flag at the event at which a rank breaks a rule, or at its end
+abbrev pub own_flag : List RankAccount → ℕ → Option EventLine → Option Flag
+own_flag ranks rank (Some event) = flag_at event (slice_get ranks event.spot.rank)
+own_flag ranks rank None = Some (flag.Behind rank)
+
+-- the flag of a judgement: at an event, at the end of a rank, or a line alone
+abbrev pub flag_of : List RankAccount → Judgement → Option Flag
+flag_of ranks Holds = None
+flag_of ranks (Own clause rank first event) = own_flag ranks rank event
+flag_of ranks (Carried clause from to event other against) = flag_at event (slice_get ranks event.spot.rank)
+flag_of ranks (Left rule event) = flag_at event (slice_get ranks event.spot.rank)
+flag_of ranks (Standing rank waits next) = Some (flag.Behind rank)
+flag_of ranks (Counted line miscount) = Some (flag.Line line)
+flag_of ranks (Home line cells) = Some (flag.Line line)
+flag_of ranks (Done line) = Some (flag.Line line)
 
 -- what is said of a script or a trace that is none
 abbrev pub fault_text : List ℕ → ℕ → List ℕ
@@ -74,7 +86,7 @@ abbrev pub finding_of : Found → Finding
 finding_of found.NoTrace = NoTrace 0
 finding_of (found.NoScript line kind) = NoScript line
 finding_of (found.BadTrace before line stop) = NoTrace line
-finding_of (found.Judged before j run) = Drawn run j.verdict (flag_of run.ranks j.place)
+finding_of (found.Judged before j run) = Drawn run (judged_as j) (flag_of run.ranks j)
 
 -- what there is to say of bytes in these sizes
 pub record IsAnswerIn (line : CommandLine) (finding : Finding) (bytes : List ℕ) : Type 0 where

@@ -16,13 +16,15 @@ abbrev pub once : {X : Type 0} → Option X → Option X → (X → Options) →
 once None (Some value) next = Some (next value)
 once _ _ next = None
 
--- with the first stamp, the last one, the number of ranks
+-- with the first stamp
 abbrev pub with_from : List ℕ → Options → Option Options
 with_from value o = once o.from (number_of 4294967296 value) (λ n. record o { from = Some n })
 
+-- .. the last one
 abbrev pub with_to : List ℕ → Options → Option Options
 with_to value o = once o.to (number_of 4294967296 value) (λ n. record o { to = Some n })
 
+-- .. the number of ranks
 abbrev pub with_of : List ℕ → Options → Option Options
 with_of value o = once o.of (number_of 4294967296 value) (λ n. record o { of = Some n })
 

@@ -3,7 +3,7 @@
 ghost use Rattle.std.specs.Prelude.{◌≡◌, IfOk};
 ghost use Rattle.nm_chart.specs.Answers.{CanBeDrawn, Tells, status_of};
 
-use nm_check::checked::trace_fault_text;
+use nm_check::texts::trace_fault_text;
 use nm_picture::picture;
 use nm_report::RunRecord;
 use nm_shell::line;

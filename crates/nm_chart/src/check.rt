@@ -8,15 +8,15 @@
 //! with a flag is; `specs/Findings.antt` joins the two.
 //! # What is proved
 //! - At status 0 what was written is the picture of a trace that holds, and at 8 that of a broken one,
-//!   whose record is the one that is judged, with a flag at the place that
-//!   `nm_check::breaks` finds, where it is an event or the end of a rank. At 2 the words are not taken, and
-//!   nothing was read; at 3 there is no script, at 9 no trace. They yield to 4, 5 and 6.
+//!   whose record is the one that is judged, with a flag at what `nm_check::breaks` finds: an event, the
+//!   end of a rank, or a line of the trace. At 2 the words are not taken, and nothing was read; at 3 there is
+//!   no script, at 9 no trace. They yield to 4, 5 and 6.
 //! - At 5 the sink took a front of the text that was due. At 6 nothing was written.
 //! # What is only tested
 //! That it succeeds with ample memory.
 
-mod checks;
 mod findings;
 mod places;
+mod top;
 
-pub use checks::chart_check;
+pub use top::chart_check;

@@ -5,7 +5,7 @@ ghost use Rattle.nm_chart.specs.Parts.{CanBeShown, Says, Shows};
 ghost use Rattle.nm_chart.specs.Parts.{outcome_status as outcome_status_lem};
 
 use crate::answers::USAGE;
-use nm_check::checked::trace_fault_text;
+use nm_check::texts::trace_fault_text;
 use nm_diagram::Part;
 use nm_page::page_in;
 use nm_picture::picture_in;

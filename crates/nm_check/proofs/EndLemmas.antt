@@ -5,9 +5,8 @@ use Rattle.nm_script.specs.declared.command_line.CommandLine.{CommandLine}
 use Rattle.nm_outside.specs.Told.{Appends, AppendsPart, Rose}
 use Rattle.nm_check.specs.declared.verdicts.Verdict.{Verdict}
 use Rattle.nm_check.specs.declared.verdicts.Verdict.TheVariants.{Holds, Own, Carried, Rest, Home, Done}
-use Rattle.nm_check.specs.Checks.{IsChecked}
-use Rattle.nm_check.specs.declared.checked.checks.Checked.TheVariants as checked
-use Rattle.nm_check.specs.Found.{IsFound, checked_of}
+use Rattle.nm_check.specs.Found.{IsFound, verdict_in}
+use Rattle.nm_check.specs.Judgements.{judged_as}
 use Rattle.nm_check.specs.declared.breaks.finding.Found.{Found}
 use Rattle.nm_check.specs.declared.breaks.finding.Found.TheVariants.{NoTrace, NoScript, BadTrace, Judged}
 use Rattle.nm_check.specs.Answers.{IsAnswer, IsAsked, IsFoundIn, IsFoundOf, AreQuotesOf, IsTraced, IsWritten}
@@ -33,7 +32,7 @@ spoken : (found : Found) (k : ℕ) → k ≡ found_status found → IsSpoken k
 spoken NoTrace k h = inr (inr (inr h))
 spoken (NoScript line kind) k h = inr (inl h)
 spoken (BadTrace before line stop) k h = inr (inr (inr h))
-spoken (Judged before j run) k h = judged_spoken j.verdict k h
+spoken (Judged before j run) k h = judged_spoken (judged_as j) k h
 
 not_spoken : (k : ℕ) → (k ≡ 0 → ⊥) → (k ≡ 3 → ⊥) → (k ≡ 8 → ⊥) → (k ≡ 9 → ⊥) → IsSpoken k → ⊥
 not_spoken k a b c d (inl h) = a h
@@ -59,11 +58,11 @@ no_five Unread h = cc
 no_five (Told found quotes) h = five (spoken found 5 h)
 
 -- what holds is said so
-zero_of : (found : Found) → checked_of found ≡ checked.Judged Holds → found_status found ≡ 0
+zero_of : (found : Found) → verdict_in found ≡ Some Holds → found_status found ≡ 0
 zero_of NoTrace h = absurd cc
 zero_of (NoScript line kind) h = absurd cc
 zero_of (BadTrace before line stop) h = absurd cc
-zero_of (Judged before j run) h = let same : j.verdict ≡ Holds = cc in ap verdict_status same
+zero_of (Judged before j run) h = let same : judged_as j ≡ Holds = cc in ap verdict_status same
 
 -- a script and a trace of one of its runs hold
 holds_for : (line : CommandLine) (input : Option (List ℕ)) (found : Found) → IsFoundOf line input found →
@@ -162,12 +161,12 @@ module _ {e : Ending} where
 
 -- what was found of the bytes that were read is so of those of the source
 pub found_of : (line : CommandLine) (input : Option (List ℕ)) (bytes : List ℕ) (found : Found) →
-    IfSome input (λ all. bytes ≡ take 67108865 all) → IsChecked line.cells line.eager bytes (checked_of found) →
-    IsFound line.cells line.eager bytes found → (IsTraced line bytes → checked_of found ≡ checked.Judged Holds) →
+    IfSome input (λ all. bytes ≡ take 67108865 all) → IsFound line.cells line.eager bytes found →
+    (IsTraced line bytes → verdict_in found ≡ Some Holds) →
     IsFoundOf line input found
-found_of line None bytes found read right placed holds = tt
-found_of line (Some all) bytes found read right placed holds =
-    subst (λ b. IsFoundIn line found b) read (record { checked = right; placed = placed; holds = holds })
+found_of line None bytes found read right holds = tt
+found_of line (Some all) bytes found read right holds =
+    subst (λ b. IsFoundIn line found b) read (record { right = right; holds = holds })
 
 -- the lines that were read are those of the source
 pub quotes_read : (input : Option (List ℕ)) (bytes : List ℕ) (found : Found) (quotes : Quotes) →

@@ -1,5 +1,5 @@
 -- Each line that is told of a trace is one of its lines.
-use Rattle.std.proofs.Common.{◌≡◌, ◌==◌, ℕ, ◌+◌, ◌<◌, ◌^◌, Bool, Option, Some, None, List, length, refl, sym, subst}
+use Rattle.std.proofs.Common.{◌≡◌, ◌==◌, ℕ, ◌+◌, ◌<◌, ◌^◌, Option, Some, None, Bool, List, length, refl, sym, subst}
 use Rattle.std.specs.Prelude.{IfSome, MatchOption, if◌then◌else◌, option_map, position, slice_get, take}
 use Rattle.std.specs.List.{join_with_byte}
 use Rattle.std.proofs.lemmas.List.Quantifiers.{position-Some}
@@ -14,42 +14,42 @@ use Rattle.nm_history.specs.Happens.{is_send}
 use Rattle.nm_history.specs.Quiescence.{Ended, history_of}
 use Rattle.nm_report.specs.declared.records.RunRecord.{RunRecord}
 use Rattle.nm_report.specs.declared.pairs.PairCount.{PairCount}
-use Rattle.nm_report.specs.Ends.{ends_of, packets_of}
+use Rattle.nm_report.specs.Ends.{ends_of}
 use Rattle.nm_trace.specs.Notes.{pair_words}
 use Rattle.nm_trace.specs.Traces.{IsTraceOf}
 use Rattle.nm_check_rank.specs.Takes.{IsTakenAt}
-use Rattle.nm_check_ranks.specs.declared.rest.clauses.RestClause.{RestClause}
-use Rattle.nm_check_ranks.specs.declared.rest.clauses.RestClause.TheVariants as rest
-use Rattle.nm_check.specs.declared.verdicts.Verdict.{Verdict}
-use Rattle.nm_check.specs.declared.verdicts.Verdict.TheVariants.{Holds, Own, Carried, Rest, Home, Done}
-use Rattle.nm_check.specs.Evidences.{IsEvidence}
-use Rattle.nm_check.specs.Lines.{IsEventLine, IsLineAt, LineStands, Stands}
-use Rattle.nm_check.specs.Others.{IsAgainst, IsCarriedOther, IsOther, IsOtherEvent, IsTakenBy, first_held, is_mate}
-use Rattle.nm_check.specs.Others.{held_at, pair_shown, sent_held}
-use Rattle.nm_check.specs.Places.{IsCountPlace, IsRestPlace, IsTracePlace, events_in}
+use Rattle.nm_check_ranks.specs.declared.firsts.Spot.{Spot}
+use Rattle.nm_check.specs.Judgements.{RestsOn}
+use Rattle.nm_check.specs.Lines.{EventStands, IsLineAt, Stands}
+use Rattle.nm_check.specs.Miscounts.{IsFirstCounted}
+use Rattle.nm_check.specs.Others.{IsHeldAgainst, IsOtherEvent, IsTakenBy, first_held, held_at, is_mate}
+use Rattle.nm_check.specs.Others.{pair_shown, sent_held}
+use Rattle.nm_check.specs.Places.{events_in}
 use Rattle.nm_check.specs.Stops.{lines_in}
-use Rattle.nm_check.specs.declared.breaks.evidence.Evidence.{Evidence}
-use Rattle.nm_check.specs.declared.breaks.others.Held.{Held}
-use Rattle.nm_check.specs.declared.breaks.places.Place.{Place}
-use Rattle.nm_check.specs.declared.breaks.places.Place.TheVariants.{Nowhere, Event as EventAt, Behind, Standing}
-use Rattle.nm_check.specs.declared.breaks.places.Place.TheVariants.{Count, LastLine}
+use Rattle.nm_check.specs.declared.breaks.counts.Miscount.{Miscount}
+use Rattle.nm_check.specs.declared.breaks.judgements.Judgement.{Judgement}
+use Rattle.nm_check.specs.declared.breaks.judgements.Judgement.TheVariants.{Holds, Own, Carried, Left, Standing, Counted}
+use Rattle.nm_check.specs.declared.breaks.judgements.Judgement.TheVariants.{Home, Done}
+use Rattle.nm_check.specs.declared.breaks.places.EventLine.{EventLine}
 use Rattle.nm_check.proofs.LastLemmas.{cells_stand, end_stands, last_two}
 use Rattle.nm_check.proofs.LineLemmas.{count_stands}
-use Rattle.nm_check.proofs.StandLemmas.{spot_stands, stands}
+use Rattle.nm_check.proofs.RankLemmas.{breach_in}
+use Rattle.nm_check.proofs.SpotLemmas.{rest_inside, spot_inside}
+use Rattle.nm_check.proofs.StandLemmas.{break_stands, spot_stands, told_stands}
 
 module _ (shape : Sizes) (bytes : List ℕ) (run : RunRecord) (trace : IsTraceOf shape bytes run)
     (few : shape.ranks < 2 ^ 64) where
   abbrev ends : List Ended
   ends = ends_of run.ranks
 
-  abbrev Told : Option Held → Type 0
-  Told other = IfSome other (λ held. IsEventLine bytes run held.line)
+  abbrev Told : Option EventLine → Type 0
+  Told other = IfSome other (EventStands bytes run)
 
   -- the line of an event that was found
   found_told : (y : ℕ) (at : Option ℕ) → ((k : ℕ) → at ≡ Some k → k < length (history_of ends y)) →
       Told (option_map (held_at ends y) at)
   found_told y None inside = tt
-  found_told y (Some k) inside = (y, k, spot_stands shape bytes run trace few y k None (inside k refl))
+  found_told y (Some k) inside = spot_stands shape bytes run trace few (record { rank = y; at = k }) (inside k refl)
 
   first_told : (y : ℕ) (test : Happened → Bool) → Told (first_held ends y test)
   first_told y test =
@@ -61,7 +61,7 @@ module _ (shape : Sizes) (bytes : List ℕ) (run : RunRecord) (trace : IsTraceOf
   sent_told x None = tt
   sent_told x (Some p) = first_told p.arrival.env.from (is_send x p.arrival.n)
 
-  taken_told : (x n y : ℕ) (other : Option Held) → IsTakenBy ends x n y other → Told other
+  taken_told : (x n y : ℕ) (other : Option EventLine) → IsTakenBy ends x n y other → Told other
   taken_told x n y other taken =
       subst Told (sym taken.2) (found_told y taken.0 (inside taken.0 taken.1))
     where
@@ -69,80 +69,55 @@ module _ (shape : Sizes) (bytes : List ℕ) (run : RunRecord) (trace : IsTraceOf
           k < length (history_of ends y)
       inside t at k is = (subst (IsTakenAt (history_of ends y) x n) is at).inside
 
-  against_told : (lines : List Line) (x : ℕ) (before : List Event) (w : Happened) (y : ℕ) (other : Option Held) →
-      IsAgainst lines ends x before w y other → Told other
+  against_told : (lines : List Line) (x : ℕ) (before : List Event) (w : Happened) (y : ℕ) (other : Option EventLine) →
+      IsHeldAgainst lines ends x before w y other → Told other
   against_told lines x before (Out to n) y other is = taken_told x n y other is
   against_told lines x before (Ran line answer) y other is =
       subst Told (sym is) (sent_told x (pair_shown (commands_of x lines) before (Ran line answer)))
   against_told lines x before w y other is = subst Told (sym is) (first_told y (is_mate x w))
 
-  other_told : (lines : List Line) (i j x at : ℕ) (other : Option Held) → IsOtherEvent lines ends i j x at other →
-      Told other
-  other_told lines i j x at other is = by_event (slice_get (history_of ends x) at) is
+  other_told : (lines : List Line) (i j : ℕ) (spot : Spot) (other : Option EventLine) →
+      IsOtherEvent lines ends i j spot other → Told other
+  other_told lines i j spot other is = by_event (slice_get (history_of ends spot.rank) spot.at) is
     where
-      by_event : (o : Option Event) → MatchOption o (other ≡ None) (λ e. IsAgainst lines ends x
-          (take at (history_of ends x)) e.what (if x == i then j else i) other) → Told other
+      by_event : (o : Option Event) → MatchOption o (other ≡ None) (λ e. IsHeldAgainst lines ends spot.rank
+          (take spot.at (history_of ends spot.rank)) e.what (if spot.rank == i then j else i) other) → Told other
       by_event None is = subst Told (sym is) tt
       by_event (Some e) is =
-          against_told lines x (take at (history_of ends x)) e.what (if x == i then j else i) other is
+          against_told lines spot.rank (take spot.at (history_of ends spot.rank)) e.what
+          (if spot.rank == i then j else i) other is
 
-  carried_told : (lines : List Line) (i j : ℕ) (place : Place) (other : Option Held) →
-      IsCarriedOther lines ends i j place other → Told other
-  carried_told lines i j (EventAt x at line command) other is = other_told lines i j x at other is
-  carried_told lines i j Nowhere other is = subst Told (sym is) tt
-  carried_told lines i j (Behind r) other is = subst Told (sym is) tt
-  carried_told lines i j (Standing r waits) other is = subst Told (sym is) tt
-  carried_told lines i j (Count at line) other is = subst Told (sym is) tt
-  carried_told lines i j (LastLine line) other is = subst Told (sym is) tt
-
-  told : (lines : List Line) (verdict : Verdict) (place : Place) (other : Option Held) →
-      IsOther lines run verdict place other → Told other
-  told lines (Carried c i j) place other is = carried_told lines i j place other is
-  told lines Holds place other is = subst Told (sym is) tt
-  told lines (Own c rank) place other is = subst Told (sym is) tt
-  told lines (Rest c) place other is = subst Told (sym is) tt
-  told lines Home place other is = subst Told (sym is) tt
-  told lines Done place other is = subst Told (sym is) tt
-
-  -- the line of a count
-  count_line : (lines : List Line) (place : Place) → IsCountPlace lines ends (packets_of run.pairs) place →
-      LineStands bytes run (Rest rest.Counts) place
-  count_line lines place (k, differ, is) =
-      subst (LineStands bytes run (Rest rest.Counts)) (sym is) (by_count (slice_get run.pairs k) refl)
+  -- the line of a count, if one stands there
+  count_told : (lines : List Line) (line : ℕ) (m : Miscount) → IsFirstCounted lines ends run.pairs m →
+      line ≡ events_in ends + m.at + 1 → Stands bytes run (Counted line m)
+  count_told lines line m first is =
+      subst (λ (o : Option PairCount). IfSome o (λ pair. IsLineAt bytes line (join_with_byte 32 (pair_words pair))))
+      (sym first.found) (by_count (slice_get run.pairs m.at) refl)
     where
-      by_count : (o : Option PairCount) → slice_get run.pairs k ≡ o →
-          IfSome o (λ pair. IsLineAt bytes (events_in ends + k + 1) (join_with_byte 32 (pair_words pair)))
+      by_count : (o : Option PairCount) → slice_get run.pairs m.at ≡ o →
+          IfSome o (λ pair. IsLineAt bytes line (join_with_byte 32 (pair_words pair)))
       by_count None here = tt
-      by_count (Some pair) here = (events_in ends + k, refl, count_stands shape bytes run k pair trace few here)
+      by_count (Some pair) here = (events_in ends + m.at, is, count_stands shape bytes run m.at pair trace few here)
 
-  rest_line : (lines : List Line) (c : RestClause) (place : Place) →
-      IsRestPlace lines ends (packets_of run.pairs) c place → LineStands bytes run (Rest c) place
-  rest_line lines rest.Counts place placed = count_line lines place placed
-  rest_line lines rest.Arrived place placed = tt
-  rest_line lines rest.Eager place placed = tt
-  rest_line lines rest.Asked place placed = tt
-  rest_line lines rest.Recalls place placed = tt
-  rest_line lines rest.Waits place placed = tt
-
-  -- .. of the cells or of the end
-  last_stands : (lines : List Line) (verdict : Verdict) (place : Place) →
-      IsTracePlace (lines_in bytes) lines run verdict place → LineStands bytes run verdict place
-  last_stands lines Home place is =
-      subst (LineStands bytes run Home) (sym is)
+  -- the lines of a judgement
+  pub all_stand : (lines : List Line) (j : Judgement) → RestsOn (lines_in bytes) lines run j → Stands bytes run j
+  all_stand lines Holds rests = tt
+  all_stand lines (Own clause rank first event) rests =
+      break_stands shape bytes run trace few rank first.place event
+      (breach_in run.shape lines ends rank first rests.0) rests.1
+  all_stand lines (Carried clause from to event other against) rests =
+      let spot = rests.0.0 in (
+        told_stands shape bytes run trace few spot event
+            (spot_inside lines ends from to clause spot rests.0.1) rests.0.2,
+        other_told lines from to event.spot other rests.1,
+      )
+  all_stand lines (Left rule event) rests =
+      told_stands shape bytes run trace few rests.0 event (rest_inside rule ends rests.0 rests.1) rests.2
+  all_stand lines (Standing rank waits next) rests = tt
+  all_stand lines (Counted line miscount) rests = count_told lines line miscount rests.0 rests.1
+  all_stand lines (Home line cells) rests =
+      subst (λ (n : ℕ). Stands bytes run (Home n cells)) (sym rests.0)
       (cells_stand bytes run.cells run.done (last_two shape bytes run trace))
-  last_stands lines Done place is =
-      subst (LineStands bytes run Done) (sym is) (end_stands bytes run.cells run.done (last_two shape bytes run trace))
-  last_stands lines Holds place is = tt
-  last_stands lines (Own c rank) place is = tt
-  last_stands lines (Carried c i j) place is = tt
-  last_stands lines (Rest c) place is = rest_line lines c place is
-
-  -- the lines of a verdict
-  pub all_stand : (lines : List Line) (verdict : Verdict) (place : Place) (e : Evidence) →
-      IsTracePlace (lines_in bytes) lines run verdict place → IsEvidence lines run verdict place e →
-      Stands bytes run verdict place e
-  all_stand lines verdict place e placed rests = record {
-    event = stands shape bytes run trace few lines (lines_in bytes) verdict place placed;
-    line = last_stands lines verdict place placed;
-    other = told lines verdict place e.other rests.other;
-  }
+  all_stand lines (Done line) rests =
+      subst (λ (n : ℕ). Stands bytes run (Done n)) (sym rests)
+      (end_stands bytes run.cells run.done (last_two shape bytes run trace))

@@ -4,7 +4,6 @@ mod EventLemmas
 mod ExactLemmas
 mod FedLemmas
 mod HeldLemmas
-mod JudgementLemmas
 mod LastLemmas
 mod LineLemmas
 mod OtherLemmas

@@ -17,44 +17,19 @@ use Rattle.nm_check_rank.specs.Tabled.{AreRankTables}
 use Rattle.nm_check_rank.specs.declared.paired.tables.Tables.{Tables}
 use Rattle.nm_check_ranks.specs.Tabled.{EachTabled}
 use Rattle.nm_check_ranks.proofs.TableLemmas.{table_inside}
-use Rattle.nm_check.specs.Incidents.{place_incident}
-use Rattle.nm_check.specs.Others.{IsAgainst, IsCarriedOther, first_held, held_at, is_mate}
+use Rattle.nm_check.specs.Others.{IsHeldAgainst, first_held, held_at, is_mate}
 use Rattle.nm_check.specs.Places.{events_in}
-use Rattle.nm_check.specs.declared.breaks.others.Held.{Held}
-use Rattle.nm_check.specs.declared.breaks.places.Place.{Place}
-use Rattle.nm_check.specs.declared.breaks.places.Place.TheVariants.{Nowhere, Event as EventAt, Behind, Standing}
-use Rattle.nm_check.specs.declared.breaks.places.Place.TheVariants.{Count, LastLine}
+use Rattle.nm_check.specs.declared.breaks.places.EventLine.{EventLine}
 use Rattle.nm_check.proofs.SpotLemmas.{history_le, many_ends}
-
--- no event is held against none
-pub none_at : (lines : List Line) (ranks : List Ended) (i j : ℕ) (place : Place) →
-    ((r at line : ℕ) (command : Option ℕ) → place ≡ EventAt r at line command → ⊥) →
-    IsCarriedOther lines ranks i j place None
-none_at lines ranks i j Nowhere not = refl
-none_at lines ranks i j (EventAt r at line command) not = absurd (not r at line command refl)
-none_at lines ranks i j (Behind r) not = refl
-none_at lines ranks i j (Standing r waits) not = refl
-none_at lines ranks i j (Count at line) not = refl
-none_at lines ranks i j (LastLine line) not = refl
 
 -- an event of another kind is held against its mate
 pub against_mate : (lines : List Line) (ranks : List Ended) (x : ℕ) (before : List Event) (what : Happened) (y : ℕ)
-    (other : Option Held) → ((to n : ℕ) → what ≡ Out to n → ⊥) →
+    (other : Option EventLine) → ((to n : ℕ) → what ≡ Out to n → ⊥) →
     ((line : ℕ) (answer : Answer) → what ≡ Ran line answer → ⊥) →
-    other ≡ first_held ranks y (is_mate x what) → IsAgainst lines ranks x before what y other
+    other ≡ first_held ranks y (is_mate x what) → IsHeldAgainst lines ranks x before what y other
 against_mate lines ranks x before (Out to n) y other not_out not_ran is = absurd (not_out to n refl)
 against_mate lines ranks x before (Ran line answer) y other not_out not_ran is = absurd (not_ran line answer refl)
 against_mate lines ranks x before what y other not_out not_ran is = is
-
--- nothing happened at a place that is no event
-pub no_incident : (ranks : List Ended) (place : Place) →
-    ((r at line : ℕ) (command : Option ℕ) → place ≡ EventAt r at line command → ⊥) → None ≡ place_incident ranks place
-no_incident ranks Nowhere not = refl
-no_incident ranks (EventAt r at line command) not = absurd (not r at line command refl)
-no_incident ranks (Behind r) not = refl
-no_incident ranks (Standing r waits) not = refl
-no_incident ranks (Count at line) not = refl
-no_incident ranks (LastLine line) not = refl
 
 -- one of two numbers is less, as both are
 pub one_of : (b : Bool) (j i n : ℕ) → j < n → i < n → cond b j i < n
@@ -107,8 +82,8 @@ module _ (ranks : List RankAccount) (y : ℕ) where
       (position-Some (λ (e : Event). test e.what) es k none (sym found ∙ is)).0
 
   -- and is this one
-  pub first_at : (test : Happened → Bool) (es : List Event) (at : Option ℕ) (held : Option Held) → es ≡ history_of (ends_of ranks) y →
-      at ≡ position (λ (e : Event). test e.what) es → held ≡ option_map (held_at (ends_of ranks) y) at →
+  pub first_at : (test : Happened → Bool) (es : List Event) (at : Option ℕ) (held : Option EventLine) →
+      es ≡ history_of (ends_of ranks) y → at ≡ position (λ (e : Event). test e.what) es → held ≡ option_map (held_at (ends_of ranks) y) at →
       held ≡ first_held (ends_of ranks) y test
   first_at test es at held same found is =
       is ∙ ap (λ (o : Option ℕ). option_map (held_at (ends_of ranks) y) o) found

@@ -1,5 +1,5 @@
 -- Events by their ranks and places.
-use Rattle.std.proofs.Common.{◌≡◌, ◌⊎◌, inl, inr, ℕ, zero, suc, ◌<◌, ◌≤◌, Option, Some, None, List, [], ◌∷◌, length}
+use Rattle.std.proofs.Common.{◌≡◌, ◌⊎◌, inl, inr, ℕ, ◌<◌, ◌≤◌, Option, Some, None, List, [], length}
 use Rattle.std.proofs.Common.{refl, sym, ap, subst, arith}
 use Rattle.std.specs.Prelude.{IfSome, IsSomeAnd, option_and_then, slice_get}
 use Rattle.std.specs.Option.{option_map_or}
@@ -9,7 +9,7 @@ use Rattle.nm_types.specs.Commands.{commands_of}
 use Rattle.nm_types.specs.Sizes.{Sizes}
 use Rattle.nm_history.specs.declared.events.Event.{Event}
 use Rattle.nm_history.specs.Delivery.{ArriveInOrder}
-use Rattle.nm_history.specs.Quiescence.{EachPair, EachRank, Ended, IsStopped, Packets, history_of}
+use Rattle.nm_history.specs.Quiescence.{EachPair, EachRank, Ended, IsStopped, history_of}
 use Rattle.nm_history.specs.Sends.{arrivals, sends}
 use Rattle.nm_report.specs.declared.accounts.RankAccount.{RankAccount}
 use Rattle.nm_report.specs.Ends.{end_of_account, ends_of}
@@ -20,12 +20,11 @@ use Rattle.nm_check_ranks.specs.CarriedClauses.{KeepsCarried, PairDelivered, car
 use Rattle.nm_check_ranks.specs.Marked.{KeepsLocal}
 use Rattle.nm_check_ranks.specs.declared.clauses.CarriedClause.{CarriedClause}
 use Rattle.nm_check_ranks.specs.declared.firsts.Spot.{Spot}
-use Rattle.nm_check_ranks.specs.RestBreaks.{BreaksRestAt, BreaksStanding, KeepRestAt, rest_clause}
+use Rattle.nm_check_ranks.specs.RestBreaks.{BreaksRestAt, BreaksStanding, KeepRestAt}
 use Rattle.nm_check_ranks.specs.declared.rest.firsts.EventRule.{EventRule}
-use Rattle.nm_check_ranks.specs.declared.rest.firsts.EventRule.TheVariants as rule
 use Rattle.nm_check.specs.Verdicts.{BreaksCarried, RunsItsOwn}
-use Rattle.nm_check.specs.Places.{IsEventPlace, IsRestPlace, events_in}
-use Rattle.nm_check.specs.declared.breaks.places.Place.{Place}
+use Rattle.nm_check_ranks.proofs.WaitLemmas.{some_inside}
+use Rattle.nm_check.specs.Places.{events_in}
 use Rattle.nm_check.proofs.EventLemmas.{rank_le}
 
 -- ranks that run their own commands are numbered, and their stamps rise
@@ -77,13 +76,6 @@ spot_known lines ranks i j n c spot breaks low_i low_j = by_side breaks.inside
         ⊎ ((spot.rank ≡ j) × (spot.at < length (history_of ranks j))) → spot.rank < n
     by_side (inl here) = subst (λ (x : ℕ). x < n) (sym here.0) low_i
     by_side (inr here) = subst (λ (x : ℕ). x < n) (sym here.0) low_j
-
--- a rank of which something is so is one of the ranks
-pub some_inside : (ranks : List Ended) (i : ℕ) (P : Ended → Type 0) → IsSomeAnd (slice_get ranks i) P →
-    i < length ranks
-some_inside [] i P there = absurd there
-some_inside (r ∷ ranks) zero P there = omega arith
-some_inside (r ∷ ranks) (suc i) P there = let low = some_inside ranks i P there in omega (arith, low)
 
 -- no history has more events than all ranks have
 pub history_le : (ranks : List Ended) (i : ℕ) → length (history_of ranks i) ≤ events_in ranks
@@ -148,11 +140,3 @@ many_ends ranks = length-map ranks end_of_account
 pub waits_here : (ranks : List Ended) (i : ℕ) (e : Ended) → slice_get ranks i ≡ Some e →
     option_and_then (λ (e : Ended). e.waits) (slice_get ranks i) ≡ e.waits
 waits_here ranks i e is = ap (λ (o : Option Ended). option_and_then (λ (e : Ended). e.waits) o) is
-
--- its place
-pub event_placed : (lines : List Line) (ranks : List Ended) (packets : List Packets) (r : EventRule) (place : Place) →
-    IsEventPlace r ranks place → IsRestPlace lines ranks packets (rest_clause r) place
-event_placed lines ranks packets rule.Arrived place is = is
-event_placed lines ranks packets rule.Eager place is = is
-event_placed lines ranks packets rule.Asked place is = is
-event_placed lines ranks packets rule.Recalls place is = is

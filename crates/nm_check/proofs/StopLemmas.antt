@@ -176,6 +176,9 @@ stops_there shape bytes text line stop.Number here fed is =
 stops_there shape bytes text line stop.Event here fed is =
     subst (λ (o : Option (List ℕ)). IsSomeAnd o (λ text. (line ≤ lines_in bytes) × IsLineStop shape text stop.Event))
     (sym here) (fed, is)
+stops_there shape bytes text line stop.Report here fed is =
+    subst (λ (o : Option (List ℕ)). IsSomeAnd o (λ text. (line ≤ lines_in bytes) × IsLineStop shape text stop.Report))
+    (sym here) (fed, is)
 stops_there shape bytes text line stop.Line here fed is =
     subst (λ (o : Option (List ℕ)). IsSomeAnd o (λ text. (line ≤ lines_in bytes) × IsLineStop shape text stop.Line))
     (sym here) (fed, is)

@@ -111,7 +111,8 @@ event_printable rank e few within =
     of_what (what.Recall to n) h = (refl, ((small to h.0).0, (decimal_solid n h.1, tt)))
     of_what (what.Withdraw from n done) h = (refl, ((small from h.0).0, (decimal_solid n h.1, of_done done)))
     of_what (what.Undone to n done) h = (refl, ((small to h.0).0, (decimal_solid n h.1, of_done done)))
-    of_what (what.Claim from n line) h = (refl, ((small from h.0).0, (decimal_solid n h.1, (decimal_solid line h.2, tt))))
+    of_what (what.Claim from n line) h =
+        (refl, ((small from h.0).0, (decimal_solid n h.1, (decimal_solid line h.2, tt))))
     of_what (what.Match number from n cap line) h = (
       refl,
       (

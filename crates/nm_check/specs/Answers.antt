@@ -11,11 +11,10 @@ use Rattle.nm_report.specs.declared.records.RunRecord.{RunRecord}
 use Rattle.nm_trace.specs.Traces.{IsTraceOf}
 use Rattle.nm_check.specs.declared.verdicts.Verdict.{Verdict}
 use Rattle.nm_check.specs.declared.verdicts.Verdict.TheVariants.{Holds}
-use Rattle.nm_check.specs.Checks.{IsChecked, sizes}
 use Rattle.nm_shell.specs.Inputs.{IsInput, read_of}
-use Rattle.nm_check.specs.declared.checked.checks.Checked.TheVariants as what
 use Rattle.nm_shell.specs.Done.{Ending, IsSaid, unread}
-use Rattle.nm_check.specs.Found.{IsFound, checked_of}
+use Rattle.nm_check.specs.Found.{IsFound, sizes, verdict_in}
+use Rattle.nm_check.specs.Judgements.{judged_as}
 use Rattle.nm_check.specs.declared.breaks.finding.Found.{Found}
 use Rattle.nm_check.specs.declared.breaks.finding.Found.TheVariants.{NoTrace, NoScript, BadTrace, Judged}
 use Rattle.nm_check.specs.Quotes.{quotes_of}
@@ -44,7 +43,7 @@ abbrev pub found_status : Found → ℕ
 found_status NoTrace = 9
 found_status (NoScript line kind) = 3
 found_status (BadTrace before line stop) = 9
-found_status (Judged before j run) = verdict_status j.verdict
+found_status (Judged before j run) = verdict_status (judged_as j)
 
 -- the status of an answer that was written
 abbrev pub status_of : Response → ℕ
@@ -76,12 +75,10 @@ pub record IsTraced (line : CommandLine) (bytes : List ℕ) : Type 0 where
 abbrev pub IsWritten : CommandLine → List ℕ → Type 0
 IsWritten line bytes = IsTraced line (read_of bytes)
 
--- It is what these bytes are, in the sizes of the words: what a check says of them, and where they break the
--- rule first. The trace of a run of the script holds.
+-- It is what these bytes are, in the sizes of the words. The trace of a run of the script holds.
 pub record IsFoundIn (line : CommandLine) (found : Found) (bytes : List ℕ) : Type 0 where
-  pub checked : IsChecked line.cells line.eager bytes (checked_of found)
-  pub placed : IsFound line.cells line.eager bytes found
-  pub holds : IsTraced line bytes → checked_of found ≡ what.Judged Holds
+  pub right : IsFound line.cells line.eager bytes found
+  pub holds : IsTraced line bytes → verdict_in found ≡ Some Holds
 
 -- .. of the bytes of a source where it tells them
 abbrev pub IsFoundOf : CommandLine → Option (List ℕ) → Found → Type 0

@@ -1,26 +1,26 @@
 -- What is found of a script and a trace in one text.
-use Rattle.std.specs.Prelude.{◌≡◌, ℕ, List}
+use Rattle.std.specs.Prelude.{◌≡◌, ℕ, List, Option, Some, None}
 use Rattle.nm_types.specs.declared.scripts.Line.{Line}
 use Rattle.nm_types.specs.Sizes.{Sizes}
 use Rattle.nm_script.specs.Rules.{IsFirstFault}
 use Rattle.nm_script.specs.Spelled.{IsTextOf}
 use Rattle.nm_trace.specs.Traces.{IsFirstBad, IsTraceOf}
-use Rattle.nm_check.specs.Checks.{sizes}
 use Rattle.nm_shell.specs.Inputs.{HasNoParts, IsInput}
-use Rattle.nm_check.specs.declared.checked.checks.Checked.{Checked}
-use Rattle.nm_check.specs.declared.checked.checks.Checked.TheVariants as checked
-use Rattle.nm_check.specs.Judgements.{IsJudgement}
+use Rattle.nm_check.specs.Judgements.{IsJudgement, judged_as}
 use Rattle.nm_check.specs.Lines.{Stands}
 use Rattle.nm_check.specs.Stops.{IsStop, lines_in}
+use Rattle.nm_check.specs.declared.verdicts.Verdict.{Verdict}
 use Rattle.nm_check.specs.declared.breaks.finding.Found.{Found}
 use Rattle.nm_check.specs.declared.breaks.finding.Found.TheVariants.{NoTrace, NoScript, BadTrace, Judged}
 
--- what `check` says of it
-abbrev pub checked_of : Found → Checked
-checked_of NoTrace = checked.NoTrace
-checked_of (NoScript line kind) = checked.NoScript line kind
-checked_of (BadTrace before line stop) = checked.BadTrace line
-checked_of (Judged before j run) = checked.Judged j.verdict
+-- the sizes of a run: so many ranks, cells of each, and this eager limit
+abbrev pub sizes : ℕ → ℕ → ℕ → Sizes
+sizes cells eager ranks = record { ranks = ranks; cells = cells; eager = eager }
+
+-- the verdict on a trace, if there is one
+abbrev pub verdict_in : Found → Option Verdict
+verdict_in (Judged before j run) = Some (judged_as j)
+verdict_in found = None
 
 -- behind so many lines, the trace is judged by the script's lines, and breaks the rule there first; or it is none
 abbrev pub IsTraceFound : Sizes → List Line → ℕ → List ℕ → Found → Type 0
@@ -28,7 +28,7 @@ IsTraceFound shape lines before rest (BadTrace front line stop) =
     (front ≡ before) × IsFirstBad shape rest line × IsStop shape rest line stop
 IsTraceFound shape lines before rest (Judged front j run) =
     (front ≡ before) × IsTraceOf shape rest run × IsJudgement (lines_in rest) lines run j
-    × Stands rest run j.verdict j.place j.why
+    × Stands rest run j
 IsTraceFound shape lines before rest _ = ⊥
 
 -- the lines before it are no script, or the trace is judged by it

@@ -1,11 +1,7 @@
 pub mod Against
 pub mod Answers
-pub mod CellCounts
-pub mod Checks
 pub mod Endings
-pub mod Evidences
 pub mod Found
-pub mod Incidents
 pub mod Judgements
 pub mod Lines
 pub mod Miscounts
@@ -18,10 +14,9 @@ pub mod Ranked
 pub mod Sentences
 pub mod Stops
 pub mod Texts
-pub mod VerdictBetween
 pub mod VerdictCalled
 pub mod VerdictCounts
 pub mod VerdictDues
-pub mod VerdictIncidents
+pub mod VerdictEvents
 pub mod VerdictTexts
 pub mod Verdicts

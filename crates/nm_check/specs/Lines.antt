@@ -8,12 +8,9 @@ use Rattle.nm_report.specs.declared.records.RunRecord.{RunRecord}
 use Rattle.nm_report.specs.Ends.{ends_of}
 use Rattle.nm_report.specs.Events.{event_words}
 use Rattle.nm_trace.specs.Notes.{cells_words, end_word, pair_words}
-use Rattle.nm_check_ranks.specs.declared.rest.clauses.RestClause.TheVariants as rest
-use Rattle.nm_check.specs.declared.verdicts.Verdict.{Verdict}
-use Rattle.nm_check.specs.declared.verdicts.Verdict.TheVariants.{Rest, Home, Done}
-use Rattle.nm_check.specs.declared.breaks.evidence.Evidence.{Evidence}
-use Rattle.nm_check.specs.declared.breaks.places.Place.{Place}
-use Rattle.nm_check.specs.declared.breaks.places.Place.TheVariants.{Event as EventAt, Count, LastLine}
+use Rattle.nm_check.specs.declared.breaks.judgements.Judgement.{Judgement}
+use Rattle.nm_check.specs.declared.breaks.judgements.Judgement.TheVariants.{Own, Carried, Left, Counted, Home, Done}
+use Rattle.nm_check.specs.declared.breaks.places.EventLine.{EventLine}
 
 -- the line of an event, without its line feed
 abbrev pub event_text : ℕ → Event → List ℕ
@@ -24,29 +21,21 @@ event_text rank event =
 abbrev pub IsLineAt : List ℕ → ℕ → List ℕ → Type 0
 IsLineAt bytes line text = (before : ℕ) × (line ≡ before + 1) × (slice_get (lines_of bytes) before ≡ Some text)
 
--- the line that is told is the one on which the event of the place stands
-abbrev pub StandsAt : List ℕ → RunRecord → Place → Type 0
-StandsAt bytes run (EventAt rank at line command) =
-    IsSomeAnd (slice_get (history_of (ends_of run.ranks) rank) at) (λ e. IsLineAt bytes line (event_text rank e))
-StandsAt bytes run _ = Unit {0}
+-- an event stands on its line
+abbrev pub EventStands : List ℕ → RunRecord → EventLine → Type 0
+EventStands bytes run event =
+    IsSomeAnd (slice_get (history_of (ends_of run.ranks) event.spot.rank) event.spot.at)
+    (λ e. IsLineAt bytes event.line (event_text event.spot.rank e))
 
--- an event of some rank stands on this line
-abbrev pub IsEventLine : List ℕ → RunRecord → ℕ → Type 0
-IsEventLine bytes run line =
-    (y : ℕ) × (k : ℕ) × IsSomeAnd (slice_get (history_of (ends_of run.ranks) y) k)
-    (λ e. IsLineAt bytes line (event_text y e))
-
--- The line that is told of a count of packets is the one on which it stands, if there is one; that of the cells the
--- one on which they stand, and that of the end the one on which it does.
-abbrev pub LineStands : List ℕ → RunRecord → Verdict → Place → Type 0
-LineStands bytes run (Rest rest.Counts) (Count k line) =
-    IfSome (slice_get run.pairs k) (λ pair. IsLineAt bytes line (join_with_byte 32 (pair_words pair)))
-LineStands bytes run Home (LastLine line) = IsLineAt bytes line (join_with_byte 32 (cells_words run.cells))
-LineStands bytes run Done (LastLine line) = IsLineAt bytes line (end_word run.done)
-LineStands bytes run verdict place = Unit {0}
-
--- each line that is told is one of these bytes: that of the place, and that of the other rank
-pub record Stands (bytes : List ℕ) (run : RunRecord) (verdict : Verdict) (place : Place) (e : Evidence) : Type 0 where
-  pub event : StandsAt bytes run place
-  pub line : LineStands bytes run verdict place
-  pub other : IfSome e.other (λ held. IsEventLine bytes run held.line)
+-- Each line that is told is one of these bytes: that of an event and of the other rank's event, that of a count of
+-- packets, if one stands there, that of the cells, and that of the end.
+abbrev pub Stands : List ℕ → RunRecord → Judgement → Type 0
+Stands bytes run (Own clause rank first event) = IfSome event (EventStands bytes run)
+Stands bytes run (Carried clause from to event other against) =
+    EventStands bytes run event × IfSome other (EventStands bytes run)
+Stands bytes run (Left rule event) = EventStands bytes run event
+Stands bytes run (Counted line miscount) =
+    IfSome miscount.found (λ pair. IsLineAt bytes line (join_with_byte 32 (pair_words pair)))
+Stands bytes run (Home line cells) = IsLineAt bytes line (join_with_byte 32 (cells_words run.cells))
+Stands bytes run (Done line) = IsLineAt bytes line (end_word run.done)
+Stands bytes run _ = Unit {0}

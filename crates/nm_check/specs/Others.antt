@@ -10,15 +10,10 @@ use Rattle.nm_history.specs.declared.plain.Pair.{Pair}
 use Rattle.nm_history.specs.Delivery.{asked_pair}
 use Rattle.nm_history.specs.Happens.{is_recall, is_send, is_withdraw}
 use Rattle.nm_history.specs.Quiescence.{Ended, history_of}
-use Rattle.nm_report.specs.declared.records.RunRecord.{RunRecord}
-use Rattle.nm_report.specs.Ends.{ends_of}
 use Rattle.nm_check_rank.specs.Takes.{IsTakenAt}
-use Rattle.nm_check.specs.declared.verdicts.Verdict.{Verdict}
-use Rattle.nm_check.specs.declared.verdicts.Verdict.TheVariants.{Carried}
-use Rattle.nm_check.specs.Places.{line_of}
-use Rattle.nm_check.specs.declared.breaks.others.Held.{Held}
-use Rattle.nm_check.specs.declared.breaks.places.Place.{Place}
-use Rattle.nm_check.specs.declared.breaks.places.Place.TheVariants.{Event as EventAt}
+use Rattle.nm_check_ranks.specs.declared.firsts.Spot.{Spot}
+use Rattle.nm_check.specs.Places.{told_at}
+use Rattle.nm_check.specs.declared.breaks.places.EventLine.{EventLine}
 
 -- message n of this rank was withdrawn, done or late
 abbrev pub is_withdrawal : ℕ → ℕ → Happened → Bool
@@ -33,15 +28,15 @@ is_mate x (Undone to n done) other = is_withdrawal x n other
 is_mate x what other = false
 
 -- the event of rank y at a place, with its line of the trace
-abbrev pub held_at : List Ended → ℕ → ℕ → Held
-held_at ranks y k = record { rank = y; at = k; line = line_of ranks y k }
+abbrev pub held_at : List Ended → ℕ → ℕ → EventLine
+held_at ranks y k = told_at ranks (record { rank = y; at = k })
 
 -- the first event of rank y that passes a test
-abbrev pub first_held : List Ended → ℕ → (Happened → Bool) → Option Held
+abbrev pub first_held : List Ended → ℕ → (Happened → Bool) → Option EventLine
 first_held ranks y test = option_map (held_at ranks y) (position (λ e. test e.what) (history_of ranks y))
 
 -- it is that by which a receive of rank y took message n of rank x, if one did
-abbrev pub IsTakenBy : List Ended → ℕ → ℕ → ℕ → Option Held → Type 0
+abbrev pub IsTakenBy : List Ended → ℕ → ℕ → ℕ → Option EventLine → Type 0
 IsTakenBy ranks x n y other =
     (t : Option ℕ) × IsTakenAt (history_of ranks y) x n t × (other ≡ option_map (held_at ranks y) t)
 
@@ -51,30 +46,21 @@ pair_shown commands before (Ran line answer) = option_and_then (asked_pair comma
 pair_shown commands before what = None
 
 -- the send of the message that a pair of rank x has
-abbrev pub sent_held : List Ended → ℕ → Option Pair → Option Held
+abbrev pub sent_held : List Ended → ℕ → Option Pair → Option EventLine
 sent_held ranks x pair =
     option_and_then (λ p. first_held ranks p.arrival.env.from (is_send x p.arrival.n)) pair
 
 -- The event of rank x with this before it is held against this one of rank y: a message that left, against the
 -- event by which a receive took it, and an answer, against the send of the message that it shows.
-abbrev pub IsAgainst : List Line → List Ended → ℕ → List Event → Happened → ℕ → Option Held → Type 0
-IsAgainst lines ranks x before (Out to n) y other = IsTakenBy ranks x n y other
-IsAgainst lines ranks x before (Ran line answer) y other =
+abbrev pub IsHeldAgainst : List Line → List Ended → ℕ → List Event → Happened → ℕ → Option EventLine → Type 0
+IsHeldAgainst lines ranks x before (Out to n) y other = IsTakenBy ranks x n y other
+IsHeldAgainst lines ranks x before (Ran line answer) y other =
     other ≡ sent_held ranks x (pair_shown (commands_of x lines) before (Ran line answer))
-IsAgainst lines ranks x before what y other = other ≡ first_held ranks y (is_mate x what)
+IsHeldAgainst lines ranks x before what y other = other ≡ first_held ranks y (is_mate x what)
 
--- .. of the event of rank x at a place, where x is rank i or rank j
-abbrev pub IsOtherEvent : List Line → List Ended → ℕ → ℕ → ℕ → ℕ → Option Held → Type 0
-IsOtherEvent lines ranks i j x at other =
-    MatchOption (slice_get (history_of ranks x) at) (other ≡ None)
-    (λ e. IsAgainst lines ranks x (take at (history_of ranks x)) e.what (if x == i then j else i) other)
-
--- .. of a place at which the messages from rank i to rank j break a rule
-abbrev pub IsCarriedOther : List Line → List Ended → ℕ → ℕ → Place → Option Held → Type 0
-IsCarriedOther lines ranks i j (EventAt x at line command) other = IsOtherEvent lines ranks i j x at other
-IsCarriedOther lines ranks i j place other = other ≡ None
-
--- .. of a verdict's place
-abbrev pub IsOther : List Line → RunRecord → Verdict → Place → Option Held → Type 0
-IsOther lines run (Carried clause i j) place other = IsCarriedOther lines (ends_of run.ranks) i j place other
-IsOther lines run verdict place other = other ≡ None
+-- .. of the event at a place of rank i or rank j
+abbrev pub IsOtherEvent : List Line → List Ended → ℕ → ℕ → Spot → Option EventLine → Type 0
+IsOtherEvent lines ranks i j spot other =
+    MatchOption (slice_get (history_of ranks spot.rank) spot.at) (other ≡ None)
+    (λ e. IsHeldAgainst lines ranks spot.rank (take spot.at (history_of ranks spot.rank)) e.what
+    (if spot.rank == i then j else i) other)

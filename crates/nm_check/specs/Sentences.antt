@@ -10,6 +10,8 @@ use Rattle.nm_check_ranks.specs.declared.clauses.CarriedClause.{CarriedClause}
 use Rattle.nm_check_ranks.specs.declared.clauses.CarriedClause.TheVariants as carried
 use Rattle.nm_check_ranks.specs.declared.rest.clauses.RestClause.{RestClause}
 use Rattle.nm_check_ranks.specs.declared.rest.clauses.RestClause.TheVariants as rest
+use Rattle.nm_check_ranks.specs.declared.rest.firsts.EventRule.{EventRule}
+use Rattle.nm_check_ranks.specs.declared.rest.firsts.EventRule.TheVariants as left
 
 -- the rule of a rank's own run
 abbrev pub own_words : OwnClause → List ℕ
@@ -57,19 +59,15 @@ rest_words rest.Counts =
     codes "the counts of packets are those that the events call for"
 
 -- what is left of an event in the end
-abbrev pub left_words : RestClause → List ℕ
-left_words rest.Arrived =
+abbrev pub left_words : EventRule → List ℕ
+left_words left.Arrived =
     codes "it never came"
-left_words rest.Eager =
+left_words left.Eager =
     codes "it never left, or was never whole"
-left_words rest.Asked =
+left_words left.Asked =
     codes "a receive took it, and it never left or was never whole; or it is claimed alone, and did"
-left_words rest.Recalls =
+left_words left.Recalls =
     codes "it was never answered"
-left_words rest.Waits =
-    codes ""
-left_words rest.Counts =
-    codes ""
 
 -- why a line is none of a script
 abbrev pub kind_words : Kind → List ℕ
@@ -106,5 +104,7 @@ stop_words stop.Number =
     codes "a number in it is out of range"
 stop_words stop.Event =
     codes "there is no such event"
+stop_words stop.Report =
+    codes "the report of the events above does not go on so"
 stop_words stop.Line =
     codes "no trace begins so"

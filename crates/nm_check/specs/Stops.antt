@@ -2,7 +2,7 @@
 use Rattle.std.specs.Prelude.{◌≡◌, ℕ, ◌-◌, ◌<◌, ◌≤◌, ◌==◌, ◌&&◌, Bool, true, false, not, None, IsSomeAnd}
 use Rattle.std.specs.Prelude.{if◌then◌else◌, List, [], ◌∷◌, ◌++◌, codes, filter, length, slice_get}
 use Rattle.std.specs.Char.{is_ascii_digit}
-use Rattle.std.specs.List.{list_any}
+use Rattle.std.specs.List.{list_all, list_any}
 use Rattle.std.specs.Str.{bytes_eq}
 use Rattle.nm_types.specs.Sizes.{Sizes}
 use Rattle.nm_script.specs.Lines.{lines_of, words_of}
@@ -34,17 +34,30 @@ abbrev pub is_odd_event : List (List ℕ) → Bool
 is_odd_event (at ∷ rank ∷ stamp ∷ name ∷ words) = bytes_eq at (codes "@") && not (is_event_name name)
 is_odd_event words = false
 
+-- the word is a number
+abbrev pub is_number : List ℕ → Bool
+is_number word = list_all is_ascii_digit word
+
+-- the words of a line of a report: a rank, a line and an answer
+abbrev pub is_report_line : List (List ℕ) → Bool
+is_report_line (rank ∷ line ∷ answer ∷ words) = is_number rank && is_number line
+is_report_line words = false
+
 -- no trace of this shape begins with this line, nor with other numbers in it
 abbrev pub IsStray : Sizes → List ℕ → Type 0
 IsStray shape line = (¬ StartsTrace shape line) × (¬ StartsTrace shape (zeroed false line))
 
 -- What stops a text at this line: it begins some trace, but stands behind lines that it can't follow; it begins
--- one with other numbers; it names an event that there isn't; or it is another one that begins none.
+-- one with other numbers; it names an event that there isn't; it is one of a report, which the events before it
+-- do not call for; or it is another one that begins none.
 abbrev pub IsLineStop : Sizes → List ℕ → Stop → Type 0
 IsLineStop shape line stop.Order = StartsTrace shape line
 IsLineStop shape line stop.Number = (¬ StartsTrace shape line) × StartsTrace shape (zeroed false line)
 IsLineStop shape line stop.Event = IsStray shape line × (is_odd_event (words_of line) ≡ true)
-IsLineStop shape line stop.Line = IsStray shape line × (is_odd_event (words_of line) ≡ false)
+IsLineStop shape line stop.Report =
+    IsStray shape line × (is_odd_event (words_of line) ≡ false) × (is_report_line (words_of line) ≡ true)
+IsLineStop shape line stop.Line =
+    IsStray shape line × (is_odd_event (words_of line) ≡ false) × (is_report_line (words_of line) ≡ false)
 IsLineStop shape line _ = ⊥
 
 -- What stops a text at the line of this number, counted from 1: there is none; it has no line feed; or it is the

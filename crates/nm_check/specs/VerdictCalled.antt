@@ -1,5 +1,7 @@
 -- What is said of what was called for at a claim, at a start and at the answer to a cancel.
 use Rattle.std.specs.Prelude.{ℕ, List, ◌++◌, Option, Some, None, codes, decimal}
+use Rattle.nm_types.specs.declared.messages.How.{How}
+use Rattle.nm_types.specs.declared.messages.How.TheVariants as how
 use Rattle.nm_types.specs.Text.{peer_word, tag_word}
 use Rattle.nm_lookups.specs.declared.asked.requests.Request.{Request}
 use Rattle.nm_lookups.specs.declared.asked.requests.Request.TheVariants.{Sending, Receiving}
@@ -11,7 +13,7 @@ use Rattle.nm_check_rank.specs.declared.paired.arguments.Sort.{Sort}
 use Rattle.nm_check_rank.specs.declared.paired.arguments.Sort.TheVariants as sort
 use Rattle.nm_check_rank.specs.declared.paired.manies.Many.{Many}
 use Rattle.nm_check_rank.specs.declared.paired.manies.Many.TheVariants as many
-use Rattle.nm_check.specs.VerdictIncidents.{from_words, receive_words, to_words}
+use Rattle.nm_check.specs.VerdictEvents.{from_words, receive_words, to_words}
 
 -- how many there are to be
 abbrev pub many_word : Many → List ℕ
@@ -59,6 +61,11 @@ sort_word sort.Send = codes "a send"
 sort_word sort.Receive = codes "a receive"
 sort_word sort.Matched = codes "a receive of a claimed message"
 
+-- how a message is sent, as a trace has it
+abbrev pub way_word : How → List ℕ
+way_word how.Eager = codes "`eager`"
+way_word how.Ask = codes "`ask`"
+
 -- the name of an argument
 abbrev pub name_word : Argument → List ℕ
 name_word (arg.Sort s) = codes "it"
@@ -69,6 +76,7 @@ name_word (arg.Context ctx) = codes "its context"
 name_word (arg.Length len) = codes "its length"
 name_word (arg.Capacity cap) = codes "its capacity"
 name_word (arg.Message message) = codes "its message"
+name_word (arg.Way its_how) = codes "it"
 name_word (arg.Line line) = codes "its command"
 
 -- .. and its value
@@ -81,6 +89,7 @@ value_words (arg.Context ctx) = decimal ctx
 value_words (arg.Length len) = decimal len
 value_words (arg.Capacity cap) = decimal cap
 value_words (arg.Message message) = from_words message.rank message.n
+value_words (arg.Way its_how) = way_word its_how
 value_words (arg.Line line) = codes "that of line " ++ decimal line
 
 -- an argument that was called for, and another one that was found

@@ -1,7 +1,6 @@
 -- The words of counts of packets.
 use Rattle.std.specs.Prelude.{ℕ, List, ◌++◌, Option, Some, None, codes, decimal}
 use Rattle.nm_report.specs.declared.pairs.PairCount.{PairCount}
-use Rattle.nm_check.specs.declared.breaks.counts.Miscount.{Miscount}
 
 -- a count as a trace has it
 abbrev pub pair_text : PairCount → List ℕ
@@ -23,8 +22,3 @@ missing_words None = codes ""
 abbrev pub counts_words : Option PairCount → Option PairCount → List ℕ
 counts_words called (Some found) = found_words called found
 counts_words called None = missing_words called
-
--- .. if they are told
-abbrev pub miscount_words : Option Miscount → List ℕ
-miscount_words (Some m) = counts_words m.called m.found
-miscount_words None = codes ""

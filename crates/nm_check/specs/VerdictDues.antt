@@ -1,5 +1,6 @@
 -- What is said of what was called for, and of what was found.
-use Rattle.std.specs.Prelude.{ℕ, Bool, if◌then◌else◌, List, ◌++◌, Option, Some, None, codes, decimal}
+use Rattle.std.specs.Prelude.{ℕ, Bool, if◌then◌else◌, List, [], ◌∷◌, ◌++◌, Option, Some, None, codes, decimal}
+use Rattle.hex.specs.Hex.{encode_lower}
 use Rattle.nm_check_rank.specs.declared.paired.told.Told.{Told}
 use Rattle.nm_check_rank.specs.declared.paired.told.Told.TheVariants as told
 use Rattle.nm_check_rank.specs.declared.paired.objections.Objection.{Objection}
@@ -74,6 +75,20 @@ eager_words limit len asks =
     codes "--eager does not fit: by " ++ (decimal limit ++ (codes " a send of " ++ (decimal len
     ++ (if asks then codes " bytes is eager, and this one is not" else codes " bytes is not eager, and this one is"))))
 
+-- the value of a byte, if there is one
+abbrev pub value_words : Option ℕ → List ℕ
+value_words (Some byte) = codes "x" ++ encode_lower (byte ∷ [])
+value_words None = codes "missing"
+
+-- a byte by its place
+abbrev pub place_words : ℕ → List ℕ
+place_words at = codes "byte " ++ (decimal at ++ codes " of its body, counted from 0,")
+
+-- a byte of the body that was to be shown, and the one that was
+abbrev pub byte_words : ℕ → Option ℕ → Option ℕ → List ℕ
+byte_words at called found =
+    place_words at ++ (codes " is to be " ++ (value_words called ++ (codes ", and is " ++ value_words found)))
+
 -- what was called for, and what was found
 abbrev pub some_words : Due → List ℕ
 some_words (due.Command next) = next_words next
@@ -88,6 +103,7 @@ some_words (due.Claim called found) = claim_words called found
 some_words (due.Named called found) = named_words called found
 some_words (due.Argument mismatch) = mismatch_words mismatch
 some_words (due.Of called found) = of_words called found
+some_words (due.Byte at called found) = byte_words at called found
 
 -- .. if it is told
 abbrev pub due_words : Option Due → List ℕ

@@ -1,7 +1,7 @@
 //! Whether a given record is of a run of a script, and if not, the first rule that it breaks.
 //!
-//! `checked` judges a script and a trace in one text. `breaks` finds where a trace first breaks a rule, and
-//! `verdict` puts it in a sentence. `written` has laws: the trace of a run is read back.
+//! `breaks` judges a script and a trace in one text, and finds where the trace first breaks a rule. `verdict`
+//! puts it in a sentence, and `texts` in a line. `written` has laws: the trace of a run is read back.
 //!
 //! # What a contract sees
 //! `specs/Verdicts.antt` says what each verdict means, by the definitions of a run in `nm_history` and
@@ -18,10 +18,10 @@
 #![tactic(auto)]
 
 pub mod breaks;
-pub mod checked;
 mod ends;
 mod judging;
 mod ranking;
+pub mod texts;
 pub mod verdict;
 mod verdicts;
 pub mod written;

@@ -9,10 +9,9 @@
 //! line of them is told. `specs/VerdictTexts.antt` has the sentence of each finding, `specs/Sentences.antt`
 //! the words of each rule, `specs/VerdictDues.antt` those of what was called for
 //! (`specs/VerdictCalled.antt` at claims, starts and cancels), `specs/VerdictCounts.antt` those of counts
-//! of packets, and `specs/VerdictIncidents.antt` those of what happened.
+//! of packets, and `specs/VerdictEvents.antt` those of what happened.
 //! # What is proved
-//! - The program says `holds` exactly where `nm_check::checked::check` does, the rule that it names is the
-//!   same, and the place is the one of `nm_check::breaks`. The statuses are those of `check`: 0 where the
+//! - What is said is of what `nm_check::breaks` finds, as of `nemesis check`. The statuses are 0 where the
 //!   trace holds, 8 where it breaks a rule, 3 and 9 where there is no script or no trace, 2 where
 //!   the words are not taken. They yield to 4, 5 and 6.
 //! - The source is read to its end, or its first 67,108,865 bytes are, and more is taken at no
@@ -22,15 +21,15 @@
 //! That it succeeds with ample memory.
 
 mod answers;
-mod between;
 mod called;
 mod counts;
 mod dues;
-mod incidents;
+mod events;
 pub mod laws;
 mod quotes;
 mod sentences;
 mod texts;
-mod verdicts;
+mod top;
 
-pub use verdicts::{asked, verdict};
+pub use answers::found_status;
+pub use top::{asked, verdict};

@@ -14,7 +14,7 @@
 
 mod lines;
 mod ranges;
-mod written;
+mod traces;
 
 pub use lines::traces_stand_behind_scripts;
-pub use written::traces_are_read;
+pub use traces::traces_are_read;

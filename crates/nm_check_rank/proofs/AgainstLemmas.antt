@@ -93,7 +93,8 @@ module _ (before : List Event) (from n line : ℕ) where
 
 pub claim_none : (commands : List Numbered) (before : List Event) (w : Happened) → ClaimAt commands before w →
     claim_due commands before w ≡ None
-claim_none commands before (what.Claim from n line) right = probe_none before from n line (command_at commands line) right
+claim_none commands before (what.Claim from n line) right = probe_none before from n line
+    (command_at commands line) right
 claim_none commands before (what.Ran line answer) right =
     let called = option_map_or is_matched_probe (command_at commands line) false && is_seen answer in
     ap (λ (xs : List ℕ). claims_due (cond called (line ∷ []) []) xs) right ∙ same_claims line called
@@ -116,7 +117,8 @@ nothing_none : (ws : List Happened) → ws ≡ [] → many_due many.Nothing (man
 nothing_none ws is = ap (λ (xs : List Happened). many_due many.Nothing (many_of xs)) is
 
 -- the cancels since the answer before
-module _ (commands : List Numbered) (before : List Event) (each : AtEach (λ b e. CancelAt commands b e.what) before) where
+module _ (commands : List Numbered) (before : List Event)
+    (each : AtEach (λ b e. CancelAt commands b e.what) before) where
   receive_none : (number : ℕ) (paired : Bool) (ws : List Happened) → ws ≡ what.Cancel number (not paired) ∷ [] →
       receive_cancels number paired ws ≡ None
   receive_none number paired ws is =

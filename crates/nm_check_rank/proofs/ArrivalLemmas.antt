@@ -2,7 +2,7 @@
 use Rattle.std.proofs.Common.{◌≡◌, ℕ, ◌<◌, ◌≤◌, ◌==◌, ◌&&◌, Bool, true, false, cond, Option, Some, None, List, []}
 use Rattle.std.proofs.Common.{◌∷◌, take}
 use Rattle.std.proofs.Common.{refl, sym, ◌∙◌, ap}
-use Rattle.std.specs.Prelude.{IsTrue, filter_map, is_some, option_and_then, option_map, position}
+use Rattle.std.specs.Prelude.{IsTrue, filter_map, is_some, option_and_then, position}
 use Rattle.std.specs.List.{cons_option, find, slice_get}
 use Rattle.std.specs.Option.{option_map_or}
 use Rattle.std.proofs.lemmas.Bool.{false≢true}
@@ -10,11 +10,8 @@ use Rattle.nm_types.specs.declared.messages.Arrival.{Arrival}
 use Rattle.nm_history.specs.declared.events.Event.{Event}
 use Rattle.nm_history.specs.declared.events.Happened.{Happened}
 use Rattle.nm_history.specs.declared.events.Happened.TheVariants as happening
-use Rattle.nm_history.specs.Answers.{Message as Claimed}
 use Rattle.nm_history.specs.Happens.{is_arrival}
 use Rattle.nm_history.specs.Sends.{arrival_of, message_of}
-use Rattle.nm_match.specs.declared.names.Message.{Message}
-use Rattle.nm_lookups.specs.AskedFor.{message_meant}
 use Rattle.nm_lookups.proofs.GivenLemmas.{given_before, given_later, given_never}
 use Rattle.nm_lookups.proofs.RequestLemmas.{an_event}
 
@@ -89,10 +86,3 @@ module _ (h : List Event) (k from n : ℕ) where
       given_before given h k an_event t r (first_same (Some t) first) low
       (λ e there some. answers e there ∙ passed_is (λ (e : Event). arrival_of e.what) Names (arrival_of e.what) some)
       ∙ found
-
--- the arrival of a message that was claimed, or of none
-pub claimed_same : (h : List Event) (m : Message) (o : Option Claimed) (r : Option Arrival) →
-    r ≡ message_of h m.rank m.n →
-    option_map message_meant (Some m) ≡ o → r ≡ option_and_then (λ message. message_of h message.from message.n) o
-claimed_same h m o r is same = is ∙ ap (λ (o : Option Claimed). option_and_then
-    (λ message. message_of h message.from message.n) o) same

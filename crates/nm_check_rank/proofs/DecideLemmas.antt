@@ -1,8 +1,7 @@
 -- Tests that tell exactly whether something holds.
-use Rattle.std.proofs.Common.{◌≡◌, ℕ, ◌==◌, ◌&&◌, Bool, true, false, refl, sym, ◌∙◌, subst, arith}
+use Rattle.std.proofs.Common.{◌≡◌, ℕ, ◌==◌, ◌&&◌, Bool, true, false, refl, sym, ◌∙◌, arith}
 use Rattle.std.proofs.lemmas.Bool.{false≢true}
 use Rattle.std.proofs.lemmas.Bool.Decides.{nat_tests}
-use Rattle.std.specs.Prelude.{IsTrue}
 use Rattle.nm_lookups.specs.Deciding.{Decides}
 
 -- what tells of one tells of another that holds where it does
@@ -16,15 +15,6 @@ decides_both P Q true true p q = (p, q)
 decides_both P Q true false p not = λ both. not both.1
 decides_both P Q false b not q = λ both. not both.0
 
--- a test is told by itself
-pub decides_true : (b : Bool) → Decides b (IsTrue b)
-decides_true true = refl
-decides_true false = false≢true
-
-pub decides_false : (b : Bool) → Decides b (b ≡ true)
-decides_false true = refl
-decides_false false = false≢true
-
 -- equal numbers
 pub decides_nat : (m n : ℕ) → Decides (m == n) (m ≡ n)
 decides_nat m n = by_test (m == n) refl
@@ -32,7 +22,3 @@ decides_nat m n = by_test (m == n) refl
     by_test : (b : Bool) → (m == n) ≡ b → Decides b (m ≡ n)
     by_test true is = let same : m ≡ n = grind (arith, nat_tests) in same
     by_test false is = λ same. let equal : (m == n) ≡ true = grind (arith, nat_tests) in false≢true (sym is ∙ equal)
-
--- a test that is the same
-pub decides_as : (P : Type 0) (a b : Bool) → a ≡ b → Decides b P → Decides a P
-decides_as P a b same right = subst (λ (x : Bool). Decides x P) (sym same) right

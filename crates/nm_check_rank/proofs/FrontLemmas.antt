@@ -49,7 +49,8 @@ front_breach shape commands at h m k c d inside kept breaks = by_event (slice_ge
         )
 
 -- an event that breaks no rule but the ones on stamps and on numbers
-module _ (shape : Sizes) (commands : List Numbered) (at : ℕ) (h : List Event) (k : ℕ) (e : Event) (inside : k < length h)
+module _ (shape : Sizes) (commands : List Numbered) (at : ℕ) (h : List Event) (k : ℕ) (e : Event)
+    (inside : k < length h)
     (is : e ≡ get_or h k e) (kept : KeepsAll shape commands (take k h)) where
   abbrev Rule : OwnClause → Type 0
   Rule b = RuleAt shape commands b (take k h) e
@@ -84,7 +85,8 @@ module _ (shape : Sizes) (commands : List Numbered) (at : ℕ) (h : List Event) 
   some_due c None some breaks = absurd (false≢true some)
   some_due c (Some d) some breaks = breaks d refl
 
-  pub number_breach : (o : Option Due) → StampAt (take k h) e.stamp → BreaksFirstAt (Always (NumberAt shape.ranks)) h k →
+  pub number_breach : (o : Option Due) → StampAt (take k h) e.stamp →
+      BreaksFirstAt (Always (NumberAt shape.ranks)) h k →
       IsOwnDue shape commands own.Numbers (take k h) e o → IsBreachAt shape commands at h own.Numbers o (At k)
   number_breach o stamp first told =
       let broken = number_broken first in

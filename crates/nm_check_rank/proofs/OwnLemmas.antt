@@ -110,7 +110,8 @@ module _ (commands : List Numbered) where
       let n = length (ran_lines h) in
       let lines : ran_lines (h ++ e ∷ []) ≡ ran_lines h ++ line ∷ [] = lines_more h e (Some line) (ap ran_of is) in
       let inside : n < length own_lines = slice_get_within own_lines n line next.0 in
-      let count : length (ran_lines (h ++ e ∷ [])) ≡ n + 1 = ap length lines ∙ length-append (ran_lines h) (line ∷ []) in
+      let count : length (ran_lines (h ++ e ∷ [])) ≡ n + 1 = ap length lines ∙ length-append (ran_lines h)
+      (line ∷ []) in
       let same : suc n ≡ length (ran_lines (h ++ e ∷ [])) = omega (arith, count) in (
         omega (arith, count, inside),
         lines ∙ ap (λ (ls : List ℕ). ls ++ line ∷ []) front.1 ∙ sym (take_more own_lines n line next.0)
@@ -120,7 +121,8 @@ module _ (commands : List Numbered) where
 
   fronts : (h : List Event) → AtEach Next h → Front h
   fronts h = by_pushes (λ g. AtEach Next g → Front g)
-      (λ g e before each. front_step g e e.what refl (before (AtEach-front Next g e each)) (AtEach-split Next g e [] each))
+      (λ g e before each. front_step g e e.what refl (before (AtEach-front Next g e each))
+      (AtEach-split Next g e [] each))
       (λ each. (omega arith, refl)) h
 
   pub answers_of : (h : List Event) → AtEach Next h → Answers commands (length (ran_lines h)) h
@@ -147,7 +149,8 @@ module _ (commands : List Numbered) where
       sym (take-append-drop n own_lines) ∙ ap (λ (ls : List ℕ). ls ++ drop n own_lines) (sym all)
       ∙ append_assoc (ran_lines h) (line ∷ []) (drop n own_lines) in
       let next : slice_get own_lines m ≡ Some line =
-      subst (λ (ls : List ℕ). slice_get ls m ≡ Some line) (sym whole) (get_behind (ran_lines h) (drop n own_lines) line) in
+      subst (λ (ls : List ℕ). slice_get ls m ≡ Some line) (sym whole)
+      (get_behind (ran_lines h) (drop n own_lines) line) in
       let inside : m < length own_lines = slice_get_within own_lines m line next in
       let front : ran_lines h ≡ take m own_lines =
       sym (ap (λ (ls : List ℕ). take m ls) whole ∙ take-append_seam (ran_lines h) (line ∷ drop n own_lines)) in

@@ -73,5 +73,6 @@ IsBreachAt shape commands at h c due (At k) =
 IsBreachAt shape commands at h c due Behind =
     KeepsAll shape commands h × IsFirstBroken (λ d. KeepsInTheEnd at d h) own_order c × (due ≡ None)
 
+-- .. with this rule, this place and what stands against it
 abbrev pub IsBreach : Sizes → List Numbered → ℕ → List Event → Breach → Type 0
 IsBreach shape commands at h b = IsBreachAt shape commands at h b.clause b.due b.place

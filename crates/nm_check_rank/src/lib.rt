@@ -18,6 +18,7 @@
 
 pub mod breaks;
 pub mod clauses;
+pub mod hows;
 pub mod numbers;
 pub mod paired;
 pub mod stamps;

@@ -1,9 +1,9 @@
 -- What the answers of a rank show, by the sender of the message.
-use Rattle.std.proofs.Common.{◌≡◌, ℕ, ◌<◌, ◌==◌, Bool, cond, Option, Some, None, List, length, get_or, zero-add, refl}
-use Rattle.std.proofs.Common.{sym, ◌∙◌, ap, subst, arith}
-use Rattle.std.specs.Prelude.{IfSome, IsSomeAnd, option_and_then}
+use Rattle.std.proofs.Common.{◌≡◌, ℕ, ◌<◌, ◌==◌, Bool, not, cond, Option, Some, None, List, length, get_or, zero-add, refl}
+use Rattle.std.proofs.Common.{sym, ◌∙◌, ap, subst}
+use Rattle.std.specs.Prelude.{IfSome, IsSomeAnd, is_some, option_and_then}
 use Rattle.std.specs.List.{slice_get}
-use Rattle.std.proofs.lemmas.List.{get_or_default, length-map, same_lists}
+use Rattle.std.proofs.lemmas.List.{length-map}
 use Rattle.std.proofs.lemmas.List.FromFn.{get_or-map-range_with_len, length-range_with_len}
 use Rattle.std.proofs.lemmas.Option.{slice_get-get_or}
 use Rattle.std.specs.List.{range_with_len}
@@ -20,6 +20,10 @@ use Rattle.nm_history.specs.declared.plain.Pair.{Pair}
 use Rattle.nm_history.specs.Delivery.{BodyAt, ShowsBytes, asked_pair}
 use Rattle.nm_history.specs.Sends.{sends, sent_bytes}
 use Rattle.nm_lookups.specs.Deciding.{Decides}
+use Rattle.nm_check_rank.specs.declared.paired.dues.Due.{Due}
+use Rattle.nm_check_rank.specs.declared.paired.dues.Due.TheVariants as due
+use Rattle.nm_check_rank.proofs.DifferLemmas.{differ_not}
+use Rattle.nm_check_ranks.specs.Bytes.{IsFirstOtherByte}
 use Rattle.nm_check_ranks.specs.Marked.{Names}
 use Rattle.nm_check_ranks.proofs.MarkLemmas.{names_one, not_asked, on_itself}
 
@@ -84,11 +88,9 @@ generated_length len = length-map (range_with_len 0 len) generated_byte ∙ leng
 pub generated_at : (len i : ℕ) → i < len → get_or (bytes_of (Gen len)) i 0 ≡ generated_byte i
 generated_at len i inside = get_or-map-range_with_len generated_byte 0 len i i 0 inside (zero-add i)
 
--- so many bytes that are each the one of its place
-pub are_all_generated : (len : ℕ) (bytes : List ℕ) → length bytes ≡ len →
-    ((i : ℕ) → i < length bytes → get_or bytes i 0 ≡ generated_byte i) →
-    bytes ≡ bytes_of (Gen len)
-are_all_generated len bytes many each =
-    same_lists bytes (bytes_of (Gen len)) (many ∙ sym (generated_length len))
-    (λ k d inside. get_or_default bytes k d 0 inside ∙ each k inside ∙ sym (generated_at len k (omega (arith, many)))
-    ∙ get_or_default (bytes_of (Gen len)) k 0 d (omega (arith, many, generated_length len)))
+-- whether a first byte is another one decides whether they are the same
+pub bytes_decided : (sent shown : List ℕ) (first : Option Due) → IsFirstOtherByte sent shown first →
+    Decides (not (is_some first)) (shown ≡ sent)
+bytes_decided sent shown None same = same
+bytes_decided sent shown (Some (due.Byte at called found)) first = differ_not shown sent at first.0
+bytes_decided sent shown (Some other) first = absurd first

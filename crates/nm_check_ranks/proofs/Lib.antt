@@ -13,5 +13,5 @@ mod ReadLemmas
 mod RestFirstLemmas
 mod SentLemmas
 pub mod TableLemmas
-mod WaitLemmas
+pub mod WaitLemmas
 pub mod WasLemmas

@@ -1,13 +1,10 @@
 -- Where a history first breaks a rule with each rank, one event after another.
 use Rattle.std.proofs.Common.{◌≡◌, ℕ, ◌+◌, ◌<◌, ◌≤◌, ◌==◌, ◌&&◌, Bool, true, false, cond, Option, Some, None, List, []}
-use Rattle.std.proofs.Common.{◌∷◌, ◌++◌, length, take, drop, get_or, set, refl, sym, ◌∙◌, ap, subst, arith}
+use Rattle.std.proofs.Common.{◌∷◌, ◌++◌, length, take, drop, get_or, refl, sym, ◌∙◌, ap, subst}
 use Rattle.std.specs.Prelude.{IsSomeAnd, IsTrue, MatchBool, MatchOption}
 use Rattle.std.specs.Bool.{OnTrue}
 use Rattle.std.specs.List.{slice_get}
 use Rattle.std.proofs.lemmas.Bool.{false≢true}
-use Rattle.std.proofs.lemmas.Bool.Decides.{nat_tests}
-use Rattle.std.proofs.lemmas.Grind.{get_or-set_at}
-use Rattle.std.proofs.lemmas.List.{get_or-set_other}
 use Rattle.nm_types.specs.declared.messages.Arrival.{Arrival}
 use Rattle.nm_history.specs.declared.events.Event.{Event}
 use Rattle.nm_history.specs.declared.events.Happened.{Happened}
@@ -49,33 +46,6 @@ module _ (R : List Event → Event → Type 0) (h : List Event) where
       MatchOption found (AtEach R h) (BreaksFirstAt (AtEach R) h)
   noted_all k over None kept = all_kept R h k over kept
   noted_all k over (Some j) first = first
-
-other_rank : (a i : ℕ) → (a == i) ≡ false → i ≡ a → ⊥
-other_rank a i apart same = let equal : (a == i) ≡ true = grind (arith, nat_tests) in cc
-
--- a rank is noted where it was not
-pub noted_at : (firsts : List (Option ℕ)) (a at y : ℕ) → a < length firsts → get_or firsts a None ≡ None →
-    get_or (set firsts a (Some at)) y None ≡ noted (a == y) at (get_or firsts y None)
-noted_at firsts a at y inside none = by_rank (a == y) refl
-  where
-    by_rank : (b : Bool) → (a == y) ≡ b → get_or (set firsts a (Some at)) y None ≡ noted b at (get_or firsts y None)
-    by_rank true same =
-        let is : a ≡ y = same_number a y same in
-        get_or-set_at firsts a y (Some at) None (sym is) inside
-        ∙ ap (λ (o : Option ℕ). noted true at o) (sym none ∙ ap (λ (n : ℕ). get_or firsts n None) is)
-    by_rank false apart = get_or-set_other firsts a y (Some at) None (other_rank a y apart)
-
--- .. and not where it was
-pub noted_before : (firsts : List (Option ℕ)) (a at y k : ℕ) → get_or firsts a None ≡ Some k →
-    get_or firsts y None ≡ noted (a == y) at (get_or firsts y None)
-noted_before firsts a at y k some = by_rank (a == y) refl
-  where
-    by_rank : (b : Bool) → (a == y) ≡ b → get_or firsts y None ≡ noted b at (get_or firsts y None)
-    by_rank true same =
-        let here : get_or firsts y None ≡ Some k =
-        sym (ap (λ (n : ℕ). get_or firsts n None) (same_number a y same)) ∙ some in
-        here ∙ sym (ap (λ (o : Option ℕ). noted true at o) here)
-    by_rank false apart = refl
 
 at_each_after : (R : ℕ → Happened → Type 0) (before h : List Event) → EachEvent R h →
     AtEachAfter (λ before e. R e.stamp e.what) before h

@@ -1,13 +1,13 @@
 -- How many packets are due at most, and the list of those that are due.
 use Rattle.std.proofs.Common.{◌≡◌, ℕ, ◌+◌, ◌*◌, ◌<◌, ◌≤◌, ◌==◌, Bool, true, false, cond, Option, Some, None}
 use Rattle.std.proofs.Common.{List, [], ◌∷◌, ◌++◌, length, take, get_or, refl, sym, ◌∙◌, ap, subst, arith}
-use Rattle.std.proofs.Common.{add-one, append_assoc, append-nil, length-append, zero-add}
+use Rattle.std.proofs.Common.{append_assoc, append-nil, length-append, zero-add}
 use Rattle.std.specs.Prelude.{IfSome, count_by, option_to_list, slice_get}
 use Rattle.std.specs.List.{range_with_len}
 use Rattle.std.proofs.lemmas.List.{length-map}
 use Rattle.std.proofs.lemmas.List.Sums.{count_by-le-length}
 use Rattle.std.proofs.lemmas.Option.{none-some, slice_get-get_or, slice_get_past}
-use Rattle.nm_types.proofs.ListLemmas.{get_map, get_some, take_more}
+use Rattle.nm_types.proofs.ListLemmas.{get_map, get_some}
 use Rattle.nm_types.proofs.OptionLemmas.{same_some}
 use Rattle.nm_types.specs.declared.scripts.Line.{Line}
 use Rattle.nm_history.specs.declared.events.Event.{Event}
@@ -20,6 +20,7 @@ use Rattle.nm_report.specs.declared.pairs.PairCount.{PairCount}
 use Rattle.nm_report.specs.Ends.{ends_of, packets_of}
 use Rattle.nm_lookups.specs.Deciding.{Decides}
 use Rattle.nm_check_rank.specs.Differ.{DifferFirstAt}
+use Rattle.nm_check_rank.proofs.DifferLemmas.{same_next}
 use Rattle.nm_check_ranks.specs.Counting.{counted_pair, load_to, row_from}
 use Rattle.nm_check_ranks.specs.declared.rest.counts.Load.{Load}
 use Rattle.nm_check_ranks.proofs.CountingLemmas.{in_all, one_event, own, rank_more, row_more, row_same}
@@ -106,12 +107,9 @@ module _ (pairs due : List PairCount) (k : ℕ) (so_far : take k (packets_of pai
       slice_get (packets_of due) k ≡ Some (counted_pair (get_or pairs k d)) →
       take (k + 1) (packets_of pairs) ≡ take (k + 1) (packets_of due)
   same_more d inside there =
-      let x : Packets = counted_pair (get_or pairs k d) in
-      let here : slice_get (packets_of pairs) k ≡ Some x =
-      get_map counted_pair pairs k (get_or pairs k d) (slice_get-get_or pairs k d inside) in
-      subst (λ (n : ℕ). take n (packets_of pairs) ≡ take n (packets_of due)) (sym (add-one k))
-      (take_more (packets_of pairs) k x here ∙ ap (λ (ps : List Packets). ps ++ x ∷ []) so_far
-      ∙ sym (take_more (packets_of due) k x there))
+      let x : PairCount = get_or pairs k d in
+      same_next (packets_of pairs) (packets_of due) k so_far (counted_pair x)
+      (get_map counted_pair pairs k x (slice_get-get_or pairs k d inside)) there
 
   pub ends_first : length pairs ≤ k → k ≤ length pairs → length pairs < length due →
       DifferFirstAt (packets_of pairs) (packets_of due) (length pairs)

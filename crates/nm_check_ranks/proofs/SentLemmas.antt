@@ -1,5 +1,4 @@
 -- A message's send, by the first place of its number; and arrivals in order, one after another.
-use mathlib.Core.Bool.{beq}
 use Rattle.std.proofs.Common.{not, ◌≡◌, ℕ, ◌+◌, ◌<◌, ◌≤◌, ◌==◌, ◌&&◌, ◌||◌, Bool, true, false, cond, Some, None, List}
 use Rattle.std.proofs.Common.{[], ◌∷◌, ◌++◌, length, take, drop, get_or, refl, sym, ◌∙◌, ap, subst, arith}
 use Rattle.std.proofs.Common.{append_assoc, append-nil}
@@ -12,7 +11,6 @@ use Rattle.std.proofs.lemmas.List.Quantifiers.{position-Some}
 use Rattle.std.proofs.lemmas.Option.{get_or_from_slice_get, slice_get_past, slice_get_within}
 use Rattle.nm_types.specs.declared.messages.Envelope.{Envelope}
 use Rattle.nm_types.specs.declared.messages.How.{How}
-use Rattle.nm_types.specs.declared.messages.How.TheVariants as sort
 use Rattle.nm_history.specs.declared.events.Event.{Event}
 use Rattle.nm_history.specs.declared.events.Happened.{Happened}
 use Rattle.nm_history.specs.declared.events.Happened.TheVariants.{Arrive, Send}
@@ -21,7 +19,7 @@ use Rattle.nm_history.specs.Delivery.{ArriveInOrder}
 use Rattle.nm_history.specs.Growing.{ArrivesNext}
 use Rattle.nm_history.specs.Happens.{is_send}
 use Rattle.nm_history.specs.RankRun.{Always, NumberAt}
-use Rattle.nm_history.specs.Sends.{Arrived, Sent, arrivals, arrived_of, envelope, is_ask, sends, sent_of}
+use Rattle.nm_history.specs.Sends.{Arrived, Sent, arrivals, arrived_of, envelope, sends, sent_of}
 use Rattle.nm_lookups.specs.Deciding.{Decides}
 use Rattle.nm_history.proofs.AtEachLemmas.{AtEach-split}
 use Rattle.nm_history.proofs.OnceLemmas.{arrivals-push}
@@ -222,13 +220,6 @@ module _ (i j : ℕ) (hi : List Event) where
       AtEach (λ before e. ArrivesNext i j hi before e.stamp e.what) hj
   unfolding AtEach
   each_next hj right = each_arrives [] hj right
-
--- two ways of sending are compared
-pub hows_decided : (a b : How) → Decides (beq (not (is_ask a)) (not (is_ask b))) (a ≡ b)
-hows_decided sort.Eager sort.Eager = refl
-hows_decided sort.Ask sort.Ask = refl
-hows_decided sort.Eager sort.Ask = λ same. cc
-hows_decided sort.Ask sort.Eager = λ same. cc
 
 apart : (m n : ℕ) → (m == n) ≡ false → m ≡ n → ⊥
 apart m n other same = let equal : (m == n) ≡ true = grind (arith, nat_tests) in cc

@@ -1,5 +1,5 @@
 -- The tables of each rank.
-use Rattle.std.proofs.Common.{◌≡◌, ℕ, ◌<◌, ◌≤◌, Option, Some, None, List, [], length, get_or, refl, sym, ap, subst, arith}
+use Rattle.std.proofs.Common.{◌≡◌, ℕ, ◌<◌, ◌≤◌, Option, Some, None, List, [], length, get_or, sym, ap, subst, arith}
 use Rattle.std.specs.Prelude.{IfSome, IsSomeAnd}
 use Rattle.std.specs.List.{slice_get}
 use Rattle.std.specs.Option.{option_map_or}
@@ -83,11 +83,3 @@ blank = record { arrivals = []; bodies = []; outs = []; withdrawals = []; answer
 -- the tables of the rank at a place
 abbrev pub TabledAt : List Line → List Ended → ℕ → Tables → Type 0
 TabledAt lines ranks i tables = IsSomeAnd (slice_get ranks i) (λ rank. AreRankTables i lines rank.events tables)
-
-pub tabled_rank : (lines : List Line) (ranks : List RankAccount) (i : ℕ) (a : RankAccount) (t : Tables) →
-    i < length ranks → a ≡ get_or ranks i a → AreRankTables i lines a.history.events t →
-    TabledAt lines (ends_of ranks) i t
-tabled_rank lines ranks i a t inside is its =
-    subst (λ (o : Option Ended). IsSomeAnd o (λ rank. AreRankTables i lines rank.events t))
-    (sym (end_at ranks i a inside is))
-    its

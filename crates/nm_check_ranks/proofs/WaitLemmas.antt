@@ -1,15 +1,21 @@
 -- The command of a rank that comes after so many.
-use Rattle.std.proofs.Common.{◌≡◌, ℕ, ◌+◌, ◌-◌, ◌<◌, ◌≤◌, ◌==◌, suc, Bool, true, false, cond, Option, Some, None}
-use Rattle.std.proofs.Common.{List, ◌∷◌, length, drop, get_or, sym, ◌∙◌, ap, subst, arith, add-one}
-use Rattle.std.specs.Prelude.{IsSomeAnd}
+use Rattle.std.proofs.Common.{◌≡◌, ℕ, ◌+◌, ◌-◌, ◌<◌, ◌≤◌, ◌==◌, ◌&&◌, suc, Bool, true, false, not, cond, Option, Some, None}
+use Rattle.std.proofs.Common.{List, ◌∷◌, length, drop, get_or, refl, sym, ◌∙◌, ap, subst, arith, add-one}
+use Rattle.std.specs.Prelude.{IsSomeAnd, MatchOption, is_some}
 use Rattle.std.specs.List.{slice_get}
+use Rattle.std.proofs.lemmas.Bool.{false≢true}
 use Rattle.std.proofs.lemmas.Bool.Decides.{nat_tests}
 use Rattle.std.proofs.lemmas.List.{drop_all}
-use Rattle.std.proofs.lemmas.Option.{slice_get-get_or}
+use Rattle.std.proofs.lemmas.Option.{none-some, slice_get-get_or, slice_get_within}
 use Rattle.std.proofs.Math.Seq.{drop-cons}
 use Rattle.nm_types.specs.declared.scripts.Line.{Line}
 use Rattle.nm_types.specs.Commands.{Numbered, commands_from, commands_of}
 use Rattle.nm_types.proofs.NumberLemmas.{eq_true}
+use Rattle.nm_history.specs.Answers.{can_go_on}
+use Rattle.nm_history.specs.Quiescence.{Ended, IsStopped}
+use Rattle.nm_lookups.specs.Deciding.{Decides}
+use Rattle.nm_check_ranks.specs.RestBreaks.{IsNext}
+use Rattle.nm_check_ranks.specs.declared.rest.waits.Next.TheVariants as next
 
 other_line : (a b : ℕ) → (a ≡ b → ⊥) → (a == b) ≡ false
 other_line a b apart = grind (arith, nat_tests)
@@ -69,3 +75,48 @@ module _ (rank at : ℕ) (lines : List Line) where
   pub none_behind : (k left : ℕ) → length lines ≤ k → ComesAfter k left → slice_get (commands_of rank lines) at ≡ None
   none_behind k left over after = after ∙ ap (λ (ls : List Line). slice_get (commands_from rank (k + 2) ls) left)
       (drop_all k lines over)
+
+-- a place of which something is so is inside
+pub some_inside : {X : Type 0} (xs : List X) (k : ℕ) (P : X → Type 0) → IsSomeAnd (slice_get xs k) P → k < length xs
+some_inside {X} xs k P = by_item (slice_get xs k) refl
+  where
+    by_item : (o : Option X) → slice_get xs k ≡ o → IsSomeAnd o P → k < length xs
+    by_item None is there = absurd there
+    by_item (Some x) is there = slice_get_within xs k x is
+
+-- what is decided by whether there is something
+pub none_decided : {X : Type 0} (P : Type 0) (o : Option X) (none : Bool) → is_some o ≡ not none →
+    Decides (not (is_some o)) P → Decides none P
+none_decided P o true is decided = subst (λ (b : Bool). Decides (not b) P) is decided
+none_decided P o false is decided = subst (λ (b : Bool). Decides (not b) P) is decided
+
+-- a rank of which no command is left stands where it is at its end
+pub end_decided : (commands : List Numbered) (e : Ended) → slice_get commands e.at ≡ None →
+    Decides (not (is_some e.waits)) (IsStopped commands e)
+end_decided commands e none =
+    subst (λ (o : Option Numbered). Decides (not (is_some e.waits)) (MatchOption o (e.waits ≡ None)
+    (λ c. (e.waits ≡ Some c.line) × (can_go_on commands e.events c.command ≡ false)))) (sym none) (by_waits e.waits)
+  where
+    by_waits : (waits : Option ℕ) → Decides (not (is_some waits)) (waits ≡ None)
+    by_waits None = refl
+    by_waits (Some line) = λ same. none-some line (sym same)
+
+-- .. and another one where it waits for its next command, which can't go on
+pub wait_decided : (commands : List Numbered) (e : Ended) (line : ℕ) (goes_on waiting : Bool) →
+    IsNext commands e (next.Command line goes_on) → Decides waiting (e.waits ≡ Some line) →
+    Decides (waiting && not goes_on) (IsStopped commands e)
+wait_decided commands e line goes_on waiting its decided = by_next (slice_get commands e.at) its
+  where
+    by_case : (c : Numbered) (w g : Bool) → c.line ≡ line → can_go_on commands e.events c.command ≡ g →
+        Decides w (e.waits ≡ Some line) →
+        Decides (w && not g) ((e.waits ≡ Some c.line) × (can_go_on commands e.events c.command ≡ false))
+    by_case c true false same can waits = (waits ∙ ap (λ (n : ℕ). Some n) (sym same), can)
+    by_case c true true same can waits = λ both. false≢true (sym both.1 ∙ can)
+    by_case c false g same can apart = λ both. apart (both.0 ∙ ap (λ (n : ℕ). Some n) same)
+
+    by_next : (o : Option Numbered) →
+        IsSomeAnd o (λ c. (c.line ≡ line) × (can_go_on commands e.events c.command ≡ goes_on)) →
+        Decides (waiting && not goes_on) (MatchOption o (e.waits ≡ None)
+        (λ c. (e.waits ≡ Some c.line) × (can_go_on commands e.events c.command ≡ false)))
+    by_next None there = absurd there
+    by_next (Some c) there = by_case c waiting goes_on there.0 there.1 decided

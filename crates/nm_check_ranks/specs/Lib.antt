@@ -1,3 +1,4 @@
+pub mod Bytes
 pub mod CarriedBreaks
 pub mod CarriedClauses
 pub mod Counting

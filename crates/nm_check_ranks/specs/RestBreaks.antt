@@ -1,10 +1,11 @@
 -- The first event at which a rule of rest breaks that is asked of each event: of each send and each recall.
-use Rattle.std.specs.Prelude.{ℕ, ◌<◌, IsSomeAnd, List, slice_get}
+use Rattle.std.specs.Prelude.{◌≡◌, ℕ, ◌<◌, None, IsSomeAnd, List, slice_get}
 use Rattle.nm_history.specs.declared.events.Event.{Event}
 use Rattle.nm_history.specs.declared.events.Happened.{Happened}
 use Rattle.nm_history.specs.AtEach.{AtEach}
 use Rattle.nm_types.specs.declared.scripts.Line.{Line}
-use Rattle.nm_types.specs.Commands.{commands_of}
+use Rattle.nm_types.specs.Commands.{Numbered, commands_of}
+use Rattle.nm_history.specs.Answers.{can_go_on}
 use Rattle.nm_history.specs.Delivery.{ArriveInOrder}
 use Rattle.nm_history.specs.Quiescence.{EachPair, EachRank, Ended, IsAnswered, IsStopped, Packets}
 use Rattle.nm_history.specs.Sends.{arrivals, sends}
@@ -17,6 +18,8 @@ use Rattle.nm_check_ranks.specs.declared.rest.clauses.RestClause.{RestClause}
 use Rattle.nm_check_ranks.specs.declared.rest.clauses.RestClause.TheVariants as rest
 use Rattle.nm_check_ranks.specs.declared.rest.firsts.EventRule.{EventRule}
 use Rattle.nm_check_ranks.specs.declared.rest.firsts.EventRule.TheVariants as rule
+use Rattle.nm_check_ranks.specs.declared.rest.waits.Next.{Next}
+use Rattle.nm_check_ranks.specs.declared.rest.waits.Next.TheVariants as next
 use Rattle.nm_check_ranks.specs.declared.rest.resting.RestBreak.{RestBreak}
 use Rattle.nm_check_ranks.specs.declared.rest.resting.RestBreak.TheVariants as kind
 use Rattle.nm_check_ranks.specs.RestClauses.{KeepsRest, rest_order}
@@ -55,6 +58,13 @@ rest_clause rule.Recalls = rest.Recalls
 pub record BreaksStanding (lines : List Line) (ranks : List Ended) (i : ℕ) : Type 0 where
   pub earlier : EachRank (λ x rank. x < i → IsStopped (commands_of x lines) rank) ranks
   pub first : IsSomeAnd (slice_get ranks i) (λ rank. ¬ IsStopped (commands_of i lines) rank)
+
+-- the next command of a rank, and whether it can go on
+abbrev pub IsNext : List Numbered → Ended → Next → Type 0
+IsNext commands rank next.Nothing = slice_get commands rank.at ≡ None
+IsNext commands rank (next.Command line goes_on) =
+    IsSomeAnd (slice_get commands rank.at)
+    (λ c. (c.line ≡ line) × (can_go_on commands rank.events c.command ≡ goes_on))
 
 -- the rule of a break
 abbrev pub clause_of : RestBreak → RestClause

@@ -1,9 +1,8 @@
 //! Whether receives show the bodies that were sent.
 
-ghost use Rattle.std.specs.Prelude.{◌≡◌, ℕ, List, Some, IsSomeAnd, slice_get, take};
+ghost use Rattle.std.specs.Prelude.{◌≡◌, List, Some, IsSomeAnd, slice_get, take};
 ghost use Rattle.nm_types.specs.Bodies.{bytes_of, generated_byte};
 ghost use Rattle.nm_types.specs.Commands.{command_at, commands_of};
-ghost use Rattle.nm_types.specs.declared.answers.Answer as the_answer;
 ghost use Rattle.nm_types.specs.declared.scripts.Body.TheVariants.{Gen};
 ghost use Rattle.nm_history.specs.declared.events.Event as event;
 ghost use Rattle.nm_history.specs.declared.events.Happened.TheVariants.{Ran};
@@ -13,10 +12,12 @@ ghost use Rattle.nm_history.specs.Sends.{sends, sent_bytes, sent_of};
 ghost use Rattle.nm_report.specs.Ends.{ends_of};
 ghost use Rattle.nm_lookups.specs.Deciding.{Decides};
 ghost use Rattle.nm_check_rank.specs.Tabled.{AreRankTables};
+ghost use Rattle.nm_check_ranks.specs.Bytes.{IsFirstOtherByte};
 ghost use Rattle.nm_check_ranks.specs.Marked.{KeepsLocal, Names};
 ghost use Rattle.nm_check_ranks.specs.Tabled.{AreTabled};
 
 use crate::marks::named_unless;
+use nm_check_rank::paired::dues::Due;
 use nm_check_rank::paired::tables::Tables;
 use nm_history::{Event, Happened};
 use nm_lookups::asked::commands::command_of_line;
@@ -31,28 +32,68 @@ fn generated(k: u32) -> u8
     ((31 * u64::from(k) + 7) % 251) as u8
 }
 
-/// Whether bytes are those of a generated body.
-fn are_generated(bytes: &[u8], len: u32) -> bool
-    ensures { Decides result (bytes.now ≡ bytes_of (Gen len)) }
+/// .. if it has so many.
+fn generated_at(len: u32, k: usize) -> Option<u8>
+    ensures { result ≡ slice_get (bytes_of (Gen len)) k }
 {
-    if bytes.len() as u64 != u64::from(len) {
-        return false;
+    if k < len as usize {
+        Some(generated(k as u32))
+    } else {
+        None
     }
-    for (k, byte) in bytes.iter().enumerate() {
-        if *byte != generated(k as u32) {
-            return false;
-        }
-    }
-    true
 }
 
-/// Whether bytes are those of a body.
-fn are_of_body(bytes: &[u8], body: &Body) -> bool
-    ensures { Decides result (bytes.now ≡ bytes_of body.now) }
+/// The byte at a place of a body, if it has so many.
+fn byte_of(body: &Body, k: usize) -> Option<u8>
+    ensures { result ≡ slice_get (bytes_of body.now) k }
 {
     match body {
-        Body::Hex(own) => bytes == own.as_slice(),
-        Body::Gen(len) => are_generated(bytes, *len),
+        Body::Hex(own) => own.as_slice().get(k).copied(),
+        Body::Gen(len) => generated_at(*len, k),
+    }
+}
+
+/// .. of what a command sends.
+fn byte_sent(command: &Command, k: usize) -> Option<u8>
+    ensures { result ≡ slice_get (sent_bytes command.now) k }
+{
+    match command {
+        Command::Send { body, .. } => byte_of(body, k),
+        _ => None,
+    }
+}
+
+fn is_byte(sent: Option<u8>, byte: u8) -> bool
+    ensures { Decides result (sent ≡ Some byte) }
+{
+    match sent {
+        Some(sent) => sent == byte,
+        None => false,
+    }
+}
+
+/// The first byte that is not the one that a command sends, or is missing.
+pub fn first_other_byte(bytes: &[u8], command: &Command) -> Option<Due>
+    ensures { IsFirstOtherByte (sent_bytes command.now) bytes.now result }
+{
+    for (k, byte) in bytes.iter().enumerate() {
+        let called = byte_sent(command, k);
+        if !is_byte(called, *byte) {
+            return Some(Due::Byte {
+                at: k as u64,
+                called,
+                found: Some(*byte),
+            });
+        }
+    }
+    let at = bytes.len();
+    match byte_sent(command, at) {
+        Some(byte) => Some(Due::Byte {
+            at: at as u64,
+            called: Some(byte),
+            found: None,
+        }),
+        None => None,
     }
 }
 
@@ -60,10 +101,7 @@ fn are_of_body(bytes: &[u8], body: &Body) -> bool
 fn are_sent_by(bytes: &[u8], command: &Command) -> bool
     ensures { Decides result (bytes.now ≡ sent_bytes command.now) }
 {
-    match command {
-        Command::Send { body, .. } => are_of_body(bytes, body),
-        _ => bytes.is_empty(),
-    }
+    first_other_byte(bytes, command).is_none()
 }
 
 /// Whether bytes are those that the command of a rank's line sends.

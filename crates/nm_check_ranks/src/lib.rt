@@ -19,11 +19,9 @@
 #![tactic(auto)]
 
 pub mod between;
-mod bodies;
+pub mod bodies;
 pub mod clauses;
 pub mod firsts;
-pub mod hows;
 pub mod marking;
 pub mod marks;
 pub mod rest;
-pub mod tabling;

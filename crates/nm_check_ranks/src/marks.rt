@@ -18,14 +18,14 @@ ghost use Rattle.nm_lookups.specs.Placed.{ArePlaces};
 ghost use Rattle.nm_check_ranks.specs.Marked.{KeepsLocal, Names};
 ghost use Rattle.nm_check_ranks.specs.Tabled.{AreTabled};
 
-use crate::hows::is_eager;
+use nm_check_rank::hows::is_same_how;
 use nm_check_rank::paired::tables::Tables;
 use nm_history::{Event, Happened};
 use nm_lookups::firsts::{Message, is_before, is_earlier, is_taken_earlier};
 use nm_lookups::kinds::{AskedSends, Recalls, Refused, Withdrawn};
 use nm_lookups::places::Places;
 use nm_report::RankAccount;
-use nm_types::{Arrival, How};
+use nm_types::Arrival;
 
 /// How many ranks a number of 8 bits can name.
 pub const NAMES: usize = 256;
@@ -53,14 +53,6 @@ fn is_allowed(asked: bool, paired: bool) -> bool
     ensures { Decides result (OnTrue asked (IsTrue paired)) }
 {
     !asked || paired
-}
-
-fn is_same_how(a: How, b: How) -> bool
-    ensures { Decides result (a ≡ b) }
-{
-    let first = is_eager(a);
-    let second = is_eager(b);
-    first == second
 }
 
 fn are_all(tag: bool, ctx: bool, len: bool, how: bool, earlier: bool) -> bool

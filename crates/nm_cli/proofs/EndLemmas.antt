@@ -9,9 +9,11 @@ use Rattle.nm_cli.specs.Answers.{IsAnswer, IsAnswerTo, NotTaken, end_status, log
 use Rattle.nm_cli.specs.Answers.{IsReadFor, WasRead, usage, ways_of}
 use Rattle.nm_shell.specs.Done.{OrFails, OrUnwritten, unread}
 use Rattle.nm_check.specs.declared.verdicts.Verdict.TheVariants.{Holds}
-use Rattle.nm_check.specs.declared.checked.checks.Checked.{Checked as CheckedText}
-use Rattle.nm_check.specs.declared.checked.checks.Checked.TheVariants.{NoTrace, NoScript, BadTrace, Judged}
-use Rattle.nm_cli.specs.Checks.{checked_status}
+use Rattle.nm_check.specs.declared.verdicts.Verdict.{Verdict}
+use Rattle.nm_check.specs.Answers.{found_status, verdict_status}
+use Rattle.nm_check.specs.Judgements.{judged_as}
+use Rattle.nm_check.specs.declared.breaks.finding.Found.{Found}
+use Rattle.nm_check.specs.declared.breaks.finding.Found.TheVariants.{NoTrace, NoScript, BadTrace, Judged}
 use Rattle.nm_cli.specs.Done.{Ending, Ends}
 use Rattle.nm_cli.specs.Endings.{IsStatus}
 use Rattle.nm_cli.specs.declared.answers.Response.{Response}
@@ -71,13 +73,16 @@ no_run_status true status k h e zero one = zero (sym e ∙ h)
 no_run_status false status k h e zero one = one (sym e ∙ h)
 
 -- and what check says ends with one of four
-pub checked_ends : (c : CheckedText) (k : ℕ) → k ≡ checked_status c → (k ≡ 0 → ⊥) → (k ≡ 3 → ⊥) → (k ≡ 8 → ⊥) →
+verdict_ends : (v : Verdict) (k : ℕ) → k ≡ verdict_status v → (k ≡ 0 → ⊥) → (k ≡ 8 → ⊥) → ⊥
+verdict_ends Holds k h zero eight = zero h
+verdict_ends v k h zero eight = eight h
+
+pub checked_ends : (found : Found) (k : ℕ) → k ≡ found_status found → (k ≡ 0 → ⊥) → (k ≡ 3 → ⊥) → (k ≡ 8 → ⊥) →
     (k ≡ 9 → ⊥) → ⊥
 checked_ends NoTrace k h zero three eight nine = nine h
 checked_ends (NoScript line kind) k h zero three eight nine = three h
-checked_ends (BadTrace line) k h zero three eight nine = nine h
-checked_ends (Judged Holds) k h zero three eight nine = zero h
-checked_ends (Judged v) k h zero three eight nine = eight h
+checked_ends (BadTrace before line stop) k h zero three eight nine = nine h
+checked_ends (Judged before j run) k h zero three eight nine = verdict_ends (judged_as j) k h zero eight
 
 -- a status that is not 5
 pub not_five : (s : Ending) (k : ℕ) → s.status ≡ k → (k ≡ 5 → ⊥) → s.status ≡ 5 → ⊥
@@ -181,12 +186,15 @@ run_is_status : (done : Bool) → IsStatus (end_status done)
 run_is_status true = inl refl
 run_is_status false = inr (inl refl)
 
-checked_is_status : (c : CheckedText) → IsStatus (checked_status c)
+verdict_is_status : (v : Verdict) → IsStatus (verdict_status v)
+verdict_is_status Holds = inl refl
+verdict_is_status v = inr (inr (inr (inr (inr (inr (inr (inr (inl refl))))))))
+
+checked_is_status : (found : Found) → IsStatus (found_status found)
 checked_is_status NoTrace = inr (inr (inr (inr (inr (inr (inr (inr (inr refl))))))))
 checked_is_status (NoScript line kind) = inr (inr (inr (inl refl)))
-checked_is_status (BadTrace line) = inr (inr (inr (inr (inr (inr (inr (inr (inr refl))))))))
-checked_is_status (Judged Holds) = inl refl
-checked_is_status (Judged v) = inr (inr (inr (inr (inr (inr (inr (inr (inl refl))))))))
+checked_is_status (BadTrace before line stop) = inr (inr (inr (inr (inr (inr (inr (inr (inr refl))))))))
+checked_is_status (Judged before j run) = verdict_is_status (judged_as j)
 
 is_status : (a : Response) → IsStatus (status_of a)
 is_status Usage = inr (inr (inl refl))

@@ -4,13 +4,14 @@ ghost use Rattle.std.specs.Prelude.{◌≡◌, IfOk};
 ghost use Rattle.nm_report.specs.Summary.{CountsFit};
 ghost use Rattle.nm_report.specs.Told.{told_of};
 ghost use Rattle.nm_cli.specs.Answers.{CanBeTold, run_text as run_text_lem};
-ghost use Rattle.nm_cli.specs.Checks.{checked_status as checked_status_lem};
 ghost use Rattle.nm_cli.specs.Checks.{checked_text as checked_text_lem};
 ghost use Rattle.nm_cli.specs.Answers.{end_status as end_status_lem, status_of, text_of, usage};
 ghost use Rattle.nm_cli.specs.Plans.{plan_fault_text as plan_fault_text_lem, plan_kind_text};
 ghost use Rattle.nm_cli.specs.Plains.{free_text as free_text_lem};
 
-use nm_check::checked::{Checked, trace_fault_text, verdict_text};
+use nm_check::breaks::Found;
+use nm_check::texts::{trace_fault_text, verdict_text};
+use nm_check::verdict::found_status;
 use nm_multi::CallLog;
 use nm_persist::{Plan, PlanKind};
 use nm_report::RunRecord;
@@ -50,7 +51,7 @@ pub enum Response {
     },
     /// What the bytes are: no script with a trace, or one, with the verdict on it.
     Checked {
-        checked: Checked,
+        found: Found,
     },
     /// The bytes spell no plan.
     NoPlan {
@@ -92,7 +93,7 @@ pub fn text(alloc: Global, answer: &Response) -> Result<Vec<u8>, Memory>
         Response::Ran { mode, run, .. } => run_text(alloc, mode, run),
         Response::Free { line } => Ok(free_text(alloc, *line)?),
         Response::Determinate { run } => Ok(run.text.clone()?),
-        Response::Checked { checked } => Ok(checked_text(alloc, *checked)?),
+        Response::Checked { found } => Ok(checked_text(alloc, found)?),
         Response::NoPlan { line, kind } => Ok(plan_fault_text(alloc, *line, *kind)?),
         Response::Planned { plan, run, .. } => nm_persist::text(alloc, plan, run),
         Response::Logged {
@@ -124,7 +125,7 @@ pub fn status(answer: &Response) -> u8
         Response::Ran { run, .. } => end_status(run.done),
         Response::Free { .. } => 7,
         Response::Determinate { run } => end_status(run.done),
-        Response::Checked { checked } => checked_status(*checked),
+        Response::Checked { found } => found_status(found),
         Response::NoPlan { .. } => 3,
         Response::Planned { run, .. } => end_status(run.done),
         Response::Logged { .. } => 0,
@@ -141,27 +142,15 @@ fn end_status(done: bool) -> u8
     if done { 0 } else { 1 }
 }
 
-// The status of what is said of a script and its trace.
-fn checked_status(checked: Checked) -> u8
-    ensures { result ≡ checked_status_lem checked }
-{
-    match checked {
-        Checked::NoTrace => 9,
-        Checked::NoScript { .. } => 3,
-        Checked::BadTrace { .. } => 9,
-        Checked::Judged { verdict } => verdict.status(),
-    }
-}
-
 // What is said of a script and its trace.
-fn checked_text(alloc: Global, checked: Checked) -> Result<Vec<u8>, AllocError>
-    ensures { IfOk result (λ bytes. bytes.items ≡ checked_text_lem checked) }
+fn checked_text(alloc: Global, found: &Found) -> Result<Vec<u8>, AllocError>
+    ensures { IfOk result (λ bytes. bytes.items ≡ checked_text_lem found.now) }
 {
-    match checked {
-        Checked::NoTrace => trace_fault_text(alloc, 0),
-        Checked::NoScript { line, kind } => fault_text(alloc, line, kind),
-        Checked::BadTrace { line } => trace_fault_text(alloc, line),
-        Checked::Judged { verdict } => verdict_text(alloc, verdict),
+    match found {
+        Found::NoTrace => trace_fault_text(alloc, 0),
+        Found::NoScript { line, kind } => fault_text(alloc, *line, *kind),
+        Found::BadTrace { line, .. } => trace_fault_text(alloc, *line),
+        Found::Judged { judgement, .. } => verdict_text(alloc, judgement.verdict()),
     }
 }
 

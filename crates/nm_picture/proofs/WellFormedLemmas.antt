@@ -23,8 +23,9 @@ use Rattle.nm_diagram.specs.declared.rings.Ring.{Ring}
 use Rattle.nm_diagram.specs.Left.{all_rings}
 use Rattle.nm_diagram.specs.Legend.{legend_of}
 use Rattle.nm_picture.specs.declared.flags.Flag.{Flag}
-use Rattle.nm_picture.specs.declared.flags.Flag.TheVariants.{Event, Behind}
+use Rattle.nm_picture.specs.declared.flags.Flag.TheVariants.{Event, Behind, Line}
 use Rattle.nm_picture.specs.Flags.{behind_note, event_note, flag_ring, flag_text, flagged_text, has_lane, is_place_in}
+use Rattle.nm_picture.specs.Flags.{line_note}
 use Rattle.nm_picture.specs.Sheet.{sheet_text}
 use Rattle.nm_diagram.specs.Returns.{all_returns}
 use Rattle.nm_diagram.specs.Signs.{name_of, words_of}
@@ -623,11 +624,15 @@ flag_ring-read x y =
 
 event_note-read : (line : ℕ) → Keeps (event_note line)
 unfolding event_note
-event_note-read line = text-number (codes "text") svg line (codes " breaks a rule</text>\n")
+event_note-read line = text-number (codes "text") svg line (codes " breaks a rule (red ring)</text>\n")
 
 behind_note-read : (rank : ℕ) → Keeps (behind_note rank)
 unfolding behind_note
-behind_note-read rank = text-number (codes "text") svg rank (codes " breaks a rule at its end</text>\n")
+behind_note-read rank = text-number (codes "text") svg rank (codes " breaks a rule at its end (red ring)</text>\n")
+
+line_note-read : (line : ℕ) → Keeps (line_note line)
+unfolding line_note
+line_note-read line = text-number (codes "text") svg line (codes " breaks a rule</text>\n")
 
 keeps-if : (b : Bool) (text : List ℕ) → Keeps text → Keeps (cond b text [])
 keeps-if true text h = h
@@ -643,6 +648,7 @@ flag-read frame (Some (Behind rank)) =
     let ring = flag_ring (lane_x frame rank) (foot_y frame) in
     keeps-append (behind_note rank) (cond (has_lane frame rank) ring []) (behind_note-read rank)
     (keeps-if (has_lane frame rank) ring (flag_ring-read (lane_x frame rank) (foot_y frame)))
+flag-read frame (Some (Line line)) = line_note-read line
 
 pub flagged-well_formed : (frame : Frame) (ranks : List RankAccount) (flag : Option Flag) →
     IsWellFormed (flagged_text frame ranks flag)

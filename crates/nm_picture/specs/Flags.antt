@@ -7,7 +7,7 @@ use Rattle.nm_diagram.specs.declared.frames.Frame.{Frame}
 use Rattle.nm_diagram.specs.declared.frames.Part.{Part}
 use Rattle.nm_diagram.specs.Frames.{IsFrame}
 use Rattle.nm_picture.specs.declared.flags.Flag.{Flag}
-use Rattle.nm_picture.specs.declared.flags.Flag.TheVariants.{Event, Behind}
+use Rattle.nm_picture.specs.declared.flags.Flag.TheVariants.{Event, Behind, Line}
 use Rattle.nm_picture.specs.Markup.{element, empty}
 use Rattle.nm_picture.specs.Pictures.{foot_y, front_text, lane_x, shapes_text, stamp_y}
 
@@ -35,11 +35,15 @@ flag_note words =
 
 -- which line of the trace breaks a rule
 unfoldable pub event_note : ℕ → List ℕ
-event_note line = flag_note (λ rest. codes "trace line " ++ (decimal line ++ (codes " breaks a rule" ++ rest)))
+event_note line = flag_note (λ rest. codes "trace line " ++ (decimal line ++ (codes " breaks a rule (red ring)" ++ rest)))
+
+-- .. which is no event
+unfoldable pub line_note : ℕ → List ℕ
+line_note line = flag_note (λ rest. codes "trace line " ++ (decimal line ++ (codes " breaks a rule" ++ rest)))
 
 -- or which rank does at its end
 unfoldable pub behind_note : ℕ → List ℕ
-behind_note rank = flag_note (λ rest. codes "rank " ++ (decimal rank ++ (codes " breaks a rule at its end" ++ rest)))
+behind_note rank = flag_note (λ rest. codes "rank " ++ (decimal rank ++ (codes " breaks a rule at its end (red ring)" ++ rest)))
 
 -- a flag: the words, and a ring where the place is shown
 abbrev pub flag_text : Frame → Option Flag → List ℕ
@@ -49,6 +53,7 @@ flag_text frame (Some (Event rank stamp line)) =
     ++ (if is_place_in frame rank stamp then flag_ring (lane_x frame rank) (stamp_y frame stamp) else [])
 flag_text frame (Some (Behind rank)) =
     behind_note rank ++ (if has_lane frame rank then flag_ring (lane_x frame rank) (foot_y frame) else [])
+flag_text frame (Some (Line line)) = line_note line
 
 -- a picture with a flag in front of all shapes
 unfoldable pub flagged_text : Frame → List RankAccount → Option Flag → List ℕ

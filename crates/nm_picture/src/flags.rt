@@ -1,7 +1,7 @@
 //! A flag: where a trace breaks a rule first, in words, and a ring round the place.
 
 ghost use Rattle.std.specs.Prelude.{◌≡◌, ◌++◌, OnOk, if◌then◌else◌, string_bytes, []};
-ghost use Rattle.nm_picture.specs.Flags.{behind_note, event_note, flag_ring, flag_text};
+ghost use Rattle.nm_picture.specs.Flags.{behind_note, event_note, flag_ring, flag_text, line_note};
 ghost use Rattle.nm_picture.specs.Flags.{has_lane as has_lane_lem, is_place_in as is_place_in_lem};
 ghost use Rattle.nm_picture.specs.Pictures.{foot_y, lane_x, stamp_y};
 
@@ -16,6 +16,8 @@ pub enum Flag {
     Event { rank: u8, stamp: u64, line: u32 },
     /// At the end of this rank.
     Behind { rank: u8 },
+    /// In this line of the trace, which is no event.
+    Line { line: u32 },
 }
 
 /// Whether a rank has a line.
@@ -50,6 +52,17 @@ fn push_event_note(out: &mut String, line: u32) -> Result<(), AllocError>
 {
     write!(
         out,
+        "<text class=\"note\" x=\"340\" y=\"39\">trace line {line} breaks a rule (red ring)</text>\n"
+    )
+}
+
+/// .. which is no event.
+#[tactic(auto, unfolding(crate::specs::Flags::line_note))]
+fn push_line_note(out: &mut String, line: u32) -> Result<(), AllocError>
+    ensures ok { OnOk result (string_bytes out.new ≡ string_bytes out.old ++ line_note line) }
+{
+    write!(
+        out,
         "<text class=\"note\" x=\"340\" y=\"39\">trace line {line} breaks a rule</text>\n"
     )
 }
@@ -61,7 +74,7 @@ fn push_behind_note(out: &mut String, rank: u8) -> Result<(), AllocError>
 {
     write!(
         out,
-        "<text class=\"note\" x=\"340\" y=\"39\">rank {rank} breaks a rule at its end</text>\n"
+        "<text class=\"note\" x=\"340\" y=\"39\">rank {rank} breaks a rule at its end (red ring)</text>\n"
     )
 }
 
@@ -105,6 +118,7 @@ pub fn push_flag(out: &mut String, frame: &Frame, flag: Option<Flag>) -> Result<
             push_behind_note(out, rank)?;
             push_at_end(out, frame, rank)
         }
+        Some(Flag::Line { line }) => push_line_note(out, line),
         None => Ok(()),
     }
 }

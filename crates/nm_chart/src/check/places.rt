@@ -1,47 +1,59 @@
-//! The flag at a place.
+//! The flag of a judgement.
 
 ghost use Rattle.std.specs.Prelude.{◌≡◌, slice_get};
-ghost use Rattle.nm_chart.specs.Findings.{event_flag, flag_at as flag_at_lem};
-ghost use Rattle.nm_chart.specs.Findings.{flag_of as flag_of_lem};
+ghost use Rattle.nm_chart.specs.Findings as spec;
 
-use nm_check::breaks::Place;
+use nm_check::breaks::{EventLine, Judgement};
 use nm_history::History;
 use nm_picture::Flag;
 use nm_report::RankAccount;
 
-/// The flag at an event of a rank's history, in this line of the trace.
-fn flag_in(history: &History, rank: u8, at: usize, line: u32) -> Option<Flag>
-    ensures { result ≡ event_flag rank line (slice_get history.now.events at) }
+/// The flag at an event of a rank's history, in its line of the trace.
+fn flag_in(history: &History, event: EventLine) -> Option<Flag>
+    ensures { result ≡ spec.event_flag event (slice_get history.now.events event.spot.at) }
 {
-    match history.get(at) {
-        Some(event) => {
-            let stamp = event.stamp;
-            Some(Flag::Event { rank, stamp, line })
-        }
+    match history.get(event.spot.at) {
+        Some(happened) => Some(Flag::Event {
+            rank: event.spot.rank,
+            stamp: happened.stamp,
+            line: event.line,
+        }),
         None => None,
     }
 }
 
-/// The flag at an event of a rank, in this line of the trace.
-fn flag_at(ranks: &[RankAccount], rank: u8, at: usize, line: u32) -> Option<Flag>
-    ensures { result ≡ flag_at_lem rank at line (slice_get ranks.now rank) }
+/// .. of these ranks.
+fn flag_at(ranks: &[RankAccount], event: EventLine) -> Option<Flag>
+    ensures { result ≡ spec.flag_at event (slice_get ranks.now event.spot.rank) }
 {
-    match ranks.get(rank as usize) {
-        Some(account) => flag_in(&account.history, rank, at, line),
+    match ranks.get(event.spot.rank as usize) {
+        Some(account) => flag_in(&account.history, event),
         None => None,
     }
 }
 
-/// The flag at a place of these ranks: at an event, or at the end of a rank.
-pub fn flag_of(ranks: &[RankAccount], place: Place) -> Option<Flag>
-    ensures { result ≡ flag_of_lem ranks.now place }
+/// The flag at the event at which a rank breaks a rule, or at its end.
+fn own_flag(ranks: &[RankAccount], rank: u8, event: Option<EventLine>) -> Option<Flag>
+    ensures { result ≡ spec.own_flag ranks.now rank event }
 {
-    match place {
-        Place::Event { rank, at, line, .. } => flag_at(ranks, rank, at, line),
-        Place::Behind { rank } => Some(Flag::Behind { rank }),
-        Place::Standing { rank, .. } => Some(Flag::Behind { rank }),
-        Place::Nowhere => None,
-        Place::Count { .. } => None,
-        Place::LastLine { .. } => None,
+    match event {
+        Some(event) => flag_at(ranks, event),
+        None => Some(Flag::Behind { rank }),
+    }
+}
+
+/// The flag of a judgement on these ranks.
+pub fn flag_of(ranks: &[RankAccount], judgement: Judgement) -> Option<Flag>
+    ensures { result ≡ spec.flag_of ranks.now judgement }
+{
+    match judgement {
+        Judgement::Holds => None,
+        Judgement::Own { rank, event, .. } => own_flag(ranks, rank, event),
+        Judgement::Carried { event, .. } => flag_at(ranks, event),
+        Judgement::Left { event, .. } => flag_at(ranks, event),
+        Judgement::Standing { rank, .. } => Some(Flag::Behind { rank }),
+        Judgement::Counted { line, .. } => Some(Flag::Line { line }),
+        Judgement::Home { line, .. } => Some(Flag::Line { line }),
+        Judgement::Done { line } => Some(Flag::Line { line }),
     }
 }

@@ -1,7 +1,7 @@
 //! How many cells there are, and how many there are to be.
 
 ghost use Rattle.std.specs.Prelude.{◌≡◌};
-ghost use Rattle.nm_check.specs.CellCounts as spec;
+ghost use Rattle.nm_check.specs.Judgements as spec;
 
 use nm_report::RunRecord;
 

@@ -1,16 +1,14 @@
 //! What is found of a script and a trace in one text.
 
-ghost use Rattle.std.specs.Prelude.{◌≡◌, ◌<◌, ◌≤◌, ℕ, IfOk, List, length};
+ghost use Rattle.std.specs.Prelude.{◌≡◌, ◌<◌, ◌≤◌, ℕ, IfOk, List, Some, length};
 ghost use Rattle.nm_types.specs.declared.scripts.Line as script_line;
 ghost use Rattle.nm_script.specs.Spelled.{IsTextOf};
 ghost use Rattle.nm_report.specs.Lawful.{IsRunIn};
 ghost use Rattle.nm_report.specs.declared.records.RunRecord as the_record;
 ghost use Rattle.nm_trace.specs.Traces.{IsTraceOf};
 ghost use Rattle.nm_check.specs.declared.verdicts.Verdict.TheVariants.{Holds};
-ghost use Rattle.nm_check.specs.declared.checked.checks.Checked.TheVariants as checked;
-ghost use Rattle.nm_check.specs.Checks.{IsChecked, sizes};
 ghost use Rattle.nm_shell.specs.Inputs.{IsInput};
-ghost use Rattle.nm_check.specs.Found.{IsFound, IsScriptFound, IsTraceFound, checked_of};
+ghost use Rattle.nm_check.specs.Found.{IsFound, IsScriptFound, IsTraceFound, sizes, verdict_in};
 
 use crate::breaks::judgements::{Judgement, judged};
 use crate::breaks::stops::{Stop, lines_in, stop_at};
@@ -38,8 +36,7 @@ pub enum Found {
         line: u32,
         stop: Stop,
     },
-    /// The verdict on the trace of this record, where it breaks the rule first, and what the verdict
-    /// rests on there. So many lines stand before the line `---`.
+    /// What the record of the trace is judged to be. So many lines stand before the line `---`.
     Judged {
         before: u32,
         judgement: Judgement,
@@ -65,7 +62,7 @@ fn find_in_trace(
     ensures holds { (run : the_record.RunRecord) →
         IsTraceOf (sizes cells eager script.now.ranks) rest.now run →
         IsRunIn (sizes cells eager script.now.ranks) script.now.lines run →
-        IfOk result (λ found. checked_of found ≡ checked.Judged Holds) }
+        IfOk result (λ found. verdict_in found ≡ Some Holds) }
 {
     let shape = Shape::new(script.ranks, cells, eager).unwrap();
     match read_trace(alloc, rest, shape) {
@@ -102,7 +99,7 @@ fn find_in_script(
     ensures holds { (ranks : ℕ) (lines : List script_line.Line) (run : the_record.RunRecord) →
         IsTextOf front.now ranks lines → IsTraceOf (sizes cells eager ranks) rest.now run →
         IsRunIn (sizes cells eager ranks) lines run →
-        IfOk result (λ found. checked_of found ≡ checked.Judged Holds) }
+        IfOk result (λ found. verdict_in found ≡ Some Holds) }
 {
     match nm_script::read(alloc, front) {
         Ok(script) => find_in_trace(alloc, &script, lines_in(front), rest, cells, eager),
@@ -112,8 +109,7 @@ fn find_in_script(
 }
 
 /// What is found of a script and the trace behind the first line `---`, for so many cells of each
-/// rank and this eager limit: what `nm_check::checked::check` says, and where the trace breaks the rule
-/// first.
+/// rank and this eager limit.
 ///
 /// # Errors
 /// Want of memory says nothing of the bytes.
@@ -121,13 +117,12 @@ pub fn find(alloc: Global, bytes: &[u8], cells: u8, eager: u16) -> Result<Found,
     requires some_cell { 1 ≤ cells }
     requires few_cells { cells ≤ 64 }
     requires few_eager { eager ≤ 4096 }
-    ensures checked { IfOk result (λ found. IsChecked cells eager bytes.now (checked_of found)) }
     ensures found { IfOk result (IsFound cells eager bytes.now) }
     ensures holds { (front rest : List ℕ) (ranks : ℕ) (lines : List script_line.Line)
         (run : the_record.RunRecord) →
         IsInput bytes.now front rest → IsTextOf front ranks lines →
         IsTraceOf (sizes cells eager ranks) rest run → IsRunIn (sizes cells eager ranks) lines run →
-        IfOk result (λ found. checked_of found ≡ checked.Judged Holds) }
+        IfOk result (λ found. verdict_in found ≡ Some Holds) }
 {
     match parts(bytes) {
         Some((front, rest)) => find_in_script(alloc, front, rest, cells, eager),

@@ -1,230 +1,276 @@
-//! A verdict, where the trace breaks its rule first, and what that rests on.
+//! What a record is judged to be, where its trace breaks a rule first, and what that rests on.
 
-ghost use Rattle.std.specs.Prelude.{◌≡◌, ◌+◌, ◌<◌, ◌≤◌, ℕ, IfOk, None, Some, length};
+ghost use Rattle.std.specs.Prelude.{◌≡◌, ◌+◌, ◌-◌, ◌<◌, ◌≤◌, ℕ, IfOk, length};
 ghost use Rattle.nm_report.specs.Ends.{ends_of};
 ghost use Rattle.nm_report.specs.Lawful.{IsRunIn};
 ghost use Rattle.nm_check_ranks.specs.Tabled.{EachTabled};
 ghost use Rattle.nm_check_ranks.specs.declared.rest.clauses.RestClause.TheVariants as rest;
-ghost use Rattle.nm_check.specs.Judgements.{IsJudgement};
-ghost use Rattle.nm_check.specs.Judgements.{happened_at as happened_at_lem, home_at, plain_at};
-ghost use Rattle.nm_check.specs.OwnFirsts.{IsOwnFirst};
+ghost use Rattle.nm_check_ranks.specs.declared.rest.resting.RestBreak.TheVariants as kind;
+ghost use Rattle.nm_check.specs.Judgements as spec;
+ghost use Rattle.nm_check.specs.Judgements.{IsJudgement, judged_as};
+ghost use Rattle.nm_check.specs.declared.breaks.judgements.Judgement.TheVariants as judgement;
+ghost use Rattle.nm_check.specs.OwnFirsts.{IsBreachOf};
 ghost use Rattle.nm_check.specs.Places.{events_in};
-ghost use Rattle.nm_check.specs.Verdicts.{Judges};
+ghost use Rattle.nm_check.specs.Verdicts.{BreaksOwn, Judges};
 ghost use Rattle.nm_check.specs.declared.judging.Tabled.TheVariants.{Carried as FoundCarried, Rest as FoundRest};
-ghost use Rattle.nm_check.specs.declared.verdicts.Verdict.TheVariants.{Holds, Own, Rest};
+ghost use Rattle.nm_check.specs.declared.verdicts.Verdict.TheVariants as verdict;
 ghost use Rattle.nm_check.specs.Ranked.{IsTabled};
 
 use crate::breaks::against::against_of;
-use crate::breaks::cells::count_of;
-use crate::breaks::counts::first_counted;
-use crate::breaks::evidence::Evidence;
-use crate::breaks::incidents::place_incident;
-use crate::breaks::others::carried_other;
-use crate::breaks::places::{Place, count_line};
-use crate::breaks::placing::{carried_place, own_place, rest_place};
+use crate::breaks::cells::{CellCount, count_of};
+use crate::breaks::counts::{Miscount, first_counted};
+use crate::breaks::others::other_event;
+use crate::breaks::places::{EventLine, count_line, told_at, told_of};
 use crate::judging::{Tabled, judge_tabled};
 use crate::ranking::{Ranked, judge_ranks};
-use crate::{OwnClause, RestClause, Verdict};
+use crate::{CarriedClause, OwnClause, RestClause, Verdict};
 use nm_check_rank::paired::breaches::Breach;
+use nm_check_rank::paired::dues::Due;
 use nm_check_rank::paired::tables::Tables;
 use nm_check_ranks::between::BrokenPair;
-use nm_check_ranks::rest::resting::RestBreak;
+use nm_check_ranks::firsts::Spot;
+use nm_check_ranks::rest::firsts::EventRule;
+use nm_check_ranks::rest::resting::{RestBreak, clause_of_rule};
+use nm_check_ranks::rest::waits::{Next, next_of};
 use nm_report::RunRecord;
-use nm_types::{Memory, Script};
+use nm_types::{Line, Memory, Script};
 use std::alloc::Global;
 
-/// A verdict, where the trace breaks its rule first, and what that rests on.
+/// What a record is judged to be, and of a rule that breaks where, and what that rests on. Lines of the
+/// trace are counted from 1.
 #[derive(Clone, Copy)]
-pub struct Judgement {
-    pub verdict: Verdict,
-    pub place: Place,
-    pub why: Evidence,
+pub enum Judgement {
+    /// The record is of a run of the script.
+    Holds,
+    /// A rank breaks a rule of its own run: this is the first in order, and it breaks one first there, at
+    /// this event if it is one.
+    Own {
+        clause: OwnClause,
+        rank: u8,
+        first: Breach,
+        event: Option<EventLine>,
+    },
+    /// The messages from one rank to another break a rule at this event, which is held against this one
+    /// of the other rank, and this stands between the two.
+    Carried {
+        clause: CarriedClause,
+        from: u8,
+        to: u8,
+        event: EventLine,
+        other: Option<EventLine>,
+        against: Option<Due>,
+    },
+    /// A send or a recall is left unfinished in the end.
+    Left {
+        rule: EventRule,
+        event: EventLine,
+    },
+    /// A rank, which is said to wait at the command in this line of the script or at none, neither is at
+    /// its end nor waits for what can't come: this is its next command.
+    Standing {
+        rank: u8,
+        waits: Option<u64>,
+        next: Next,
+    },
+    /// A count of packets is not the one that is called for, in this line.
+    Counted {
+        line: u32,
+        miscount: Miscount,
+    },
+    /// The cells are not those that there are to be, or not all home, in this line.
+    Home {
+        line: u32,
+        cells: CellCount,
+    },
+    /// The end is marked wrong, in this line.
+    Done {
+        line: u32,
+    },
 }
 
-/// What happened at a place, and nothing besides.
-fn happened_at(run: &RunRecord, place: Place) -> Evidence
-    ensures { result ≡ happened_at_lem (ends_of run.now.ranks) place }
-{
-    Evidence {
-        first: None,
-        other: None,
-        against: None,
-        incident: place_incident(run, place),
-        cells: None,
-        counts: None,
-    }
-}
-
-/// A judgement that rests on nothing but what happened at its place.
-fn plain(run: &RunRecord, verdict: Verdict, place: Place) -> Judgement
-    ensures { result ≡ plain_at (ends_of run.now.ranks) verdict place }
-{
-    Judgement {
-        verdict,
-        place,
-        why: happened_at(run, place),
+impl Judgement {
+    /// The verdict alone.
+    pub fn verdict(self) -> Verdict
+        ensures { result ≡ judged_as self }
+    {
+        match self {
+            Judgement::Holds => Verdict::Holds,
+            Judgement::Own { clause, rank, .. } => Verdict::Own { clause, rank },
+            Judgement::Carried {
+                clause,
+                from,
+                to,
+                ..
+            } => Verdict::Carried { clause, from, to },
+            Judgement::Left { rule, .. } => Verdict::Rest {
+                clause: clause_of_rule(rule),
+            },
+            Judgement::Standing { .. } => Verdict::Rest {
+                clause: RestClause::Waits,
+            },
+            Judgement::Counted { .. } => Verdict::Rest {
+                clause: RestClause::Counts,
+            },
+            Judgement::Home { .. } => Verdict::Home,
+            Judgement::Done { .. } => Verdict::Done,
+        }
     }
 }
 
 /// Where a rank breaks a rule of its own run first.
 fn own_judgement(
-    script: &Script,
+    lines: &[Line],
     run: &RunRecord,
     clause: OwnClause,
     rank: u8,
     first: Breach,
 ) -> Judgement
-    requires judged { Judges script.now.lines run.now (Own clause rank) }
-    requires first { IsOwnFirst script.now.lines run.now (Own clause rank) (Some first) }
+    requires judged { BreaksOwn run.now.shape lines.now (ends_of run.now.ranks) clause rank }
+    requires first { IsBreachOf run.now.shape lines.now (ends_of run.now.ranks) rank first }
     requires short { events_in (ends_of run.now.ranks) ≤ 67108864 }
-    ensures { (count : ℕ) → IsJudgement count script.now.lines run.now result }
+    ensures { (count : ℕ) → IsJudgement count lines.now run.now result }
 {
-    let place = own_place(script, run, clause, rank, first);
-    Judgement {
-        verdict: Verdict::Own { clause, rank },
-        place,
-        why: Evidence {
-            first: Some(first),
-            ..happened_at(run, place)
-        },
+    let event = told_of(run.ranks.as_slice(), rank, first.place);
+    Judgement::Own {
+        clause,
+        rank,
+        first,
+        event,
     }
 }
 
 /// Where the messages from one rank to another break a rule first.
 fn carried_judgement(
-    script: &Script,
+    lines: &[Line],
     run: &RunRecord,
     tables: &[Tables],
     pair: BrokenPair,
 ) -> Judgement
-    requires found { IsTabled script.now.lines run.now (FoundCarried pair) }
+    requires found { IsTabled lines.now run.now (FoundCarried pair) }
     requires short { events_in (ends_of run.now.ranks) ≤ 67108864 }
-    requires tabled { EachTabled script.now.lines (ends_of run.now.ranks) tables.now }
-    ensures { (count : ℕ) → IsJudgement count script.now.lines run.now result }
+    requires tabled { EachTabled lines.now (ends_of run.now.ranks) tables.now }
+    ensures { (count : ℕ) → IsJudgement count lines.now run.now result }
 {
-    let lines = script.lines.as_slice();
     let ranks = run.ranks.as_slice();
     let from = pair.from;
     let to = pair.broken.to;
-    let place = carried_place(script, run, pair);
-    let other = carried_other(lines, ranks, tables, from, to, place);
-    let against = against_of(ranks, place, other);
-    Judgement {
-        verdict: Verdict::Carried {
-            clause: pair.broken.first.clause,
-            from,
-            to,
-        },
-        place,
-        why: Evidence {
-            other,
-            against,
-            ..happened_at(run, place)
-        },
+    let event = told_at(ranks, pair.broken.first.spot);
+    let other = other_event(lines, ranks, tables, from, to, event.spot);
+    let against = against_of(lines, ranks, event, other);
+    Judgement::Carried {
+        clause: pair.broken.first.clause,
+        from,
+        to,
+        event,
+        other,
+        against,
+    }
+}
+
+/// Where an event is left unfinished first.
+fn left_judgement(lines: &[Line], run: &RunRecord, rule: EventRule, spot: Spot) -> Judgement
+    requires found { IsTabled lines.now run.now (FoundRest (kind.Event rule spot)) }
+    requires short { events_in (ends_of run.now.ranks) ≤ 67108864 }
+    ensures { (count : ℕ) → IsJudgement count lines.now run.now result }
+{
+    let event = told_at(run.ranks.as_slice(), spot);
+    Judgement::Left { rule, event }
+}
+
+/// Which rank stands first where it may not.
+fn standing_judgement(lines: &[Line], run: &RunRecord, tables: &[Tables], rank: u8) -> Judgement
+    requires found { IsTabled lines.now run.now (FoundRest (kind.Standing rank)) }
+    requires tabled { EachTabled lines.now (ends_of run.now.ranks) tables.now }
+    ensures { (count : ℕ) → IsJudgement count lines.now run.now result }
+{
+    let i = rank as usize;
+    let ranks = run.ranks.as_slice();
+    let account = &ranks[i];
+    let next = next_of(rank, lines, account, &tables[i]);
+    Judgement::Standing {
+        rank,
+        waits: account.waits,
+        next,
     }
 }
 
 /// Where the counts of packets are wrong first.
 fn counts_judgement(
     alloc: Global,
-    script: &Script,
+    lines: &[Line],
     run: &RunRecord,
     tables: &[Tables],
 ) -> Result<Judgement, Memory>
-    requires judged { Judges script.now.lines run.now (Rest rest.Counts) }
+    requires judged { Judges lines.now run.now (verdict.Rest rest.Counts) }
     requires few { length run.now.ranks < 256 }
     requires short { events_in (ends_of run.now.ranks) + length run.now.pairs ≤ 67108864 }
-    requires tabled { EachTabled script.now.lines (ends_of run.now.ranks) tables.now }
+    requires tabled { EachTabled lines.now (ends_of run.now.ranks) tables.now }
     ensures { IfOk result
-        (λ judgement. (count : ℕ) → IsJudgement count script.now.lines run.now judgement) }
+        (λ judgement. (count : ℕ) → IsJudgement count lines.now run.now judgement) }
 {
     let ranks = run.ranks.as_slice();
-    let verdict = Verdict::Rest {
-        clause: RestClause::Counts,
-    };
     match first_counted(alloc, ranks, run.pairs.as_slice(), tables)? {
-        Some(told) => {
-            let place = Place::Count {
-                at: told.at,
-                line: count_line(ranks, told.at),
-            };
-            let why = Evidence {
-                counts: Some(told),
-                ..happened_at(run, place)
-            };
-            Ok(Judgement {
-                verdict,
-                place,
-                why,
-            })
+        Some(miscount) => {
+            let line = count_line(ranks, miscount.at);
+            Ok(Judgement::Counted { line, miscount })
         }
-        None => Ok(plain(run, verdict, Place::Nowhere)),
+        None => Ok(Judgement::Holds),
     }
 }
 
 /// Where the ranks break a rule of rest first.
 fn rest_judgement(
     alloc: Global,
-    script: &Script,
+    lines: &[Line],
     run: &RunRecord,
     tables: &[Tables],
     first: RestBreak,
 ) -> Result<Judgement, Memory>
-    requires found { IsTabled script.now.lines run.now (FoundRest first) }
+    requires found { IsTabled lines.now run.now (FoundRest first) }
     requires few { length run.now.ranks < 256 }
     requires short { events_in (ends_of run.now.ranks) + length run.now.pairs ≤ 67108864 }
-    requires tabled { EachTabled script.now.lines (ends_of run.now.ranks) tables.now }
+    requires tabled { EachTabled lines.now (ends_of run.now.ranks) tables.now }
     ensures { IfOk result
-        (λ judgement. (count : ℕ) → IsJudgement count script.now.lines run.now judgement) }
+        (λ judgement. (count : ℕ) → IsJudgement count lines.now run.now judgement) }
 {
     match first {
-        RestBreak::Counts => counts_judgement(alloc, script, run, tables),
-        _ => {
-            let clause = first.clause();
-            let place = rest_place(script, run, first);
-            Ok(plain(run, Verdict::Rest { clause }, place))
-        }
+        RestBreak::Event { rule, spot } => Ok(left_judgement(lines, run, rule, spot)),
+        RestBreak::Standing { rank } => Ok(standing_judgement(lines, run, tables, rank)),
+        RestBreak::Counts => counts_judgement(alloc, lines, run, tables),
     }
 }
 
 /// The cells break their rule.
 fn home_judgement(run: &RunRecord, count: u32) -> Judgement
-    ensures { result ≡ home_at run.now count }
+    ensures { result ≡ judgement.Home (count - 1) (spec.count_of run.now) }
 {
-    let place = Place::LastLine {
+    Judgement::Home {
         line: count.saturating_sub(1),
-    };
-    Judgement {
-        verdict: Verdict::Home,
-        place,
-        why: Evidence {
-            cells: Some(count_of(run)),
-            ..happened_at(run, place)
-        },
+        cells: count_of(run),
     }
 }
 
 /// The judgement on a record whose ranks run their own commands, by what is looked up of them.
 fn tabled_judgement(
     alloc: Global,
-    script: &Script,
+    lines: &[Line],
     run: &RunRecord,
     found: Tabled,
     tables: &[Tables],
     count: u32,
 ) -> Result<Judgement, Memory>
-    requires found { IsTabled script.now.lines run.now found }
+    requires found { IsTabled lines.now run.now found }
     requires few { length run.now.ranks < 256 }
     requires short { events_in (ends_of run.now.ranks) + length run.now.pairs ≤ 67108864 }
-    requires tabled { EachTabled script.now.lines (ends_of run.now.ranks) tables.now }
-    ensures { IfOk result (IsJudgement count script.now.lines run.now) }
+    requires tabled { EachTabled lines.now (ends_of run.now.ranks) tables.now }
+    ensures { IfOk result (IsJudgement count lines.now run.now) }
 {
     match found {
-        Tabled::Carried { pair } => Ok(carried_judgement(script, run, tables, pair)),
-        Tabled::Rest { first } => rest_judgement(alloc, script, run, tables, first),
+        Tabled::Carried { pair } => Ok(carried_judgement(lines, run, tables, pair)),
+        Tabled::Rest { first } => rest_judgement(alloc, lines, run, tables, first),
         Tabled::Home => Ok(home_judgement(run, count)),
-        Tabled::Done => Ok(plain(run, Verdict::Done, Place::LastLine { line: count })),
-        Tabled::Holds => Ok(plain(run, Verdict::Holds, Place::Nowhere)),
+        Tabled::Done => Ok(Judgement::Done { line: count }),
+        Tabled::Holds => Ok(Judgement::Holds),
     }
 }
 
@@ -242,18 +288,18 @@ pub fn judged(
     requires short { events_in (ends_of run.now.ranks) + length run.now.pairs ≤ 67108864 }
     ensures first { IfOk result (IsJudgement count script.now.lines run.now) }
     ensures exact { IsRunIn run.now.shape script.now.lines run.now →
-        IfOk result (λ judgement. judgement.verdict ≡ Holds) }
+        IfOk result (λ judgement. judged_as judgement ≡ verdict.Holds) }
 {
     let lines = script.lines.as_slice();
     match judge_ranks(alloc, run.shape, lines, run.ranks.as_slice())? {
         Ranked::Run(tables) => {
             let found = judge_tabled(alloc, script, run, &tables)?;
-            tabled_judgement(alloc, script, run, found, &tables, count)
+            tabled_judgement(alloc, lines, run, found, &tables, count)
         }
         Ranked::Breaks {
             clause,
             rank,
             first,
-        } => { Ok(own_judgement(script, run, clause, rank, first)) }
+        } => { Ok(own_judgement(lines, run, clause, rank, first)) }
     }
 }

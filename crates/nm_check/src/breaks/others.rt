@@ -7,70 +7,50 @@ ghost use Rattle.nm_types.specs.declared.answers.Answer as given_answer;
 ghost use Rattle.nm_report.specs.Ends.{ends_of};
 ghost use Rattle.nm_history.specs.declared.events.Event as event;
 ghost use Rattle.nm_history.specs.declared.events.Happened.TheVariants.{Ran};
-ghost use Rattle.nm_history.specs.Happens.{is_recall as is_recall_lem, is_send as is_send_lem};
+ghost use Rattle.nm_history.specs.Happens.{is_send as is_send_lem};
 ghost use Rattle.nm_history.specs.Quiescence.{history_of};
 ghost use Rattle.nm_check_ranks.specs.Tabled.{AreTabled, EachTabled};
+ghost use Rattle.nm_lookups.specs.Firsts.{is_named as is_named_lem};
 ghost use Rattle.nm_check.specs.Others as spec;
-ghost use Rattle.nm_check.specs.Others.{IsAgainst, IsCarriedOther, IsOtherEvent, IsTakenBy};
+ghost use Rattle.nm_check.specs.Others.{IsHeldAgainst, IsOtherEvent, IsTakenBy};
 ghost use Rattle.nm_check.specs.Others.{is_mate as is_mate_lem, is_withdrawal as is_withdrawal_lem};
 ghost use Rattle.nm_check.specs.Others.{pair_shown};
 ghost use Rattle.nm_check.specs.Places.{events_in};
 
-use crate::breaks::places::{Place, events_of, line_of};
+use crate::breaks::places::{EventLine, events_of, told_at};
 use nm_check_rank::paired::tables::Tables;
+use nm_check_ranks::firsts::Spot;
 use nm_history::plain::Pair;
 use nm_history::{Event, Happened};
+use nm_lookups::firsts::{Kind, Message};
+use nm_lookups::kinds::{Recalls, Refused, Sends, Withdrawn};
 use nm_report::RankAccount;
 use nm_types::Line;
 
-/// An event that another one is held against: its rank, its place there, counted from 0, and its
-/// line of the trace, counted from 1.
-#[derive(Clone, Copy)]
-pub struct Held {
-    pub rank: u8,
-    pub at: usize,
-    pub line: u32,
-}
-
-/// Message n was sent to this rank.
-fn is_send(to: u8, n: u64, what: &Happened) -> bool
-    ensures { result ≡ is_send_lem to n what.now }
+/// Whether message n of a rank is named.
+fn is_named(named: Option<Message>, rank: u8, n: u64) -> bool
+    ensures { result ≡ is_named_lem (record { rank = rank; n = n }) named }
 {
-    match what {
-        Happened::Send {
-            to: rank,
-            n: number,
-            ..
-        } => *rank == to && *number == n,
-        _ => false,
+    match named {
+        Some(message) => message.rank == rank && message.n == n,
+        None => false,
     }
 }
 
-/// The receiver was asked to withdraw message n.
-fn is_recall(to: u8, n: u64, what: &Happened) -> bool
-    ensures { result ≡ is_recall_lem to n what.now }
+/// Whether an event is of a kind, and of message n of a rank.
+fn is_of<T: Kind>(rank: u8, n: u64, what: &Happened) -> bool
+    ensures { result ≡ T.is_of rank n what.now }
 {
-    match what {
-        Happened::Recall {
-            to: rank,
-            n: number,
-        } => *rank == to && *number == n,
-        _ => false,
-    }
+    is_named(T::message(what), rank, n)
 }
 
 /// Message n of this rank was withdrawn, done or late.
 fn is_withdrawal(from: u8, n: u64, what: &Happened) -> bool
     ensures { result ≡ is_withdrawal_lem from n what.now }
 {
-    match what {
-        Happened::Withdraw {
-            from: rank,
-            n: number,
-            ..
-        } => *rank == from && *number == n,
-        _ => false,
-    }
+    let done = is_of::<Withdrawn>(from, n, what);
+    let late = is_of::<Refused>(from, n, what);
+    done || late
 }
 
 /// Whether what happened at rank x is held against this at the other rank.
@@ -78,25 +58,21 @@ fn is_mate(x: u8, what: &Happened, other: &Happened) -> bool
     ensures { result ≡ is_mate_lem x what.now other.now }
 {
     match what {
-        Happened::Arrive { a } => is_send(x, a.n, other),
-        Happened::Withdraw { n, .. } => is_recall(x, *n, other),
+        Happened::Arrive { a } => is_of::<Sends>(x, a.n, other),
+        Happened::Withdraw { n, .. } => is_of::<Recalls>(x, *n, other),
         Happened::Undone { n, .. } => is_withdrawal(x, *n, other),
         _ => false,
     }
 }
 
 /// An event of rank y, by its place.
-fn held_at(ranks: &[RankAccount], y: u8, at: Option<usize>) -> Option<Held>
+fn held_at(ranks: &[RankAccount], y: u8, at: Option<usize>) -> Option<EventLine>
     requires short { events_in (ends_of ranks.now) ≤ 67108864 }
     requires inside { (k : ℕ) → at ≡ Some k → k < length (history_of (ends_of ranks.now) y) }
     ensures { result ≡ option_map (spec.held_at (ends_of ranks.now) y) at }
 {
     match at {
-        Some(at) => Some(Held {
-            rank: y,
-            at,
-            line: line_of(ranks, y, at),
-        }),
+        Some(at) => Some(told_at(ranks, Spot { rank: y, at })),
         None => None,
     }
 }
@@ -112,11 +88,11 @@ fn mate_at(events: &[Event], x: u8, what: &Happened) -> Option<usize>
 fn send_at(events: &[Event], x: u8, n: u64) -> Option<usize>
     ensures { result ≡ position (λ e. is_send_lem x n e.what) events.now }
 {
-    events.iter().position(|e| is_send(x, n, &e.what))
+    events.iter().position(|e| is_of::<Sends>(x, n, &e.what))
 }
 
 /// The first event of rank y that what happened at rank x is held against.
-fn mate_of(ranks: &[RankAccount], x: u8, what: &Happened, y: u8) -> Option<Held>
+fn mate_of(ranks: &[RankAccount], x: u8, what: &Happened, y: u8) -> Option<EventLine>
     requires { events_in (ends_of ranks.now) ≤ 67108864 }
     ensures { result ≡ spec.first_held (ends_of ranks.now) y (is_mate_lem x what.now) }
 {
@@ -125,7 +101,7 @@ fn mate_of(ranks: &[RankAccount], x: u8, what: &Happened, y: u8) -> Option<Held>
 }
 
 /// The send of message n of rank y to rank x.
-fn send_of(ranks: &[RankAccount], x: u8, n: u64, y: u8) -> Option<Held>
+fn send_of(ranks: &[RankAccount], x: u8, n: u64, y: u8) -> Option<EventLine>
     requires { events_in (ends_of ranks.now) ≤ 67108864 }
     ensures { result ≡ spec.first_held (ends_of ranks.now) y (is_send_lem x n) }
 {
@@ -134,7 +110,7 @@ fn send_of(ranks: &[RankAccount], x: u8, n: u64, y: u8) -> Option<Held>
 }
 
 /// The event by which a receive of rank y took message n of rank x.
-fn taken_by(ranks: &[RankAccount], tables: &[Tables], x: u8, n: u64, y: u8) -> Option<Held>
+fn taken_by(ranks: &[RankAccount], tables: &[Tables], x: u8, n: u64, y: u8) -> Option<EventLine>
     requires known { y < length ranks.now }
     requires short { events_in (ends_of ranks.now) ≤ 67108864 }
     requires tabled { AreTabled (ends_of ranks.now) tables.now }
@@ -146,7 +122,7 @@ fn taken_by(ranks: &[RankAccount], tables: &[Tables], x: u8, n: u64, y: u8) -> O
 }
 
 /// The send of the message that a pair of rank x has.
-fn sent_of(ranks: &[RankAccount], x: u8, pair: Option<Pair>) -> Option<Held>
+fn sent_of(ranks: &[RankAccount], x: u8, pair: Option<Pair>) -> Option<EventLine>
     requires { events_in (ends_of ranks.now) ≤ 67108864 }
     ensures { result ≡ spec.sent_held (ends_of ranks.now) x pair }
 {
@@ -164,7 +140,7 @@ fn shown_by(
     x: u8,
     at: usize,
     line: u64,
-) -> Option<Held>
+) -> Option<EventLine>
     requires known { x < length ranks.now }
     requires short { events_in (ends_of ranks.now) ≤ 67108864 }
     requires tabled { EachTabled lines.now (ends_of ranks.now) tables.now }
@@ -188,13 +164,13 @@ fn held_against(
     at: usize,
     what: &Happened,
     y: u8,
-) -> Option<Held>
+) -> Option<EventLine>
     requires known { x < length ranks.now }
     requires other { y < length ranks.now }
     requires short { events_in (ends_of ranks.now) ≤ 67108864 }
     requires tabled { EachTabled lines.now (ends_of ranks.now) tables.now }
     ensures { (e : event.Event) → slice_get (history_of (ends_of ranks.now) x) at ≡ Some e →
-        e.what ≡ what.now → IsAgainst lines.now (ends_of ranks.now) x
+        e.what ≡ what.now → IsHeldAgainst lines.now (ends_of ranks.now) x
         (take at (history_of (ends_of ranks.now) x)) what.now y result }
 {
     match what {
@@ -211,47 +187,26 @@ fn other_rank(i: u8, j: u8, x: u8) -> u8
     if x == i { j } else { i }
 }
 
-/// What the event of rank x at a place is held against, where x is rank i or rank j.
-fn other_event(
+/// What an event is held against, of rank i or rank j.
+pub(crate) fn other_event(
     lines: &[Line],
     ranks: &[RankAccount],
     tables: &[Tables],
     i: u8,
     j: u8,
-    x: u8,
-    at: usize,
-) -> Option<Held>
+    spot: Spot,
+) -> Option<EventLine>
     requires sender { i < length ranks.now }
     requires receiver { j < length ranks.now }
     requires short { events_in (ends_of ranks.now) ≤ 67108864 }
     requires tabled { EachTabled lines.now (ends_of ranks.now) tables.now }
-    ensures { IsOtherEvent lines.now (ends_of ranks.now) i j x at result }
+    ensures { IsOtherEvent lines.now (ends_of ranks.now) i j spot result }
 {
-    let events = events_of(ranks, x);
+    let events = events_of(ranks, spot.rank);
+    let at = spot.at;
     if at >= events.len() {
         return None;
     }
-    let y = other_rank(i, j, x);
-    held_against(lines, ranks, tables, x, at, &events[at].what, y)
-}
-
-/// .. of a place at which the messages from rank i to rank j break a rule.
-pub fn carried_other(
-    lines: &[Line],
-    ranks: &[RankAccount],
-    tables: &[Tables],
-    i: u8,
-    j: u8,
-    place: Place,
-) -> Option<Held>
-    requires sender { i < length ranks.now }
-    requires receiver { j < length ranks.now }
-    requires short { events_in (ends_of ranks.now) ≤ 67108864 }
-    requires tabled { EachTabled lines.now (ends_of ranks.now) tables.now }
-    ensures { IsCarriedOther lines.now (ends_of ranks.now) i j place result }
-{
-    match place {
-        Place::Event { rank, at, .. } => other_event(lines, ranks, tables, i, j, rank, at),
-        _ => None,
-    }
+    let y = other_rank(i, j, spot.rank);
+    held_against(lines, ranks, tables, spot.rank, at, &events[at].what, y)
 }

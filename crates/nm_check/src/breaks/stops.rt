@@ -8,7 +8,8 @@ ghost use Rattle.nm_trace.specs.Traces.{Begins};
 ghost use Rattle.nm_script.specs.Lines.{lines_of};
 ghost use Rattle.nm_check.specs.Stops.{IsLineStop, IsStop};
 ghost use Rattle.nm_check.specs.Stops.{is_event_name as is_event_name_lem};
-ghost use Rattle.nm_check.specs.Stops.{is_odd_event as is_odd_event_lem};
+ghost use Rattle.nm_check.specs.Stops.{is_number as is_number_lem, is_odd_event as is_odd_event_lem};
+ghost use Rattle.nm_check.specs.Stops.{is_report_line as is_report_line_lem};
 ghost use Rattle.nm_check.specs.Stops.{lines_in as lines_in_lem, zeroed as zeroed_lem};
 
 use nm_script::words::{split_line, words};
@@ -29,6 +30,8 @@ pub enum Stop {
     Number,
     /// It names an event that there isn't.
     Event,
+    /// It is one of a report, and the events before it have another one.
+    Report,
     /// It is another one that may not stand in a trace.
     Line,
 }
@@ -134,6 +137,22 @@ fn is_odd_event(words: &[&[u8]]) -> bool
     }
 }
 
+fn is_number(word: &[u8]) -> bool
+    ensures { result ≡ is_number_lem word.now }
+{
+    word.iter().all(|byte| byte.is_ascii_digit())
+}
+
+/// Whether these are the words of a line of a report: a rank, a line and an answer.
+fn is_report_line(words: &[&[u8]]) -> bool
+    ensures { result ≡ is_report_line_lem (map (λ word. word.now) words.now) }
+{
+    match words {
+        [rank, line, _answer, ..] => is_number(rank) && is_number(line),
+        _ => false,
+    }
+}
+
 /// What stops a text at a line that has its line feed.
 fn line_stop(alloc: Global, shape: Shape, line: &[u8]) -> Result<Stop, Memory>
     requires { length line.now < 67108864 }
@@ -149,7 +168,10 @@ fn line_stop(alloc: Global, shape: Shape, line: &[u8]) -> Result<Stop, Memory>
     }
     let words = words(alloc, line)?;
     if is_odd_event(&words) {
-        Ok(Stop::Event)
+        return Ok(Stop::Event);
+    }
+    if is_report_line(&words) {
+        Ok(Stop::Report)
     } else {
         Ok(Stop::Line)
     }

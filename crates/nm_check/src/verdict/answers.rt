@@ -36,14 +36,14 @@ pub fn text(alloc: Global, answer: &Response) -> Result<Vec<u8>, AllocError>
 }
 
 /// The status of what was found.
-fn found_status(found: &Found) -> u8
+pub fn found_status(found: &Found) -> u8
     ensures { result ≡ found_status_lem found.now }
 {
     match found {
         Found::NoTrace => 9,
         Found::NoScript { .. } => 3,
         Found::BadTrace { .. } => 9,
-        Found::Judged { judgement, .. } => judgement.verdict.status(),
+        Found::Judged { judgement, .. } => judgement.verdict().status(),
     }
 }
 

@@ -4,12 +4,12 @@ ghost use Rattle.std.specs.Prelude.{◌≡◌, IfOk, string_bytes};
 ghost use Rattle.nm_types.specs.Text.{peer_word, tag_word as tag_word_lem};
 ghost use Rattle.nm_check.specs.VerdictCalled as spec;
 
-use crate::verdict::incidents::{from_words, receive_words, to_words};
+use crate::verdict::events::{from_words, receive_words, to_words};
 use nm_check_rank::paired::arguments::{Argument, Mismatch, Sort};
 use nm_check_rank::paired::manies::Many;
 use nm_lookups::asked::requests::Request;
 use nm_lookups::firsts::Message;
-use nm_types::{Peer, TagPick};
+use nm_types::{How, Peer, TagPick};
 use std::alloc::{AllocError, Global};
 
 /// How many there are to be.
@@ -126,6 +126,16 @@ fn tag_word(alloc: Global, tag: TagPick) -> Result<String, AllocError>
     }
 }
 
+/// How a message is sent, as a trace has it.
+fn way_word(how: How) -> &'static str
+    ensures { result.now ≡ spec.way_word how }
+{
+    match how {
+        How::Eager => "`eager`",
+        How::Ask => "`ask`",
+    }
+}
+
 /// The name of an argument.
 fn name_word(argument: Argument) -> &'static str
     ensures { result.now ≡ spec.name_word argument }
@@ -139,6 +149,7 @@ fn name_word(argument: Argument) -> &'static str
         Argument::Length(_) => "its length",
         Argument::Capacity(_) => "its capacity",
         Argument::Message(_) => "its message",
+        Argument::Way(_) => "it",
         Argument::Line(_) => "its command",
     }
 }
@@ -156,6 +167,7 @@ fn value_words(alloc: Global, argument: Argument) -> Result<String, AllocError>
         Argument::Length(len) => format!(in alloc; "{}", len),
         Argument::Capacity(cap) => format!(in alloc; "{}", cap),
         Argument::Message(message) => from_words(alloc, message.rank, message.n),
+        Argument::Way(how) => format!(in alloc; "{}", way_word(how)),
         Argument::Line(line) => format!(in alloc; "that of line {}", line),
     }
 }

@@ -1,14 +1,7 @@
 //! What was called for, and what was found.
 
 ghost use Rattle.std.specs.Prelude.{◌≡◌, IfOk, codes, if◌then◌else◌, string_bytes};
-ghost use Rattle.nm_check.specs.VerdictDues.{answer_words as answer_words_lem, due_words as due_words_lem};
-ghost use Rattle.nm_check.specs.VerdictDues.{message_words as message_words_lem};
-ghost use Rattle.nm_check.specs.VerdictDues.{next_words as next_words_lem, some_words as some_words_lem};
-ghost use Rattle.nm_check.specs.VerdictDues.{eager_words as eager_words_lem};
-ghost use Rattle.nm_check.specs.VerdictDues.{number_words as number_words_lem};
-ghost use Rattle.nm_check.specs.VerdictDues.{objection_words as objection_words_lem};
-ghost use Rattle.nm_check.specs.VerdictDues.{shown_words as shown_words_lem, told_word as told_word_lem};
-ghost use Rattle.nm_check.specs.VerdictDues.{told_words as told_words_lem};
+ghost use Rattle.nm_check.specs.VerdictDues as spec;
 
 use crate::verdict::called::{claim_words, many_words, mismatch_words, named_words, of_words};
 use nm_check_rank::paired::dues::Due;
@@ -27,7 +20,7 @@ const RANK: &str = "its rank is to be less than ";
 
 /// The word of an answer.
 fn told_word(told: Told) -> &'static str
-    ensures { result.now ≡ told_word_lem told }
+    ensures { result.now ≡ spec.told_word told }
 {
     match told {
         Told::Started => "started",
@@ -48,14 +41,14 @@ fn told_word(told: Told) -> &'static str
 
 /// The sender, the tag and the length of a message.
 fn message_words(alloc: Global, from: u8, tag: u16, len: u64) -> Result<String, AllocError>
-    ensures { IfOk result (λ text. string_bytes text ≡ message_words_lem from tag len) }
+    ensures { IfOk result (λ text. string_bytes text ≡ spec.message_words from tag len) }
 {
     format!(in alloc; " {} {} {}", from, tag, len)
 }
 
 /// The message that an answer shows.
 fn shown_words(alloc: Global, told: Told) -> Result<String, AllocError>
-    ensures { IfOk result (λ text. string_bytes text ≡ shown_words_lem told) }
+    ensures { IfOk result (λ text. string_bytes text ≡ spec.shown_words told) }
 {
     match told {
         Told::Got { from, tag, len } => message_words(alloc, from, tag, len),
@@ -67,7 +60,7 @@ fn shown_words(alloc: Global, told: Told) -> Result<String, AllocError>
 
 /// An answer as a trace has it, but for the bytes of a message.
 fn told_words(alloc: Global, told: Told) -> Result<String, AllocError>
-    ensures { IfOk result (λ text. string_bytes text ≡ told_words_lem told) }
+    ensures { IfOk result (λ text. string_bytes text ≡ spec.told_words told) }
 {
     let shown = shown_words(alloc, told)?;
     format!(in alloc; "`{}{}`", told_word(told), shown)
@@ -75,7 +68,7 @@ fn told_words(alloc: Global, told: Told) -> Result<String, AllocError>
 
 /// An answer that was called for, if there is one, and the one that was found.
 fn answer_words(alloc: Global, called: Option<Told>, found: Told) -> Result<String, AllocError>
-    ensures { IfOk result (λ text. string_bytes text ≡ answer_words_lem called found) }
+    ensures { IfOk result (λ text. string_bytes text ≡ spec.answer_words called found) }
 {
     let found = told_words(alloc, found)?;
     match called {
@@ -89,7 +82,7 @@ fn answer_words(alloc: Global, called: Option<Told>, found: Told) -> Result<Stri
 
 /// The next command, if one is left.
 fn next_words(alloc: Global, next: Option<u64>) -> Result<String, AllocError>
-    ensures { IfOk result (λ text. string_bytes text ≡ next_words_lem next) }
+    ensures { IfOk result (λ text. string_bytes text ≡ spec.next_words next) }
 {
     match next {
         Some(next) => format!(in alloc; "the next one is in line {}", next),
@@ -100,14 +93,14 @@ fn next_words(alloc: Global, next: Option<u64>) -> Result<String, AllocError>
 /// A stamp, a number or a rank that was called for, and the one that was found.
 fn number_words(alloc: Global, name: &str, called: u64, found: u64) -> Result<String, AllocError>
     ensures { IfOk result (λ text.
-        string_bytes text ≡ number_words_lem name.now called found) }
+        string_bytes text ≡ spec.number_words name.now called found) }
 {
     format!(in alloc; "{}{}, and is {}", name, called, found)
 }
 
 /// What stands against an event.
 fn objection_words(objection: Objection) -> &'static str
-    ensures { result.now ≡ objection_words_lem objection }
+    ensures { result.now ≡ spec.objection_words objection }
 {
     match objection {
         Objection::Again => "the same happened to its message before",
@@ -138,7 +131,7 @@ fn asking_words(asks: bool) -> &'static str
 
 /// Whether a send of so many bytes goes by rendezvous by this limit.
 fn eager_words(alloc: Global, limit: u16, len: u64, asks: bool) -> Result<String, AllocError>
-    ensures { IfOk result (λ text. string_bytes text ≡ eager_words_lem limit len asks) }
+    ensures { IfOk result (λ text. string_bytes text ≡ spec.eager_words limit len asks) }
 {
     let words = asking_words(asks);
     format!(in alloc;
@@ -147,9 +140,45 @@ fn eager_words(alloc: Global, limit: u16, len: u64, asks: bool) -> Result<String
     )
 }
 
+/// The value of a byte, if there is one.
+fn value_words(alloc: Global, byte: Option<u8>) -> Result<String, AllocError>
+    ensures { IfOk result (λ text. string_bytes text ≡ spec.value_words byte) }
+{
+    match byte {
+        Some(byte) => {
+            let one = [byte];
+            let digits = hex::encode(alloc, one.as_slice())?;
+            format!(in alloc; "x{}", digits)
+        }
+        None => format!(in alloc; "missing"),
+    }
+}
+
+/// A byte by its place.
+fn place_words(alloc: Global, at: u64) -> Result<String, AllocError>
+    ensures { IfOk result (λ text. string_bytes text ≡ spec.place_words at) }
+{
+    format!(in alloc; "byte {} of its body, counted from 0,", at)
+}
+
+/// A byte of the body that was to be shown, and the one that was.
+fn byte_words(
+    alloc: Global,
+    at: u64,
+    called: Option<u8>,
+    found: Option<u8>,
+) -> Result<String, AllocError>
+    ensures { IfOk result (λ text. string_bytes text ≡ spec.byte_words at called found) }
+{
+    let name = place_words(alloc, at)?;
+    let called = value_words(alloc, called)?;
+    let found = value_words(alloc, found)?;
+    format!(in alloc; "{} is to be {}, and is {}", name, called, found)
+}
+
 /// What was called for, and what was found.
-fn some_words(alloc: Global, due: Due) -> Result<String, AllocError>
-    ensures { IfOk result (λ text. string_bytes text ≡ some_words_lem due) }
+pub(crate) fn some_words(alloc: Global, due: Due) -> Result<String, AllocError>
+    ensures { IfOk result (λ text. string_bytes text ≡ spec.some_words due) }
 {
     match due {
         Due::Command { next } => next_words(alloc, next),
@@ -166,12 +195,13 @@ fn some_words(alloc: Global, due: Due) -> Result<String, AllocError>
         Due::Named { called, found } => named_words(alloc, called, found),
         Due::Argument { mismatch } => mismatch_words(alloc, mismatch),
         Due::Of { called, found } => of_words(alloc, called, found),
+        Due::Byte { at, called, found } => byte_words(alloc, at, called, found),
     }
 }
 
 /// What was called for, and what was found, if it is told.
 pub fn due_words(alloc: Global, due: Option<Due>) -> Result<String, AllocError>
-    ensures { IfOk result (λ text. string_bytes text ≡ due_words_lem due) }
+    ensures { IfOk result (λ text. string_bytes text ≡ spec.due_words due) }
 {
     match due {
         Some(due) => some_words(alloc, due),

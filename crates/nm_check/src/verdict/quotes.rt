@@ -1,15 +1,11 @@
 //! The lines that are told of a trace, as they stand in the input.
 
-ghost use Rattle.std.specs.Prelude.{◌≡◌, ◌+◌, IfOk, option_map};
-ghost use Rattle.nm_check.specs.Quotes.{has_count as has_count_lem, place_line as place_line_lem};
-ghost use Rattle.nm_check.specs.Quotes.{other_line as other_line_lem, quoted_line as quoted_line_lem};
-ghost use Rattle.nm_check.specs.Quotes.{quotes_of, text_at as text_at_lem};
-ghost use Rattle.nm_check.specs.Quotes.{told_line as told_line_lem};
+ghost use Rattle.std.specs.Prelude.{◌≡◌, IfOk, option_map};
+ghost use Rattle.nm_check.specs.Quotes as spec;
+ghost use Rattle.nm_check.specs.Quotes.{quotes_of};
 
-use crate::breaks::counts::Miscount;
-use crate::breaks::others::Held;
 use crate::breaks::stops::line_at;
-use crate::breaks::{Evidence, Found, Place};
+use crate::breaks::{EventLine, Found, Judgement};
 use nm_types::{Bytes, Memory};
 use std::alloc::Global;
 
@@ -20,53 +16,70 @@ pub struct Quotes {
     pub other: Option<Bytes>,
 }
 
-/// The line of the trace, counted from 1, that a place tells, if it tells one.
-pub fn place_line(place: Place) -> Option<u32>
-    ensures { result ≡ place_line_lem place }
+/// The line of an event, if there is one.
+pub(crate) fn event_line(event: Option<EventLine>) -> Option<u32>
+    ensures { result ≡ spec.event_line event }
 {
-    match place {
-        Place::Event { line, .. } => Some(line),
-        Place::Count { line, .. } => Some(line),
-        Place::LastLine { line } => Some(line),
-        Place::Nowhere => None,
-        Place::Behind { .. } => None,
-        Place::Standing { .. } => None,
+    match event {
+        Some(event) => Some(event.line),
+        None => None,
     }
 }
 
-/// Whether a count of packets stands there.
-fn has_count(counts: Option<Miscount>) -> bool
-    ensures { result ≡ has_count_lem counts }
+/// The line of the trace, counted from 1, that is told, if one is.
+pub(crate) fn place_line(judgement: Judgement) -> Option<u32>
+    ensures { result ≡ spec.place_line judgement }
 {
-    match counts {
-        Some(counts) => counts.found.is_some(),
-        None => false,
+    match judgement {
+        Judgement::Own { event, .. } => event_line(event),
+        Judgement::Carried { event, .. } => Some(event.line),
+        Judgement::Left { event, .. } => Some(event.line),
+        Judgement::Counted { line, .. } => Some(line),
+        Judgement::Home { line, .. } => Some(line),
+        Judgement::Done { line } => Some(line),
+        Judgement::Holds => None,
+        Judgement::Standing { .. } => None,
     }
 }
 
-/// The line of the trace whose bytes are told: of a count that is missing there is none.
-fn quoted_line(place: Place, evidence: Evidence) -> Option<u32>
-    ensures { result ≡ quoted_line_lem place evidence }
+/// .. whose bytes are told: of a count that is missing there is none.
+fn quoted_line(judgement: Judgement) -> Option<u32>
+    ensures { result ≡ spec.quoted_line judgement }
 {
-    match place {
-        Place::Event { line, .. } => Some(line),
-        Place::Count { line, .. } => {
-            if has_count(evidence.counts) {
-                Some(line)
-            } else {
-                None
-            }
-        }
-        Place::LastLine { line } => Some(line),
-        Place::Nowhere => None,
-        Place::Behind { .. } => None,
-        Place::Standing { .. } => None,
+    match judgement {
+        Judgement::Counted { line, miscount } => match miscount.found {
+            Some(_) => Some(line),
+            None => None,
+        },
+        Judgement::Holds
+        | Judgement::Own { .. }
+        | Judgement::Carried { .. }
+        | Judgement::Left { .. }
+        | Judgement::Standing { .. }
+        | Judgement::Home { .. }
+        | Judgement::Done { .. } => place_line(judgement),
+    }
+}
+
+/// .. of the other rank's event.
+fn other_line(judgement: Judgement) -> Option<u32>
+    ensures { result ≡ spec.other_line judgement }
+{
+    match judgement {
+        Judgement::Carried { other, .. } => event_line(other),
+        Judgement::Holds
+        | Judgement::Own { .. }
+        | Judgement::Left { .. }
+        | Judgement::Standing { .. }
+        | Judgement::Counted { .. }
+        | Judgement::Home { .. }
+        | Judgement::Done { .. } => None,
     }
 }
 
 /// The line of the whole input, behind so many lines and the line `---`.
 fn whole_line(before: u32, line: Option<u32>) -> Option<u64>
-    ensures { result ≡ option_map (λ line. before + 1 + line) line }
+    ensures { result ≡ spec.whole_line before line }
 {
     match line {
         Some(line) => Some(u64::from(before) + 1 + u64::from(line)),
@@ -74,51 +87,9 @@ fn whole_line(before: u32, line: Option<u32>) -> Option<u64>
     }
 }
 
-/// The line of the whole input, counted from 1, whose bytes are told, if those of one are.
-fn told_line(found: &Found) -> Option<u64>
-    ensures { result ≡ told_line_lem found.now }
-{
-    match found {
-        Found::Judged {
-            before,
-            judgement,
-            ..
-        } => whole_line(*before, quoted_line(judgement.place, judgement.why)),
-        Found::NoTrace => None,
-        Found::NoScript { .. } => None,
-        Found::BadTrace { .. } => None,
-    }
-}
-
-/// The line of the trace of an event that another one is held against.
-pub fn held_line(held: Option<Held>) -> Option<u32>
-    ensures { result ≡ option_map (λ held. held.line) held }
-{
-    match held {
-        Some(held) => Some(held.line),
-        None => None,
-    }
-}
-
-/// The line of the whole input, counted from 1, of the other rank's event that it is held against.
-fn other_line(found: &Found) -> Option<u64>
-    ensures { result ≡ other_line_lem found.now }
-{
-    match found {
-        Found::Judged {
-            before,
-            judgement,
-            ..
-        } => whole_line(*before, held_line(judgement.why.other)),
-        Found::NoTrace => None,
-        Found::NoScript { .. } => None,
-        Found::BadTrace { .. } => None,
-    }
-}
-
 /// The bytes of a line, counted from 1, if one is asked for and is there.
 fn text_at(bytes: &[u8], line: Option<u64>) -> Option<&[u8]>
-    ensures { option_map (λ text. text.now) result ≡ text_at_lem bytes.now line }
+    ensures { option_map (λ text. text.now) result ≡ spec.text_at bytes.now line }
 {
     match line {
         Some(line) => line_at(bytes, line.saturating_sub(1)),
@@ -128,7 +99,7 @@ fn text_at(bytes: &[u8], line: Option<u64>) -> Option<&[u8]>
 
 /// A copy of the bytes of a line, if it is told.
 fn copied(alloc: Global, bytes: &[u8], line: Option<u64>) -> Result<Option<Bytes>, Memory>
-    ensures { IfOk result (λ quote. quote ≡ text_at_lem bytes.now line) }
+    ensures { IfOk result (λ quote. quote ≡ spec.text_at bytes.now line) }
 {
     match text_at(bytes, line) {
         Some(text) => {
@@ -143,7 +114,19 @@ fn copied(alloc: Global, bytes: &[u8], line: Option<u64>) -> Result<Option<Bytes
 pub fn quoted(alloc: Global, bytes: &[u8], found: &Found) -> Result<Quotes, Memory>
     ensures { IfOk result (λ quotes. quotes ≡ quotes_of bytes.now found.now) }
 {
-    let line = copied(alloc, bytes, told_line(found))?;
-    let other = copied(alloc, bytes, other_line(found))?;
-    Ok(Quotes { line, other })
+    match found {
+        Found::Judged {
+            before,
+            judgement,
+            ..
+        } => {
+            let line = copied(alloc, bytes, whole_line(*before, quoted_line(*judgement)))?;
+            let other = copied(alloc, bytes, whole_line(*before, other_line(*judgement)))?;
+            Ok(Quotes { line, other })
+        }
+        Found::NoTrace | Found::NoScript { .. } | Found::BadTrace { .. } => Ok(Quotes {
+            line: None,
+            other: None,
+        }),
+    }
 }

@@ -1,19 +1,16 @@
 //! The words of each rule.
 
 ghost use Rattle.std.specs.Prelude.{◌≡◌};
-ghost use Rattle.nm_check.specs.Sentences.{own_words as own_words_lem};
-ghost use Rattle.nm_check.specs.Sentences.{carried_words as carried_words_lem};
-ghost use Rattle.nm_check.specs.Sentences.{rest_words as rest_words_lem};
-ghost use Rattle.nm_check.specs.Sentences.{kind_words as kind_words_lem, left_words as left_words_lem};
-ghost use Rattle.nm_check.specs.Sentences.{stop_words as stop_words_lem};
+ghost use Rattle.nm_check.specs.Sentences as spec;
 
 use crate::breaks::Stop;
 use crate::{CarriedClause, OwnClause, RestClause};
+use nm_check_ranks::rest::firsts::EventRule;
 use nm_script::Kind;
 
 /// The rule of a rank's own run.
 pub fn own_words(clause: OwnClause) -> &'static str
-    ensures { result.now ≡ own_words_lem clause }
+    ensures { result.now ≡ spec.own_words clause }
 {
     match clause {
         OwnClause::Stamps => {
@@ -45,7 +42,7 @@ pub fn own_words(clause: OwnClause) -> &'static str
 
 /// The rule of the messages from one rank to another.
 pub fn carried_words(clause: CarriedClause) -> &'static str
-    ensures { result.now ≡ carried_words_lem clause }
+    ensures { result.now ≡ spec.carried_words clause }
 {
     match clause {
         CarriedClause::Messages => {
@@ -65,7 +62,7 @@ pub fn carried_words(clause: CarriedClause) -> &'static str
 
 /// The rule of all ranks at rest.
 pub fn rest_words(clause: RestClause) -> &'static str
-    ensures { result.now ≡ rest_words_lem clause }
+    ensures { result.now ≡ spec.rest_words clause }
 {
     match clause {
         RestClause::Arrived => { "all that was sent has come (MPI 3.1, 3.5)" }
@@ -84,24 +81,22 @@ pub fn rest_words(clause: RestClause) -> &'static str
 }
 
 /// What is left of an event in the end.
-pub fn left_words(clause: RestClause) -> &'static str
-    ensures { result.now ≡ left_words_lem clause }
+pub fn left_words(rule: EventRule) -> &'static str
+    ensures { result.now ≡ spec.left_words rule }
 {
-    match clause {
-        RestClause::Arrived => { "it never came" }
-        RestClause::Eager => { "it never left, or was never whole" }
-        RestClause::Asked => {
+    match rule {
+        EventRule::Arrived => { "it never came" }
+        EventRule::Eager => { "it never left, or was never whole" }
+        EventRule::Asked => {
             "a receive took it, and it never left or was never whole; or it is claimed alone, and did"
         }
-        RestClause::Recalls => { "it was never answered" }
-        RestClause::Waits => { "" }
-        RestClause::Counts => { "" }
+        EventRule::Recalls => { "it was never answered" }
     }
 }
 
 /// Why a line is none of a script.
 pub fn kind_words(clause: Kind) -> &'static str
-    ensures { result.now ≡ kind_words_lem clause }
+    ensures { result.now ≡ spec.kind_words clause }
 {
     match clause {
         Kind::TooLong => { "the script is longer than 8,388,608 bytes" }
@@ -119,7 +114,7 @@ pub fn kind_words(clause: Kind) -> &'static str
 
 /// What stops a text that is no trace.
 pub fn stop_words(stop: Stop) -> &'static str
-    ensures { result.now ≡ stop_words_lem stop }
+    ensures { result.now ≡ spec.stop_words stop }
 {
     match stop {
         Stop::Short => { "the trace ends too soon" }
@@ -127,6 +122,7 @@ pub fn stop_words(stop: Stop) -> &'static str
         Stop::Order => { "it is out of order" }
         Stop::Number => { "a number in it is out of range" }
         Stop::Event => { "there is no such event" }
+        Stop::Report => { "the report of the events above does not go on so" }
         Stop::Line => { "no trace begins so" }
     }
 }

@@ -1,25 +1,29 @@
 //! What is said of what was found: the line and its bytes, what stands against it, and the rule.
 
-ghost use Rattle.std.specs.Prelude.{◌≡◌, ◌++◌, IfOk, OnOk, codes, string_bytes};
-ghost use Rattle.nm_check.specs.OwnFirsts as own;
+ghost use Rattle.std.specs.Prelude.{◌≡◌, ◌++◌, if◌then◌else◌, IfOk, OnOk, codes, string_bytes};
+ghost use Rattle.nm_report.specs.Ends.{ends_of};
 ghost use Rattle.nm_check.specs.Sentences.{left_words as left_words_lem};
+ghost use Rattle.nm_check.specs.VerdictCounts.{counts_words as counts_words_lem};
+ghost use Rattle.nm_check.specs.VerdictEvents.{event_words as event_words_lem};
 ghost use Rattle.nm_check.specs.VerdictTexts as spec;
-ghost use Rattle.nm_check.specs.VerdictTexts.{done_rule, home_rule, quote_words};
+ghost use Rattle.nm_check.specs.VerdictTexts.{quote_words};
 
 use crate::breaks::cells::CellCount;
-use crate::breaks::incidents::Incident;
-use crate::breaks::{Evidence, Found, Judgement, Place, Stop};
-use crate::verdict::between::against_words;
-use crate::verdict::counts::miscount_words;
-use crate::verdict::dues::due_words;
-use crate::verdict::incidents::where_words;
-use crate::verdict::quotes::{Quotes, held_line, place_line};
+use crate::breaks::counts::Miscount;
+use crate::breaks::{EventLine, Found, Judgement, Stop};
+use crate::verdict::counts::counts_words;
+use crate::verdict::dues::{due_words, some_words};
+use crate::verdict::events::event_words;
+use crate::verdict::quotes::{Quotes, event_line, place_line};
 use crate::verdict::sentences::{
     carried_words, kind_words, left_words, own_words, rest_words, stop_words,
 };
-use crate::{CarriedClause, OwnClause, RestClause, Verdict};
-use nm_check_rank::paired::breaches::Breach;
+use crate::{CarriedClause, OwnClause, RestClause};
 use nm_check_rank::paired::dues::Due;
+use nm_check_ranks::rest::firsts::EventRule;
+use nm_check_ranks::rest::resting::clause_of_rule;
+use nm_check_ranks::rest::waits::Next;
+use nm_report::RankAccount;
 use nm_types::Bytes;
 use std::alloc::{AllocError, Global};
 
@@ -29,16 +33,6 @@ fn line_words(alloc: Global, before: u32, line: u32) -> Result<String, AllocErro
 {
     let whole = u64::from(before) + 1 + u64::from(line);
     format!(in alloc; "line {} (line {} behind ---)", whole, line)
-}
-
-/// The command of an event, if it names one.
-fn command_words(alloc: Global, command: Option<u64>) -> Result<String, AllocError>
-    ensures { IfOk result (λ text. string_bytes text ≡ spec.command_words command) }
-{
-    match command {
-        Some(line) => format!(in alloc; ", of the command in line {}", line),
-        None => format!(in alloc; ""),
-    }
 }
 
 /// The line that a place tells, if it tells one.
@@ -51,64 +45,55 @@ fn place_words(alloc: Global, before: u32, line: Option<u32>) -> Result<String, 
     }
 }
 
-/// An event: what happened, and its command.
-fn event_words(
+/// What stands against the event at which a rank breaks a rule of its own run first, if it is one.
+fn own_against(
     alloc: Global,
-    command: Option<u64>,
-    incident: Option<Incident>,
+    ranks: &[RankAccount],
+    event: Option<EventLine>,
+    due: Option<Due>,
 ) -> Result<String, AllocError>
-    ensures { IfOk result (λ text. string_bytes text ≡ spec.event_words command incident) }
+    ensures { IfOk result (λ text.
+        string_bytes text ≡ spec.own_against (ends_of ranks.now) event due) }
 {
-    let happened = where_words(alloc, incident)?;
-    let of = command_words(alloc, command)?;
-    format!(in alloc; "{}{}", happened, of)
-}
-
-/// The rule that breaks first, of a verdict on a rank's own run.
-fn rule_of(clause: OwnClause, first: Option<Breach>) -> OwnClause
-    ensures { result ≡ own.rule_of clause first }
-{
-    match first {
-        Some(first) => first.clause,
-        None => clause,
-    }
-}
-
-/// What stands against the event there.
-fn due_of(first: Option<Breach>) -> Option<Due>
-    ensures { result ≡ own.due_of first }
-{
-    match first {
-        Some(first) => first.due,
-        None => None,
-    }
-}
-
-/// What stands against the event at which a rank breaks a rule of its own run first.
-fn own_against(alloc: Global, place: Place, why: Evidence) -> Result<String, AllocError>
-    ensures { IfOk result (λ text. string_bytes text ≡ spec.own_against place why) }
-{
-    match place {
-        Place::Event { command, .. } => {
-            let event = event_words(alloc, command, why.incident)?;
-            let due = due_words(alloc, due_of(why.first))?;
+    match event {
+        Some(event) => {
+            let event = event_words(alloc, ranks, event)?;
+            let due = due_words(alloc, due)?;
             format!(in alloc; "{}: {}", event, due)
         }
-        _ => format!(in alloc; ""),
+        None => format!(in alloc; ""),
     }
 }
 
 /// The rule that it breaks.
-fn own_text(alloc: Global, rule: OwnClause, rank: u8, place: Place) -> Result<String, AllocError>
-    ensures { IfOk result (λ text. string_bytes text ≡ spec.own_text rule rank place) }
+fn own_text(
+    alloc: Global,
+    rule: OwnClause,
+    rank: u8,
+    event: Option<EventLine>,
+) -> Result<String, AllocError>
+    ensures { IfOk result (λ text. string_bytes text ≡ spec.own_text rule rank event) }
 {
     let words = own_words(rule);
-    match place {
-        Place::Event { .. } => format!(in alloc;
+    match event {
+        Some(_) => format!(in alloc;
             "\nIt is the first event at which rank {} breaks a rule: {}\n",
             rank, words
         ),
-        _ => format!(in alloc; "in the end of rank {} a rule breaks: {}\n", rank, words),
+        None => format!(in alloc; "in the end of rank {} a rule breaks: {}\n", rank, words),
+    }
+}
+
+/// What stands between an event and the one that it is held against, if something does.
+fn between_words(alloc: Global, against: Option<Due>) -> Result<String, AllocError>
+    ensures { IfOk result (λ text. string_bytes text ≡ spec.between_words against) }
+{
+    match against {
+        Some(due) => {
+            let due = some_words(alloc, due)?;
+            format!(in alloc; "{}; ", due)
+        }
+        None => format!(in alloc; ""),
     }
 }
 
@@ -129,20 +114,18 @@ fn other_words(alloc: Global, before: u32, other: Option<u32>) -> Result<String,
 fn carried_against(
     alloc: Global,
     before: u32,
-    place: Place,
-    why: Evidence,
+    ranks: &[RankAccount],
+    event: EventLine,
+    other: Option<EventLine>,
+    against: Option<Due>,
 ) -> Result<String, AllocError>
-    ensures { IfOk result (λ text. string_bytes text ≡ spec.carried_against before place why) }
+    ensures { IfOk result (λ text. string_bytes text
+        ≡ spec.carried_against before (ends_of ranks.now) event other against) }
 {
-    match place {
-        Place::Event { command, .. } => {
-            let event = event_words(alloc, command, why.incident)?;
-            let between = against_words(alloc, why.against)?;
-            let other = other_words(alloc, before, held_line(why.other))?;
-            format!(in alloc; "{}: {}{}", event, between, other)
-        }
-        _ => format!(in alloc; ""),
-    }
+    let event = event_words(alloc, ranks, event)?;
+    let between = between_words(alloc, against)?;
+    let other = other_words(alloc, before, event_line(other))?;
+    format!(in alloc; "{}: {}{}", event, between, other)
 }
 
 /// A sender and a receiver.
@@ -152,36 +135,14 @@ fn pair_words(alloc: Global, from: u8, to: u8) -> Result<String, AllocError>
     format!(in alloc; "rank {} to rank {}", from, to)
 }
 
-/// Where their messages break a rule.
-fn from_where(place: Place) -> &'static str
-    ensures { result.now ≡ spec.from_where place }
-{
-    match place {
-        Place::Event { .. } => "\nIt is the first event at which the messages from ",
-        Place::Nowhere => "the messages from ",
-        Place::Behind { .. } => "the messages from ",
-        Place::Standing { .. } => "the messages from ",
-        Place::Count { .. } => "the messages from ",
-        Place::LastLine { .. } => "the messages from ",
-    }
-}
-
-/// The rule that the messages from one rank to another break.
-fn carried_text(
-    alloc: Global,
-    clause: CarriedClause,
-    from: u8,
-    to: u8,
-    place: Place,
-) -> Result<String, AllocError>
-    ensures { IfOk result (λ text. string_bytes text ≡ spec.carried_text clause from to place) }
+/// The rule that the messages from one rank to another break, in these words.
+fn carried_text(alloc: Global, words: &str, from: u8, to: u8) -> Result<String, AllocError>
+    ensures { IfOk result (λ text. string_bytes text ≡ spec.carried_text words.now from to) }
 {
     let ranks = pair_words(alloc, from, to)?;
     format!(in alloc;
-        "{}{} break a rule: {}\n",
-        from_where(place),
-        ranks,
-        carried_words(clause)
+        "\nIt is the first event at which the messages from {} break a rule: {}\n",
+        ranks, words
     )
 }
 
@@ -195,67 +156,88 @@ fn standing_words(alloc: Global, waits: Option<u64>) -> Result<String, AllocErro
     }
 }
 
-/// What stands against the event at which the ranks at rest break a rule first.
+fn ability_words(goes_on: bool) -> &'static str
+    ensures { result.now ≡ (if goes_on then codes ", and can go on" else codes ", and can't go on") }
+{
+    if goes_on {
+        ", and can go on"
+    } else {
+        ", and can't go on"
+    }
+}
+
+/// The next command of a rank.
+fn next_words(alloc: Global, next: Next) -> Result<String, AllocError>
+    ensures { IfOk result (λ text. string_bytes text ≡ spec.next_words next) }
+{
+    match next {
+        Next::Nothing => format!(in alloc; "no command of it is left"),
+        Next::Command { line, goes_on } => {
+            format!(in alloc;
+                "its next command is in line {}{}",
+                line,
+                ability_words(goes_on)
+            )
+        }
+    }
+}
+
+/// What stands against a rank that stands where it may not.
+fn stand_against(
+    alloc: Global,
+    rank: u8,
+    waits: Option<u64>,
+    next: Next,
+) -> Result<String, AllocError>
+    ensures { IfOk result (λ text. string_bytes text ≡ spec.stand_against rank waits next) }
+{
+    let says = standing_words(alloc, waits)?;
+    let next = next_words(alloc, next)?;
+    format!(in alloc; "rank {} is {}: {}", rank, says, next)
+}
+
+/// What stands against an event that is left unfinished in the end.
 fn left_against(
     alloc: Global,
-    clause: RestClause,
-    command: Option<u64>,
-    incident: Option<Incident>,
+    ranks: &[RankAccount],
+    rule: EventRule,
+    event: EventLine,
 ) -> Result<String, AllocError>
-    ensures { IfOk result (λ text. string_bytes text ≡ spec.event_words command incident
-        ++ (codes ": " ++ left_words_lem clause)) }
+    ensures { IfOk result (λ text. string_bytes text
+        ≡ event_words_lem (ends_of ranks.now) event ++ (codes ": " ++ left_words_lem rule)) }
 {
-    let event = event_words(alloc, command, incident)?;
-    format!(in alloc; "{}: {}", event, left_words(clause))
+    let event = event_words(alloc, ranks, event)?;
+    format!(in alloc; "{}: {}", event, left_words(rule))
 }
 
-/// What stands against the place at which they do.
-fn rest_against(
-    alloc: Global,
-    clause: RestClause,
-    place: Place,
-    why: Evidence,
-) -> Result<String, AllocError>
-    ensures { IfOk result (λ text. string_bytes text ≡ spec.rest_against clause place why) }
+/// What stands against a count of packets.
+fn count_against(alloc: Global, miscount: Miscount) -> Result<String, AllocError>
+    ensures { IfOk result (λ text. string_bytes text
+        ≡ codes ": " ++ counts_words_lem miscount.called miscount.found) }
 {
-    match place {
-        Place::Event { command, .. } => left_against(alloc, clause, command, why.incident),
-        Place::Count { .. } => {
-            let counts = miscount_words(alloc, why.counts)?;
-            format!(in alloc; ": {}", counts)
-        }
-        Place::Standing { rank, waits } => {
-            let says = standing_words(alloc, waits)?;
-            format!(in alloc; "rank {} is {}", rank, says)
-        }
-        _ => format!(in alloc; ""),
-    }
+    let counts = counts_words(alloc, miscount.called, miscount.found)?;
+    format!(in alloc; ": {}", counts)
 }
 
-/// What breaks a rule of all ranks at a place.
-fn thing_words(place: Place) -> &'static str
-    ensures { result.now ≡ spec.thing_words place }
-{
-    match place {
-        Place::Event { .. } => "\nIt is the first event that",
-        Place::Count { .. } => "\nIt is the first count that",
-        Place::Standing { .. } => "\nIt is the first rank that",
-        Place::Nowhere => "the end",
-        Place::Behind { .. } => "the end",
-        Place::LastLine { .. } => "the end",
-    }
-}
-
-/// The rule that the ranks at rest break.
-fn rest_text(alloc: Global, clause: RestClause, place: Place) -> Result<String, AllocError>
-    ensures { IfOk result (λ text. string_bytes text ≡ spec.rest_text clause place) }
+/// A rule of all ranks at rest that breaks, behind these words.
+fn rest_text(alloc: Global, start: &str, clause: RestClause) -> Result<String, AllocError>
+    ensures { IfOk result (λ text. string_bytes text ≡ spec.rest_text start.now clause) }
 {
     format!(in alloc;
         "{} breaks a rule of all ranks in the end: {}\n",
-        thing_words(place),
+        start,
         rest_words(clause)
     )
 }
+
+/// What is said before a rule of rest, of an event that is left unfinished.
+const LEFT: &str = "\nIt is the first event that";
+
+/// .. of a rank that stands where it may not.
+const STANDING: &str = "\nIt is the first rank that";
+
+/// .. of a count of packets.
+const COUNTED: &str = "\nIt is the first count that";
 
 /// The rule of the cells.
 const HOME: &str = "as many cells as all ranks have by --cells are there, and all of them are home";
@@ -264,13 +246,10 @@ const HOME: &str = "as many cells as all ranks have by --cells are there, and al
 const DONE: &str = "it is `done` exactly where every rank is at its end, and else `stuck`";
 
 /// One of the last two lines breaks its rule.
-fn last_text(alloc: Global, rule: &str, place: Place) -> Result<String, AllocError>
-    ensures { IfOk result (λ text. string_bytes text ≡ spec.last_text rule.now place) }
+fn last_text(alloc: Global, rule: &str) -> Result<String, AllocError>
+    ensures { IfOk result (λ text. string_bytes text ≡ spec.last_text rule.now) }
 {
-    match place {
-        Place::LastLine { .. } => format!(in alloc; "\nIt breaks a rule: {}\n", rule),
-        _ => format!(in alloc; "the end breaks a rule: {}\n", rule),
-    }
+    format!(in alloc; "\nIt breaks a rule: {}\n", rule)
 }
 
 /// How many cells there are to be, and are; or how many of them are home.
@@ -287,53 +266,56 @@ fn count_words(alloc: Global, cells: CellCount) -> Result<String, AllocError>
     }
 }
 
-/// .. if it is told.
-fn cells_words(alloc: Global, cells: Option<CellCount>) -> Result<String, AllocError>
-    ensures { IfOk result (λ text. string_bytes text ≡ spec.cells_words cells) }
+/// What stands against the place of a judgement.
+fn against_text(
+    alloc: Global,
+    before: u32,
+    ranks: &[RankAccount],
+    judgement: Judgement,
+) -> Result<String, AllocError>
+    ensures { IfOk result (λ text. string_bytes text
+        ≡ spec.against_text before (ends_of ranks.now) judgement) }
 {
-    match cells {
-        Some(cells) => count_words(alloc, cells),
-        None => format!(in alloc; ""),
+    match judgement {
+        Judgement::Holds => format!(in alloc; ""),
+        Judgement::Own { first, event, .. } => own_against(alloc, ranks, event, first.due),
+        Judgement::Carried {
+            event,
+            other,
+            against,
+            ..
+        } => carried_against(alloc, before, ranks, event, other, against),
+        Judgement::Left { rule, event } => left_against(alloc, ranks, rule, event),
+        Judgement::Standing { rank, waits, next } => stand_against(alloc, rank, waits, next),
+        Judgement::Counted { miscount, .. } => count_against(alloc, miscount),
+        Judgement::Home { cells, .. } => count_words(alloc, cells),
+        Judgement::Done { .. } => format!(in alloc; ": it is to be the other word"),
     }
 }
 
-/// What stands against the place of a verdict.
-fn against_text(alloc: Global, before: u32, judgement: Judgement) -> Result<String, AllocError>
-    ensures { IfOk result (λ text. string_bytes text ≡ spec.against_text before judgement.verdict
-        judgement.place judgement.why) }
-{
-    let Judgement {
-        verdict,
-        place,
-        why,
-    } = judgement;
-    match verdict {
-        Verdict::Holds => format!(in alloc; ""),
-        Verdict::Own { .. } => own_against(alloc, place, why),
-        Verdict::Carried { .. } => carried_against(alloc, before, place, why),
-        Verdict::Rest { clause } => rest_against(alloc, clause, place, why),
-        Verdict::Home => cells_words(alloc, why.cells),
-        Verdict::Done => format!(in alloc; ": it is to be the other word"),
-    }
-}
-
-/// The rule of a verdict.
+/// The rule of a judgement.
 fn rule_text(alloc: Global, judgement: Judgement) -> Result<String, AllocError>
-    ensures { IfOk result (λ text. string_bytes text ≡ spec.rule_text judgement.verdict
-        judgement.place judgement.why) }
+    ensures { IfOk result (λ text. string_bytes text ≡ spec.rule_text judgement) }
 {
-    let Judgement {
-        verdict,
-        place,
-        why,
-    } = judgement;
-    match verdict {
-        Verdict::Holds => format!(in alloc; "holds\n"),
-        Verdict::Own { clause, rank } => own_text(alloc, rule_of(clause, why.first), rank, place),
-        Verdict::Carried { clause, from, to } => carried_text(alloc, clause, from, to, place),
-        Verdict::Rest { clause } => rest_text(alloc, clause, place),
-        Verdict::Home => last_text(alloc, HOME, place),
-        Verdict::Done => last_text(alloc, DONE, place),
+    match judgement {
+        Judgement::Holds => format!(in alloc; "holds\n"),
+        Judgement::Own {
+            rank,
+            first,
+            event,
+            ..
+        } => own_text(alloc, first.clause, rank, event),
+        Judgement::Carried {
+            clause,
+            from,
+            to,
+            ..
+        } => carried_text(alloc, carried_words(clause), from, to),
+        Judgement::Left { rule, .. } => rest_text(alloc, LEFT, clause_of_rule(rule)),
+        Judgement::Standing { .. } => rest_text(alloc, STANDING, RestClause::Waits),
+        Judgement::Counted { .. } => rest_text(alloc, COUNTED, RestClause::Counts),
+        Judgement::Home { .. } => last_text(alloc, HOME),
+        Judgement::Done { .. } => last_text(alloc, DONE),
     }
 }
 
@@ -354,7 +336,7 @@ fn head_words(alloc: Global, found: &Found) -> Result<String, AllocError>
             before,
             judgement,
             ..
-        } => place_words(alloc, *before, place_line(judgement.place)),
+        } => place_words(alloc, *before, place_line(*judgement)),
         Found::NoTrace => format!(in alloc; ""),
         Found::NoScript { .. } => format!(in alloc; ""),
         Found::BadTrace { .. } => format!(in alloc; ""),
@@ -369,8 +351,8 @@ fn found_against(alloc: Global, found: &Found) -> Result<String, AllocError>
         Found::Judged {
             before,
             judgement,
-            ..
-        } => against_text(alloc, *before, *judgement),
+            run,
+        } => against_text(alloc, *before, run.ranks.as_slice(), *judgement),
         Found::NoTrace => format!(in alloc; ""),
         Found::NoScript { .. } => format!(in alloc; ""),
         Found::BadTrace { .. } => format!(in alloc; ""),

@@ -1,7 +1,7 @@
 //! The arguments of a send or a receive, and the first of them that is another one.
 
 ghost use Rattle.std.specs.Prelude.{◌≡◌, ◌≢◌, true, List, ◌∷◌};
-ghost use Rattle.nm_types.specs.declared.messages.How.{How};
+ghost use Rattle.nm_types.specs.declared.messages.How as the_how;
 ghost use Rattle.nm_history.specs.declared.events.Happened.TheVariants as happening;
 ghost use Rattle.nm_history.specs.RankRun.{is_start};
 ghost use Rattle.nm_lookups.specs.Deciding.{Decides};
@@ -10,10 +10,11 @@ ghost use Rattle.nm_check_rank.specs.Arguments.{IsFirstMismatch, arguments};
 ghost use Rattle.nm_check_rank.specs.declared.paired.arguments.Argument as argument;
 ghost use Rattle.nm_check_rank.specs.declared.paired.arguments.Argument.TheVariants as arg;
 
+use crate::hows::is_same_how;
 use crate::paired::starts::{is_same_peer, is_same_pick};
 use nm_history::Happened;
 use nm_lookups::firsts::Message;
-use nm_types::{Peer, TagPick};
+use nm_types::{How, Peer, TagPick};
 
 /// What a start is.
 #[derive(Clone, Copy)]
@@ -24,7 +25,7 @@ pub enum Sort {
     Matched,
 }
 
-/// An argument of a start.
+/// An argument of a start or an arrival.
 #[derive(Clone, Copy)]
 pub enum Argument {
     Sort(Sort),
@@ -35,6 +36,8 @@ pub enum Argument {
     Length(u64),
     Capacity(u32),
     Message(Message),
+    /// How it is sent.
+    Way(How),
     /// The line of the command.
     Line(u64),
 }
@@ -75,6 +78,7 @@ fn is_same_argument(a: Argument, b: Argument) -> bool
         Argument::Length(x) => matches!(b, Argument::Length(y) if x == y),
         Argument::Capacity(x) => matches!(b, Argument::Capacity(y) if x == y),
         Argument::Message(x) => matches!(b, Argument::Message(y) if is_same_message(x, y)),
+        Argument::Way(x) => matches!(b, Argument::Way(y) if is_same_how(x, y)),
         Argument::Line(x) => matches!(b, Argument::Line(y) if x == y),
     }
 }
@@ -122,7 +126,7 @@ pub(crate) fn send_mismatch(
     len: u64,
     line: u64,
 ) -> Option<Mismatch>
-    ensures { (how : How) → IsFirstMismatch
+    ensures { (how : the_how.How) → IsFirstMismatch
         (arguments (happening.Send to 0 tag ctx len how line)) (arguments what.now) result }
 {
     match what {

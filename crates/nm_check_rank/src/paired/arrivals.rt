@@ -1,6 +1,6 @@
 //! The arrival of a message, by the place at which it came.
 
-ghost use Rattle.std.specs.Prelude.{◌≡◌, ℕ, IsTrue, List, Some, slice_get, take};
+ghost use Rattle.std.specs.Prelude.{◌≡◌, Some, slice_get, take};
 ghost use Rattle.nm_history.specs.declared.events.Event as event;
 ghost use Rattle.nm_history.specs.Answers.{arrival_claimed as arrival_claimed_lem};
 ghost use Rattle.nm_history.specs.Sends.{arrival_of, message_of as message_of_lem};

@@ -85,7 +85,7 @@ pub enum Due {
         called: u64,
         found: u64,
     },
-    /// The start is to have this argument, and has this one.
+    /// The start or the arrival is to have this argument, and has this one.
     Argument {
         mismatch: Mismatch,
     },
@@ -93,6 +93,13 @@ pub enum Due {
     Of {
         called: Request,
         found: Request,
+    },
+    /// The byte at this place of the body is to be this one, if one is to be there, and is this one, if
+    /// one is.
+    Byte {
+        at: u64,
+        called: Option<u8>,
+        found: Option<u8>,
     },
 }
 

@@ -1,26 +1,16 @@
 //! What is called for by how a message is sent.
 
 ghost use Rattle.std.specs.Prelude.{◌≡◌, if◌then◌else◌, Some, None};
-ghost use Rattle.nm_history.specs.Sends.{is_ask};
 ghost use Rattle.nm_check_rank.specs.Startings as spec;
 ghost use Rattle.nm_check_rank.specs.declared.paired.dues.Due.TheVariants as due;
 ghost use Rattle.nm_check_rank.specs.declared.paired.objections.Objection.TheVariants as against;
 
+use crate::hows::is_asked;
 use crate::paired::dues::Due;
 use crate::paired::objections::Objection;
 use crate::paired::starts::length_of;
 use nm_history::Happened;
 use nm_types::{Command, How};
-
-/// Whether a send asks.
-fn is_asking(how: How) -> bool
-    ensures { result ≡ is_ask how }
-{
-    match how {
-        How::Ask => true,
-        How::Eager => false,
-    }
-}
 
 /// Whether a send of so many bytes is to ask by the eager limit, and whether it asks.
 fn limit_due(limit: u16, len: u64, called: bool, asks: bool) -> Option<Due>
@@ -53,10 +43,10 @@ fn sent_due(limit: u16, how: How, command: &Command) -> Option<Due>
     match command {
         Command::Send { body, sync, .. } => {
             if *sync {
-                return unasked(is_asking(how));
+                return unasked(is_asked(how));
             }
             let len = length_of(body);
-            limit_due(limit, len, u64::from(limit) < len, is_asking(how))
+            limit_due(limit, len, u64::from(limit) < len, is_asked(how))
         }
         _ => None,
     }

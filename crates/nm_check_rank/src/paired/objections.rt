@@ -53,7 +53,7 @@ fn once_after(again: bool, there: bool, lacks: Objection) -> Option<Objection>
 }
 
 /// The word of an answer of yes or no, where it is to be this one.
-pub(crate) fn word_after(called: bool, done: bool) -> Option<Objection>
+pub fn word_after(called: bool, done: bool) -> Option<Objection>
     ensures { result ≡ spec.word_after called done }
 {
     if called {

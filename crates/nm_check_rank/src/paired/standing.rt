@@ -1,6 +1,6 @@
 //! What stands against an event of a rank, by each rule of its own run.
 
-ghost use Rattle.std.specs.Prelude.{◌≡◌, ◌<◌, List, MatchOption, Some, length, slice_get, take};
+ghost use Rattle.std.specs.Prelude.{◌≡◌, ◌<◌, MatchOption, Some, length, slice_get, take};
 ghost use Rattle.nm_history.specs.declared.events.Event as event;
 ghost use Rattle.nm_check_rank.specs.OwnBreaks.{BreaksAt, IsAgainst, KeepsAll, KeepsSoFar, RuleAt};
 ghost use Rattle.nm_check_rank.specs.Runs.{IsRun, commands_in};

@@ -14,14 +14,12 @@ ghost use Rattle.nm_check_ranks.specs.Tabled.{AreTabled};
 ghost use Rattle.nm_check_ranks.specs.Counting.{AreDue, at_most, counted_pair, load_to};
 ghost use Rattle.nm_check_ranks.specs.Counting.{row_from};
 
+use crate::marks::NAMES;
 use nm_check_rank::paired::tables::Tables;
 use nm_history::plain::Pair;
 use nm_history::{Event, Happened};
 use nm_report::{PairCount, RankAccount};
 use nm_types::How;
-
-/// How many ranks a number of 8 bits can name.
-pub(crate) const NAMES: usize = 256;
 
 /// Packets to a rank.
 #[derive(Clone, Copy)]

@@ -15,8 +15,8 @@ ghost use Rattle.nm_check_ranks.specs.declared.rest.firsts.EventRule.TheVariants
 ghost use Rattle.nm_check_ranks.specs.RestClauses.{KeepsRest};
 
 use crate::firsts::Spot;
+use crate::rest::arrived::is_answered;
 use crate::rest::over::{has_come, is_asked_over, is_eager_over};
-use crate::rest::rest::is_answered;
 use nm_check_rank::paired::tables::Tables;
 use nm_history::{Event, Happened};
 use nm_lookups::places::Places;

@@ -10,7 +10,8 @@ ghost use Rattle.nm_check_rank.specs.Differ.{DifferFirstAt};
 ghost use Rattle.nm_check_ranks.specs.Counting.{AreDue, counted_pair, row_from};
 ghost use Rattle.nm_check_ranks.specs.Tabled.{AreTabled};
 
-use crate::rest::counts::{NAMES, counts_of, is_pair};
+use crate::marks::NAMES;
+use crate::rest::counts::{counts_of, is_pair};
 use nm_check_rank::paired::tables::Tables;
 use nm_report::{PairCount, RankAccount};
 use nm_types::Memory;

@@ -10,7 +10,7 @@ ghost use Rattle.nm_lookups.specs.Placed.{ArePlaces};
 ghost use Rattle.nm_check_ranks.specs.Over.{AskedIsOver, EagerIsOver, HasCome, SendKeeps};
 ghost use Rattle.nm_check_ranks.specs.Tabled.{AreTabled};
 
-use crate::hows::{is_asked, is_eager};
+use nm_check_rank::hows::{is_asked, is_eager};
 use nm_check_rank::paired::tables::Tables;
 use nm_history::Happened;
 use nm_lookups::firsts::{is_ever, is_ever_taken};

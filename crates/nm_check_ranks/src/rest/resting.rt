@@ -11,10 +11,10 @@ ghost use Rattle.nm_check_ranks.specs.RestClauses.{KeepsRest};
 ghost use Rattle.nm_check_ranks.specs.Tabled.{AreTabled, EachTabled};
 
 use crate::firsts::Spot;
+use crate::rest::arrived::has_all_arrived;
 use crate::rest::clauses::RestClause;
 use crate::rest::counts::are_counted;
 use crate::rest::firsts::{EventRule, first_rest_at};
-use crate::rest::rest::has_all_arrived;
 use crate::rest::waits::first_not_standing;
 use nm_check_rank::paired::tables::Tables;
 use nm_report::{PairCount, RankAccount};
@@ -32,7 +32,7 @@ pub enum RestBreak {
 }
 
 /// A rule that is asked of each event as one of all.
-fn clause_of_rule(rule: EventRule) -> RestClause
+pub fn clause_of_rule(rule: EventRule) -> RestClause
     ensures { result ≡ rest_clause rule }
 {
     match rule {

@@ -4,11 +4,11 @@ ghost use Rattle.std.specs.Prelude.{◌≡◌, ◌+◌, ◌<◌, IsSomeAnd, Matc
 ghost use Rattle.std.specs.Prelude.{slice_get};
 ghost use Rattle.nm_types.specs.Commands.{commands_of};
 ghost use Rattle.nm_history.specs.Quiescence.{EachRank, IsStopped};
-ghost use Rattle.nm_report.specs.Ends.{ends_of};
+ghost use Rattle.nm_report.specs.Ends.{end_of_account, ends_of};
 ghost use Rattle.nm_lookups.specs.Deciding.{Decides};
 ghost use Rattle.nm_check_ranks.specs.Tabled.{EachTabled};
 ghost use Rattle.nm_check_rank.specs.Tabled.{AreRankTables};
-ghost use Rattle.nm_check_ranks.specs.RestBreaks.{BreaksStanding};
+ghost use Rattle.nm_check_ranks.specs.RestBreaks.{BreaksStanding, IsNext};
 
 use nm_check_rank::paired::tables::Tables;
 use nm_report::RankAccount;
@@ -33,12 +33,39 @@ fn next_place(rank: u8, lines: &[Line], at: u64) -> Option<usize>
     None
 }
 
-/// Whether a rank waits at the line at a place.
-fn is_waiting_at(waits: Option<u64>, k: usize) -> bool
-    ensures { Decides result (waits ≡ Some (k + 2)) }
+/// The next command of a rank.
+#[derive(Clone, Copy)]
+pub enum Next {
+    /// No command is left.
+    Nothing,
+    /// It is in this line, and can go on or can't.
+    Command { line: u64, goes_on: bool },
+}
+
+/// The next command of a rank, by what is looked up of it.
+pub fn next_of(rank: u8, lines: &[Line], account: &RankAccount, tables: &Tables) -> Next
+    requires { AreRankTables rank lines.now account.now.history.events tables.now }
+    ensures { IsNext (commands_of rank lines.now) (end_of_account account.now) result }
+{
+    match next_place(rank, lines, account.at) {
+        None => Next::Nothing,
+        Some(k) => {
+            let events = account.history.as_slice();
+            let goes_on = tables.can_go_on(rank, lines, events, &lines[k].command);
+            Next::Command {
+                line: k as u64 + 2,
+                goes_on,
+            }
+        }
+    }
+}
+
+/// Whether a rank waits at a line.
+fn is_waiting_at(waits: Option<u64>, line: u64) -> bool
+    ensures { Decides result (waits ≡ Some line) }
 {
     match waits {
-        Some(line) => line >= 2 && (line - 2) as usize == k,
+        Some(own) => own == line,
         None => false,
     }
 }
@@ -46,23 +73,11 @@ fn is_waiting_at(waits: Option<u64>, k: usize) -> bool
 /// Whether a rank is at its end, or waits at its next command, which can't go on.
 fn is_standing(rank: u8, lines: &[Line], account: &RankAccount, tables: &Tables) -> bool
     requires { AreRankTables rank lines.now account.now.history.events tables.now }
-    ensures { Decides result (IsStopped (commands_of rank lines.now)
-        (record {
-          at = account.now.at;
-          waits = account.now.waits;
-          events = account.now.history.events;
-        })) }
+    ensures { Decides result (IsStopped (commands_of rank lines.now) (end_of_account account.now)) }
 {
-    match next_place(rank, lines, account.at) {
-        None => account.waits.is_none(),
-        Some(k) => {
-            if k >= lines.len() {
-                return false;
-            }
-            let events = account.history.as_slice();
-            let goes_on = tables.can_go_on(rank, lines, events, &lines[k].command);
-            is_waiting_at(account.waits, k) && !goes_on
-        }
+    match next_of(rank, lines, account, tables) {
+        Next::Nothing => account.waits.is_none(),
+        Next::Command { line, goes_on } => is_waiting_at(account.waits, line) && !goes_on,
     }
 }
 

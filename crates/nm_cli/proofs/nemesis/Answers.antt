@@ -60,7 +60,8 @@ known g c =
       said = subst (λ status. IsSaid (text_of c.in-Ok.answer) (status_of c.in-Ok.answer) status
           (g.K.Sink.taken c.args.sink.now) (g.K.Sink.taken c.deliver-status.new.sink)
           (Rose (g.K.Sink.faults c.args.sink.now) (g.K.Sink.faults c.deliver-status.new.sink)))
-          (sym c.hand_out.ensures.status) (rw (c.deref.ensures.value, c.in-Ok-text.ensures, c.status.ensures) at c.deliver-status.ensures.said);
+          (sym c.hand_out.ensures.status)
+          (rw (c.deref.ensures.value, c.in-Ok-text.ensures, c.status.ensures) at c.deliver-status.ensures.said);
       run_given = c.hand_out.ensures.run;
       ways_given = c.hand_out.ensures.ways;
       log_given = c.hand_out.ensures.log;

@@ -29,7 +29,11 @@ known g c =
     record {
       right = c.in-Ok.ensures.answer;
       read = c.in-Ok.ensures.read;
-      said = (c.in-Ok-text.due.items, c.in-Ok-text.ensures, rw (c.deref.ensures.value, c.status.ensures) at c.deliver.ensures.said);
+      said = (
+        c.in-Ok-text.due.items,
+        c.in-Ok-text.ensures,
+        rw (c.deref.ensures.value, c.status.ensures) at c.deliver.ensures.said,
+      );
     }
 
 pub returns-clause-drawn : goal.returns-clause-drawn

@@ -8,6 +8,10 @@ returns-clause-done g c = inr (
   record {
     right = c.in-Ok.ensures.outcome;
     read = c.in-Ok.ensures.read;
-    said = (c.in-Ok-outcome_text.due.items, c.in-Ok-outcome_text.ensures, rw (c.deref.ensures.value, c.outcome_status.ensures) at c.deliver.ensures.said);
+    said = (
+      c.in-Ok-outcome_text.due.items,
+      c.in-Ok-outcome_text.ensures,
+      rw (c.deref.ensures.value, c.outcome_status.ensures) at c.deliver.ensures.said,
+    );
   },
 )

@@ -1,4 +1,4 @@
-use Rattle.std.proofs.Common.{◌+◌, ℕ, Option, None, get_or, replicate, subst, sym}
+use Rattle.std.proofs.Common.{◌+◌, ℕ, Option, None, get_or, subst, sym}
 use Rattle.std.proofs.lemmas.List.{get_or-replicate}
 use Rattle.nm_history.specs.RankRun.{NumberAt}
 use Rattle.nm_report.specs.Ends.{ends_of}

@@ -1,4 +1,4 @@
-use Rattle.std.proofs.Common.{◌≡◌, List, Option, refl, ◌∙◌, ap, subst, sym}
+use Rattle.std.proofs.Common.{◌≡◌, List, Option, ◌∙◌, ap, subst, sym}
 use Rattle.std.specs.Prelude.{option_map, slice_get}
 use Rattle.std.proofs.lemmas.Option.{slice_get-map}
 use Rattle.nm_history.specs.Quiescence.{Packets, packets_of as packets_due}
@@ -23,13 +23,10 @@ returns-in-Some c = λ lines.
     record {
       differ = subst (λ (ps : List Packets). DifferFirstAt (packets_of c.args.pairs.now) ps c.in-Some.at) due
           c.in-Some.ensures;
-      counted = record {
-        at = refl;
-        called = ap (λ (o : Option PairCount). option_map counted_pair o) c.count_at-called.ensures
-            ∙ sym (slice_get-map counted_pair c.as_slice-called.result.now c.in-Some.at)
-            ∙ ap (λ (ps : List Packets). slice_get ps c.in-Some.at) due;
-        found = c.count_at-found.ensures;
-      };
+      called = ap (λ (o : Option PairCount). option_map counted_pair o) c.count_at-called.ensures
+          ∙ sym (slice_get-map counted_pair c.as_slice-called.result.now c.in-Some.at)
+          ∙ ap (λ (ps : List Packets). slice_get ps c.in-Some.at) due;
+      found = c.count_at-found.ensures;
     }
 
 pub returns : goal.returns

@@ -1,7 +1,7 @@
 use Rattle.std.proofs.Common.{◌≡◌, ℕ, List, sym, subst}
 use Rattle.nm_script.specs.Spelled.{IsTextOf}
 use Rattle.nm_trace.specs.Traces.{IsTraceOf}
-use Rattle.nm_check.specs.Checks.{sizes}
+use Rattle.nm_check.specs.Found.{sizes}
 use Rattle.nm_shell.proofs.PartLemmas.{no_input}
 use Rattle.nm_check.proofs.breaks.finding.find.Goals as goal
 

@@ -1,7 +1,7 @@
 use Rattle.std.proofs.Common.{◌≡◌, ◌<◌, ◌^◌, refl, subst, arith, rules}
 use Rattle.nm_types.specs.Sizes.{Sizes}
 use Rattle.nm_trace.specs.Traces.{IsTraceOf}
-use Rattle.nm_check.specs.Checks.{sizes}
+use Rattle.nm_check.specs.Found.{sizes}
 use Rattle.nm_check.specs.Judgements.{IsJudgement}
 use Rattle.nm_check.specs.Stops.{lines_in}
 use Rattle.nm_check.proofs.EventLemmas.{few_lines}
@@ -27,6 +27,5 @@ returns-in_ok-judgement-in-Ok-clause-found c =
       trace,
       judged,
       all_stand (sizes c.args.cells c.args.eager c.args.script.now.ranks) c.args.rest.now c.in-Ok.run' trace few
-          c.args.script.now.lines c.in_ok-judgement-in-Ok.judgement.verdict c.in_ok-judgement-in-Ok.judgement.place
-          c.in_ok-judgement-in-Ok.judgement.why judged.placed judged.rests,
+          c.args.script.now.lines c.in_ok-judgement-in-Ok.judgement judged.rests,
     )

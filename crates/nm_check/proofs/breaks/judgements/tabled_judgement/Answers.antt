@@ -1,6 +1,5 @@
-use Rattle.std.proofs.Common.{arith}
+use Rattle.std.proofs.Common.{refl, arith}
 use Rattle.std.proofs.lemmas.Result.{IfOk-weaker}
-use Rattle.nm_check.proofs.JudgementLemmas.{done_judged, holds_judged, home_judged}
 use Rattle.nm_check.proofs.breaks.judgements.tabled_judgement.Goals as goal
 
 pub carried_judgement-requires : goal.carried_judgement-requires
@@ -27,15 +26,13 @@ returns-in-Rest c =
 
 pub returns-in-Home : goal.returns-in-Home
 returns-in-Home c =
-    home_judged c.args.count c.args.script.now.lines c.args.run.now c.home_judgement.result c.home_judgement.ensures
-    (rw c.in-Home.is at c.requires.found).judged
+    rw c.home_judgement.ensures (record {
+      right = (rw c.in-Home.is at c.requires.found).judged;
+      rests = (refl, refl);
+    })
 
 pub returns-in-Done : goal.returns-in-Done
-returns-in-Done c =
-    done_judged c.args.count c.args.script.now.lines c.args.run.now c.plain.result c.plain.ensures
-    (rw c.in-Done.is at c.requires.found).judged
+returns-in-Done c = record { right = (rw c.in-Done.is at c.requires.found).judged; rests = refl }
 
 pub returns-in-Holds : goal.returns-in-Holds
-returns-in-Holds c =
-    holds_judged c.args.count c.args.script.now.lines c.args.run.now c.plain-in-Holds.result c.plain-in-Holds.ensures
-    (rw c.in-Holds.is at c.requires.found).judged
+returns-in-Holds c = record { right = (rw c.in-Holds.is at c.requires.found).judged; rests = tt }

@@ -14,7 +14,8 @@ held_at-requires-clause-inside c = λ k is.
     let h = history_of (ends_of c.args.ranks.now) c.args.y in
     (subst (λ (o : Option ℕ). IsTakenAt h c.args.x c.args.n o) is
     (c.taken_at-at.ensures c.args.y c.requires.tabled.0 h (tables_here c.requires.tabled.0 c.args.ranks.now
-    c.args.tables.now c.args.y c.index-tables-i.result c.requires.tabled.1 c.requires.known c.index-tables-i.is))).inside
+    c.args.tables.now c.args.y c.index-tables-i.result c.requires.tabled.1 c.requires.known
+    c.index-tables-i.is))).inside
 
 pub returns : goal.returns
 returns c = (

@@ -34,5 +34,6 @@ returns-then-not-keeps c =
 
 pub returns : goal.returns
 returns c =
-    kept_all (λ d. Keeps c.args.run.now c.args.at d) c.order-clause-items.result.now own_order c.loop-clause.clause-index
+    kept_all (λ d. Keeps c.args.run.now c.args.at d) c.order-clause-items.result.now own_order
+    c.loop-clause.clause-index
     c.loop-clause.invariant.0 c.loop-clause-test.false c.loop-clause.invariant.1

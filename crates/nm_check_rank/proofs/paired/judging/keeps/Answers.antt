@@ -7,7 +7,8 @@ pub returns-in-Some : goal.returns-in-Some
 returns-in-Some c =
     let run = c.args.run.now in
     let clause = c.args.clause in
-    decides_by c.is_over.result (whole_of run.shape (commands_in run) c.args.at run.events.now clause c.in-Some.ensures.0)
+    decides_by c.is_over.result (whole_of run.shape
+    (commands_in run) c.args.at run.events.now clause c.in-Some.ensures.0)
     (end_of run.shape (commands_in run) c.args.at run.events.now clause)
     (c.is_over.ensures run.events.now c.in-Some.ensures.1)
 

@@ -50,5 +50,6 @@ returns-in-Some c = λ e here.
 pub returns : goal.returns
 returns c = λ e here d.
     each_rule (λ d. Keeps c.args.run.now c.args.k d)
-    (kept_all (λ d. Keeps c.args.run.now c.args.k d) c.order-clause-items.result.now own_order c.loop-clause.clause-index
+    (kept_all (λ d. Keeps c.args.run.now c.args.k d) c.order-clause-items.result.now own_order
+    c.loop-clause.clause-index
     c.loop-clause.invariant.0 c.loop-clause-test.false c.loop-clause.invariant.1) d e here

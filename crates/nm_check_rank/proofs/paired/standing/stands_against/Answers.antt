@@ -35,7 +35,8 @@ returns-in-Claims c = λ e here.
     let commands = commands_in c.args.run.now in
     let is = c.claim_due.ensures e here in
     rw c.in-Claims.is
-    (exact (ClaimAt commands before e.what) (λ (o : Option Due). o ≡ claim_due commands before e.what) c.claim_due.result
+    (exact (ClaimAt commands before e.what)
+    (λ (o : Option Due). o ≡ claim_due commands before e.what) c.claim_due.result
     is (λ none. claim_kept commands before e.what (sym none)) (λ right. is ∙ claim_none commands before e.what right))
 
 pub returns-in-Starts : goal.returns-in-Starts
@@ -88,7 +89,8 @@ returns-in-Ends c = λ e here.
     ∙ ap (λ (y : Event). end_objection before y.what) same) in
     rw c.in-Ends.is
     (exact (EndAt before e.what) (λ (o : Option Due). o ≡ option_map Against (end_objection before e.what))
-    c.against-in-Ends.result is (λ none. end_kept before e.what (sym none)) (λ right. is ∙ end_none before e.what right))
+    c.against-in-Ends.result is (λ none. end_kept before e.what (sym none))
+    (λ right. is ∙ end_none before e.what right))
 
 pub returns-in-Answers : goal.returns-in-Answers
 returns-in-Answers c = λ e here. rw c.in-Answers.is (c.answer_due.ensures e here)

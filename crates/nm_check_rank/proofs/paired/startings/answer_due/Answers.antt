@@ -15,7 +15,8 @@ returns-then-started c = λ answer asked.
 pub returns-else-started : goal.returns-else-started
 returns-else-started c = λ answer asked.
     refused_is_due c.args.limit (commands_of c.args.rank c.args.lines.now) c.args.before.now c.args.line c.args.started
-    c.none_due.result c.in-Some.command.now c.in-Some.ensures c.if-started.false (c.none_due.ensures c.args.before.now c.requires)
+    c.none_due.result c.in-Some.command.now c.in-Some.ensures c.if-started.false
+    (c.none_due.ensures c.args.before.now c.requires)
 
 pub returns-in-None : goal.returns-in-None
 returns-in-None c = λ answer asked.

@@ -16,7 +16,8 @@ pub returns-in-Some-first_rest_at : goal.returns-in-Some-first_rest_at
 returns-in-Some-first_rest_at c =
     let lines = c.args.lines.now in
     let packets = packets_of c.args.pairs.now in
-    eager_break lines (ends_of c.args.ranks.now) packets c.in-Some-first_rest_at.spot (c.in_default.ensures lines packets)
+    eager_break lines (ends_of c.args.ranks.now) packets c.in-Some-first_rest_at.spot
+    (c.in_default.ensures lines packets)
     (c.in-Some-first_rest_at.ensures lines packets)
 
 pub returns-in-Some-first_rest_at-2 : goal.returns-in-Some-first_rest_at-2
