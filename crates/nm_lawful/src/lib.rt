@@ -21,7 +21,7 @@
 //!   those up to it are not. If it names a rank, all answers are possible, and the ranks below it can rest as
 //!   reported, but not this one with them.
 //! # What is only tested
-//! That reports which MPI allows are lawful, and others are not (`tests`).
+//! That reports which MPI allows are lawful, and others are not (`nm_rows::lawful`).
 #![tactic(auto)]
 
 mod hashes;
@@ -32,5 +32,3 @@ mod ranks;
 mod replies;
 mod searches;
 mod states;
-#[cfg(test)]
-mod tests;

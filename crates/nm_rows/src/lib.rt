@@ -1,6 +1,6 @@
 //! The worked rows, by calls: of what one rank stands on (packets and sizes, texts, requests, matching,
-//! short messages, strays, and sources and sinks), between ranks, of turns and a shared desk, and of the
-//! program through its top call.
+//! short messages, strays, and sources and sinks), between ranks, of turns and a shared desk, of reports by
+//! MPI's text alone, and of the program through its top call.
 #![tactic(auto)]
 
 #[cfg(test)]
@@ -11,6 +11,8 @@ mod eager;
 mod ends;
 #[cfg(test)]
 mod fabric;
+#[cfg(test)]
+mod lawful;
 #[cfg(test)]
 mod matching;
 #[cfg(test)]

@@ -1,7 +1,7 @@
 //! Reports that MPI allows, and ones that it doesn't.
 
-use crate::judging::{Case, Judged, judge};
-use crate::moves::Said;
+use nm_lawful::judging::{Case, Judged, judge};
+use nm_lawful::moves::Said;
 use nm_types::{Answer, Body, Bytes, Command, Line, Memory, Peer, Seen, TagPick};
 use std::alloc::Global;
 use std::test::Fail;
