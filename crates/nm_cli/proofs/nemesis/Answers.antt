@@ -1,5 +1,5 @@
 -- How the program ends, clause by clause.
-use Rattle.std.proofs.Common.{◌≡◌, ◌⊎◌, inl, inr, map, refl, string_bytes, sym, subst}
+use Rattle.std.proofs.Common.{arith, ◌≡◌, ◌⊎◌, inl, inr, map, refl, string_bytes, sym, subst}
 use Rattle.nm_outside.specs.Told.{Rose}
 use Rattle.nm_cli.specs.Answers.{status_of, text_of}
 use Rattle.nm_cli.specs.Done.{Ending, Ends}
@@ -31,6 +31,12 @@ returns-in_default-text-clause-done g c =
       no_ways = nothing.2;
       no_log = nothing.3;
     })
+
+pub returns-in_default-text-clause-reported : goal.returns-in_default-text-clause-reported
+returns-in_default-text-clause-reported g c (inl zero) =
+    absurd (omega (arith, zero, c.hand_out_nothing-in_default-text.ensures.0))
+returns-in_default-text-clause-reported g c (inr one) =
+    absurd (omega (arith, one, c.hand_out_nothing-in_default-text.ensures.0))
 
 -- what is seen where all was written, or the sink failed
 abbrev seen : (g : Over) → After-drop-due g → Ending
