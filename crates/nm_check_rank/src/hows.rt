@@ -10,28 +10,19 @@ use nm_types::How;
 pub fn is_asked(how: How) -> bool
     ensures { result ≡ is_ask how }
 {
-    match how {
-        How::Eager => false,
-        How::Ask => true,
-    }
+    matches!(how, How::Ask)
 }
 
 /// Whether a message is sent at once.
 pub fn is_eager(how: How) -> bool
     ensures { result ≡ not (is_ask how) }
 {
-    match how {
-        How::Eager => true,
-        How::Ask => false,
-    }
+    matches!(how, How::Eager)
 }
 
 /// Whether two are sent alike.
 pub fn is_same_how(a: How, b: How) -> bool
     ensures { Decides result (a ≡ b) }
 {
-    match a {
-        How::Eager => matches!(b, How::Eager),
-        How::Ask => matches!(b, How::Ask),
-    }
+    a == b
 }

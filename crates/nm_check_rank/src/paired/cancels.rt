@@ -16,11 +16,7 @@ impl Called for Cancelling {
     ghost counts = { is_cancelling };
 
     fn is_called(what: &Happened) -> bool {
-        match what {
-            Happened::Cancel { .. } => true,
-            Happened::Recall { .. } => true,
-            _ => false,
-        }
+        matches!(what, Happened::Cancel { .. } | Happened::Recall { .. })
     }
 }
 
@@ -28,8 +24,5 @@ impl Called for Cancelling {
 pub(crate) fn is_canceller(command: &Command) -> bool
     ensures { result ≡ is_canceller_lem command.now }
 {
-    match command {
-        Command::Cancel { .. } => true,
-        _ => false,
-    }
+    matches!(command, Command::Cancel { .. })
 }

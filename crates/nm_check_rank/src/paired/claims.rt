@@ -22,20 +22,14 @@ impl Called for Claiming {
     ghost counts = { is_claiming };
 
     fn is_called(what: &Happened) -> bool {
-        match what {
-            Happened::Claim { .. } => true,
-            _ => false,
-        }
+        matches!(what, Happened::Claim { .. })
     }
 }
 
 fn is_mprobe(command: &Command) -> bool
     ensures { result ≡ is_matched_probe command.now }
 {
-    match command {
-        Command::Mprobe { .. } => true,
-        _ => false,
-    }
+    matches!(command, Command::Mprobe { .. })
 }
 
 /// Whether the command of a line is a matched probe.

@@ -17,43 +17,23 @@ impl Called for Starting {
     ghost counts = { is_start };
 
     fn is_called(what: &Happened) -> bool {
-        match what {
-            Happened::Send { .. } => true,
-            Happened::Post { .. } => true,
-            Happened::Match { .. } => true,
-            _ => false,
-        }
+        matches!(
+            what,
+            Happened::Send { .. } | Happened::Post { .. } | Happened::Match { .. }
+        )
     }
 }
 
 pub(crate) fn is_same_peer(a: Peer, b: Peer) -> bool
     ensures { Decides result (a ≡ b) }
 {
-    match a {
-        Peer::Any => match b {
-            Peer::Any => true,
-            Peer::One(_) => false,
-        },
-        Peer::One(x) => match b {
-            Peer::Any => false,
-            Peer::One(y) => x == y,
-        },
-    }
+    a == b
 }
 
 pub(crate) fn is_same_pick(a: TagPick, b: TagPick) -> bool
     ensures { Decides result (a ≡ b) }
 {
-    match a {
-        TagPick::Any => match b {
-            TagPick::Any => true,
-            TagPick::One(_) => false,
-        },
-        TagPick::One(x) => match b {
-            TagPick::Any => false,
-            TagPick::One(y) => x == y,
-        },
-    }
+    a == b
 }
 
 /// The length of a body.
