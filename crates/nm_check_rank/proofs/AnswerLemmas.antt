@@ -1,6 +1,6 @@
 -- The rule on answers, by what the command asks for and what was found.
 use Rattle.std.proofs.Common.{◌≡◌, ℕ, Option, Some, None, List, refl, ◌∙◌, ap}
-use Rattle.std.specs.Prelude.{IsSomeAnd, MatchOption, option_and_then, option_map}
+use Rattle.std.specs.Prelude.{IsSomeAnd, option_and_then, option_map}
 use Rattle.std.proofs.lemmas.Option.{none-some}
 use Rattle.nm_types.specs.declared.answers.Answer.{Answer}
 use Rattle.nm_types.specs.declared.messages.Arrival.{Arrival}
@@ -13,10 +13,8 @@ use Rattle.nm_history.specs.Answers.{answer_of, live}
 use Rattle.nm_lookups.specs.Looks.{found_by, look_of}
 use Rattle.nm_lookups.specs.AskedFor.{asked_request, meant_by, name_of}
 use Rattle.nm_lookups.specs.declared.asked.requests.Request.{Request}
-use Rattle.nm_check_rank.specs.Dues.{IsDueAt}
 use Rattle.nm_check_rank.specs.Handles.{IsOfName}
 use Rattle.nm_check_rank.specs.OwnBreaks.{NextAt}
-use Rattle.nm_check_rank.specs.declared.paired.dues.Due.{Due}
 
 -- the request of the name of the command of a line
 pub of_name : (commands : List Numbered) (before : List Event) (line : ℕ) (answer : Answer) (c : Command)
@@ -51,13 +49,8 @@ module _ (commands : List Numbered) (before : List Event) (line : ℕ) (given : 
   told_of_answer None is = absurd is
   told_of_answer (Some c) is = is
 
--- what stands against an event by the rule on answers
-abbrev pub IsAnswerDue : List Numbered → List Event → Happened → Option Due → Type 0
-IsAnswerDue commands before w found =
-    MatchOption found (NextAt commands before w)
-    (λ due. (NextAt commands before w → ⊥) × IsDueAt commands before w (Some due))
-
+-- any other event than an answer keeps the rule on answers
 pub other_next : (commands : List Numbered) (before : List Event) (w : Happened) →
-    ((line : ℕ) (answer : Answer) → w ≡ happening.Ran line answer → ⊥) → IsAnswerDue commands before w None
+    ((line : ℕ) (answer : Answer) → w ≡ happening.Ran line answer → ⊥) → NextAt commands before w
 other_next commands before (happening.Ran line answer) not = absurd (not line answer refl)
 other_next commands before w not = tt

@@ -1,13 +1,10 @@
 -- The rule on claims, by the claims since the last answer and by what was found.
-use Rattle.std.proofs.Common.{◌≡◌, ℕ, Option, Some, None}
-use Rattle.std.proofs.Common.{List, [], ◌∷◌, length, take, refl, sym, ◌∙◌, ap}
-use Rattle.std.specs.Prelude.{IsSomeAnd, filter_map, option_to_list}
-use Rattle.std.specs.List.{slice_get}
+use Rattle.std.proofs.Common.{◌≡◌, List, [], ◌∷◌, length, sym, ◌∙◌, ap}
+use Rattle.std.specs.Prelude.{filter_map, option_to_list}
 use Rattle.nm_history.specs.declared.events.Event.{Event}
 use Rattle.nm_history.specs.declared.events.Happened.{Happened}
 use Rattle.nm_history.specs.RankRun.{claims_since, line_of_claim, since_command}
-use Rattle.nm_lookups.specs.SinceAnswer.{IsSince, of_kind}
-use Rattle.nm_lookups.specs.declared.asked.since.Since.TheVariants.{One}
+use Rattle.nm_lookups.specs.SinceAnswer.{of_kind}
 use Rattle.nm_check_rank.specs.Kinds.{is_claiming}
 use Rattle.nm_check_rank.proofs.GivenLemmas.{given_length, given_of_passed}
 use Rattle.nm_types.proofs.ListLemmas.{no_items}
@@ -29,14 +26,7 @@ no_claiming h none =
     no_items (of_kind is_claiming h) (sym (claims_length h) ∙ ap length none)
 
 -- the line of the one claim
-pub one_claim : (h : List Event) (k t : ℕ) (o : Option ℕ) →
-    ((e : Event) → slice_get h t ≡ Some e → o ≡ line_of_claim e.what) →
-    IsSince is_claiming h k (One t) → claims_since (take k h) ≡ option_to_list o
-one_claim h k t o claimed since = by_event (slice_get h t) refl since
-  where
-    by_event : (x : Option Event) → slice_get h t ≡ x →
-        IsSomeAnd x (λ e. of_kind is_claiming (take k h) ≡ e.what ∷ []) → claims_since (take k h) ≡ option_to_list o
-    by_event None here since = absurd since
-    by_event (Some e) here since =
-        claims_of_kind (take k h) ∙ ap (λ (xs : List Happened). filter_map line_of_claim xs) since
-        ∙ one_option (line_of_claim e.what) ∙ ap (λ (o : Option ℕ). option_to_list o) (sym (claimed e here))
+pub one_claim : (h : List Event) (w : Happened) → of_kind is_claiming h ≡ w ∷ [] →
+    claims_since h ≡ option_to_list (line_of_claim w)
+one_claim h w one =
+    claims_of_kind h ∙ ap (λ (xs : List Happened). filter_map line_of_claim xs) one ∙ one_option (line_of_claim w)

@@ -1,9 +1,8 @@
 -- What is called for at a claim, by what was found.
 use Rattle.std.proofs.Common.{◌≡◌, ℕ, ◌≤◌, Bool, true, false, cond, Option, Some, None, List, [], ◌∷◌, length}
-use Rattle.std.proofs.Common.{refl, sym, ◌∙◌, ap, arith, take}
-use Rattle.std.specs.Prelude.{option_and_then, option_map, option_to_list, slice_get}
+use Rattle.std.proofs.Common.{refl, sym, ap, arith}
+use Rattle.std.specs.Prelude.{option_and_then, option_map, option_to_list}
 use Rattle.std.specs.Option.{option_map_or}
-use Rattle.std.proofs.lemmas.List.{take_all}
 use Rattle.nm_types.specs.declared.answers.Answer.{Answer}
 use Rattle.nm_types.specs.declared.messages.Arrival.{Arrival}
 use Rattle.nm_types.specs.declared.scripts.Command.{Command}
@@ -13,8 +12,7 @@ use Rattle.nm_history.specs.declared.events.Happened.{Happened}
 use Rattle.nm_history.specs.declared.events.Happened.TheVariants.{Claim, Ran}
 use Rattle.nm_history.specs.RankRun.{claims_since, is_matched_probe, line_of_claim}
 use Rattle.nm_lookups.specs.Looks.{found_by}
-use Rattle.nm_lookups.specs.SinceAnswer.{IsSince}
-use Rattle.nm_lookups.specs.declared.asked.since.Since.TheVariants as since
+use Rattle.nm_lookups.specs.SinceAnswer.{of_kind}
 use Rattle.nm_check_rank.specs.Claimings.{claim_due, claims_due}
 use Rattle.nm_match.specs.Names.{id_of_arrival}
 use Rattle.nm_check_rank.specs.Kinds.{is_claiming}
@@ -22,7 +20,6 @@ use Rattle.nm_check_rank.specs.Manies.{many_due}
 use Rattle.nm_check_rank.specs.declared.paired.dues.Due.{Due}
 use Rattle.nm_check_rank.specs.declared.paired.manies.Many.TheVariants as many
 use Rattle.nm_check_rank.proofs.ClaimLemmas.{claims_length, no_claims, one_claim}
-use Rattle.nm_check_rank.proofs.ManyLemmas.{more_left, none_left}
 
 -- the message that the matched probe of a line found
 pub probed_by : (before : List Event) (o : Option Command) (found : Option Arrival) →
@@ -50,25 +47,18 @@ module _ (h : List Event) (line : ℕ) (called : Bool) where
   Called xs = claims_due (cond called (line ∷ []) []) xs
 
   -- no claim since the last answer
-  pub none_claimed : IsSince is_claiming h (length h) since.Nothing → Called [] ≡ Called (claims_since h)
-  none_claimed none = sym (ap (λ (xs : List ℕ). Called xs) (no_claims h (none_left is_claiming h none)))
+  pub none_claimed : of_kind is_claiming h ≡ [] → Called [] ≡ Called (claims_since h)
+  none_claimed none = sym (ap (λ (xs : List ℕ). Called xs) (no_claims h none))
 
   -- one
-  pub one_claimed : (t : ℕ) (o : Option ℕ) →
-      ((e : Event) → slice_get h t ≡ Some e → o ≡ line_of_claim e.what) →
-      IsSince is_claiming h (length h) (since.One t) → Called (option_to_list o) ≡ Called (claims_since h)
-  one_claimed t o claimed one =
-      let all : take (length h) h ≡ h = take_all (length h) h (omega arith) in
-      sym (ap (λ (xs : List ℕ). Called xs)
-      (ap (λ (g : List Event). claims_since g) (sym all) ∙ one_claim h (length h) t o claimed one))
+  pub one_claimed : (w : Happened) → of_kind is_claiming h ≡ w ∷ [] →
+      Called (option_to_list (line_of_claim w)) ≡ Called (claims_since h)
+  one_claimed w one = sym (ap (λ (xs : List ℕ). Called xs) (one_claim h w one))
 
   -- two or more
-  pub more_claimed : IsSince is_claiming h (length h) since.More →
+  pub more_claimed : 2 ≤ length (of_kind is_claiming h) →
       many_due (cond called many.One many.Nothing) many.More ≡ Called (claims_since h)
-  more_claimed more =
-      let few = more_left is_claiming h more in
-      let all = claims_length h in
-      more_called line called (claims_since h) (omega (arith, few, all))
+  more_claimed few = let all = claims_length h in more_called line called (claims_since h) (omega (arith, few, all))
 
 -- nothing is called for at any other event
 pub no_claim_due : (commands : List Numbered) (before : List Event) (w : Happened) →

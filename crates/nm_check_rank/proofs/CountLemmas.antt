@@ -3,10 +3,10 @@ use Rattle.std.proofs.Common.{◌≡◌, ℕ, ◌+◌, ◌-◌, ◌^◌, ◌<◌
 use Rattle.std.proofs.Common.{List, [], ◌∷◌, ◌++◌}
 use Rattle.std.proofs.Common.{length, set, get_or, min, refl, sym, ◌∙◌, ap, subst, arith, length-append}
 use Rattle.std.specs.List.{cons_option, filter, filter_map}
-use Rattle.std.proofs.lemmas.Bool.{false≢true}
 use Rattle.std.proofs.lemmas.Bool.Decides.{nat_tests}
 use Rattle.std.proofs.lemmas.Grind.{get_or-set_at}
 use Rattle.std.proofs.lemmas.List.{get_or-set_other}
+use Rattle.std.proofs.lemmas.List.Sums.{count_by-le-length, length-filter}
 use Rattle.nm_types.specs.declared.messages.Arrival.{Arrival}
 use Rattle.nm_types.specs.declared.messages.How.{How}
 use Rattle.nm_types.specs.declared.messages.Post.{Post}
@@ -17,22 +17,17 @@ use Rattle.nm_history.specs.Sends.{Sent, Arrived, sends, sent_of, arrivals, arri
 use Rattle.nm_lookups.specs.Deciding.{Decides}
 use Rattle.nm_history.proofs.DeliveryLemmas.{sends-push}
 use Rattle.nm_history.proofs.OnceLemmas.{arrivals-push}
-
-few_pass_at : {X : Type 0} (p : X → Bool) (x : X) (xs : List X) (b : Bool) → length (filter p xs) ≤ length xs →
-    length (cond b (x ∷ filter p xs) (filter p xs)) ≤ length (x ∷ xs)
-few_pass_at p x xs true few = omega (arith, few)
-few_pass_at p x xs false few = omega (arith, few)
+use Rattle.nm_check_rank.proofs.DecideLemmas.{decides_nat}
 
 few_pass : {X : Type 0} (p : X → Bool) (xs : List X) → length (filter p xs) ≤ length xs
-few_pass p [] = omega arith
-few_pass p (x ∷ xs) = few_pass_at p x xs (p x) (few_pass p xs)
+few_pass p xs = rw length-filter (count_by-le-length p xs)
 
 few_given_at : {X Y : Type 0} (o : Option Y) (x : X) (xs : List X) (ys : List Y) → length ys ≤ length xs →
     length (cons_option o ys) ≤ length (x ∷ xs)
 few_given_at None x xs ys few = omega (arith, few)
 few_given_at (Some y) x xs ys few = omega (arith, few)
 
-few_given : {X Y : Type 0} (f : X → Option Y) (xs : List X) → length (filter_map f xs) ≤ length xs
+pub few_given : {X Y : Type 0} (f : X → Option Y) (xs : List X) → length (filter_map f xs) ≤ length xs
 few_given f [] = omega arith
 few_given f (x ∷ xs) = few_given_at (f x) x xs (filter_map f xs) (few_given f xs)
 
@@ -142,9 +137,4 @@ a_match what number from n cap line is = subst IsReceive (sym is) (record {
 pub counts_decided : (a b m n : ℕ) → a ≡ m → b ≡ n → Decides (a == b) (m ≡ n)
 counts_decided a b m n first second =
     subst (λ (x : ℕ). Decides (a == b) (x ≡ n)) first
-    (subst (λ (y : ℕ). Decides (a == b) (a ≡ y)) second (numbers_decided a b (a == b) refl))
-  where
-    numbers_decided : (a b : ℕ) (r : Bool) → (a == b) ≡ r → Decides (a == b) (a ≡ b)
-    numbers_decided a b true is = rw is (let same : a ≡ b = grind (arith, nat_tests) in same)
-    numbers_decided a b false is = rw is (λ (same : a ≡ b). let equal : (a == b) ≡ true = grind
-        (arith, nat_tests) in false≢true (sym is ∙ equal))
+    (subst (λ (y : ℕ). Decides (a == b) (a ≡ y)) second (decides_nat a b))

@@ -1,19 +1,11 @@
--- What is called for at an event that was read.
-use Rattle.std.proofs.Common.{◌≡◌, ℕ, ◌<◌, Bool, true, false, cond, Some, None, List, get_or, length, refl, sym, ◌∙◌}
-use Rattle.std.specs.Prelude.{is_some, nat_lt, slice_get}
-use Rattle.std.proofs.lemmas.Option.{slice_get_read}
-use Rattle.nm_types.proofs.OptionLemmas.{same_some}
+-- Something is called for at a wrong number.
+use Rattle.std.proofs.Common.{◌≡◌, ℕ, Bool, true, false, cond, Some, None, List, refl}
+use Rattle.std.specs.Prelude.{is_some, nat_lt}
 use Rattle.nm_history.specs.declared.events.Event.{Event}
 use Rattle.nm_history.specs.declared.events.Happened.{Happened}
 use Rattle.nm_history.specs.declared.events.Happened.TheVariants as what
 use Rattle.nm_history.specs.RankRun.{NumberAt}
 use Rattle.nm_check_rank.specs.Dues.{next_number, number_due, number_of, numbers_due, stranger}
-
--- the event that was read
-pub same_event : (h : List Event) (k : ℕ) (x e : Event) → k < length h → x ≡ get_or h k x → slice_get h k ≡ Some e →
-    get_or h k x ≡ e
-same_event h k x e inside is here =
-    sym is ∙ same_some x e (sym (slice_get_read h (length h) k x refl inside is) ∙ here)
 
 -- a number that is not the next one, or a rank that there isn't
 pub number_told : (ranks : ℕ) (before : List Event) (w : Happened) → (NumberAt ranks before w → ⊥) →

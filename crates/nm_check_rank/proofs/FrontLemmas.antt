@@ -1,5 +1,5 @@
 -- Where a rank breaks a rule first, by the events up to the first one with a wrong number.
-use Rattle.std.proofs.Common.{◌≡◌, ℕ, ◌<◌, true, Option, Some, None, List, [], ◌++◌, drop, length, take}
+use Rattle.std.proofs.Common.{◌≡◌, ℕ, ◌<◌, ◌≤◌, true, Option, Some, None, List, [], ◌++◌, drop, length, take}
 use Rattle.std.proofs.Common.{get_or, refl, sym, ◌∙◌, ap, subst, arith}
 use Rattle.std.specs.Prelude.{IsSomeAnd, is_some, slice_get}
 use Rattle.std.proofs.lemmas.Bool.{false≢true}
@@ -27,7 +27,7 @@ use Rattle.nm_check_rank.proofs.OwnLemmas.{broken_next}
 
 -- the first event that breaks a rule in front of another event is the first of all
 pub front_breach : (shape : Sizes) (commands : List Numbered) (at : ℕ) (h : List Event) (m k : ℕ) (c : OwnClause)
-    (d : Due) → m < length h → KeepsAll shape commands (take k (take m h)) →
+    (d : Due) → m ≤ length h → KeepsAll shape commands (take k (take m h)) →
     IsSomeAnd (slice_get (take m h) k) (λ e. BreaksAt shape commands (take k (take m h)) e c d) →
     IsBreachAt shape commands at h c (Some d) (At k)
 front_breach shape commands at h m k c d inside kept breaks = by_event (slice_get (take m h) k) refl breaks
@@ -67,11 +67,11 @@ module _ (shape : Sizes) (commands : List Numbered) (at : ℕ) (h : List Event) 
       breaks
 
   pub stamp_breach : (d : Due) → (StampAt (take k h) e.stamp → ⊥) →
-      d ≡ due.Stamp (last_stamp (take k h)) e.stamp → IsBreachAt shape commands at h own.Stamps (Some d) (At k)
+      Some d ≡ Some (due.Stamp (last_stamp (take k h)) e.stamp) → IsBreachAt shape commands at h own.Stamps (Some d) (At k)
   stamp_breach d broken is = (
     kept,
     at_place own.Stamps (Some d)
-        (broken_next Rule own_order 0 own.Stamps (omega arith) (All-nil Rule) broken, ap (λ (x : Due). Some x) is),
+        (broken_next Rule own_order 0 own.Stamps (omega arith) (All-nil Rule) broken, is),
   )
 
   number_broken : BreaksFirstAt (Always (NumberAt shape.ranks)) h k → NumberAt shape.ranks (take k h) e.what → ⊥

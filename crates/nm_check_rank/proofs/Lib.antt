@@ -2,7 +2,6 @@ mod AgainstLemmas
 mod AnswerLemmas
 mod ArrivalLemmas
 pub mod BreakLemmas
-mod BrokenLemmas
 mod CancelLemmas
 mod CancellingLemmas
 mod ClaimLemmas

@@ -1,9 +1,10 @@
 -- How many events of a kind there are since the last answer, by what was found.
-use Rattle.std.proofs.Common.{◌≡◌, ℕ, ◌≤◌, Bool, true, false, cond, Option, Some, None, List, [], ◌∷◌, length}
-use Rattle.std.proofs.Common.{refl, sym, ◌∙◌, ap, subst, arith, take}
-use Rattle.std.specs.Prelude.{IsSomeAnd, slice_get}
+use Rattle.std.proofs.Common.{◌≡◌, ℕ, ◌<◌, ◌≤◌, Bool, true, false, cond, Some, List, [], ◌∷◌, length}
+use Rattle.std.proofs.Common.{get_or, refl, sym, ◌∙◌, ap, subst, arith, take}
+use Rattle.std.specs.Prelude.{slice_get}
 use Rattle.std.specs.List.{filter}
-use Rattle.std.proofs.lemmas.List.{take_all}
+use Rattle.std.proofs.lemmas.Option.{get_or_from_slice_get, slice_get_within}
+use Rattle.nm_types.proofs.OptionLemmas.{some_and}
 use Rattle.nm_history.specs.declared.events.Event.{Event}
 use Rattle.nm_history.specs.declared.events.Happened.{Happened}
 use Rattle.nm_lookups.specs.SinceAnswer.{IsSince, of_kind}
@@ -12,7 +13,7 @@ use Rattle.nm_lookups.specs.declared.asked.since.Since.TheVariants as since
 use Rattle.nm_check_rank.specs.Manies.{many_of}
 use Rattle.nm_check_rank.specs.declared.paired.manies.Many.TheVariants as many
 
-pub same_head : {X : Type 0} {a b : X} → (a ∷ []) ≡ (b ∷ []) → a ≡ b
+pub same_head : {X : Type 0} {x y : X} {xs ys : List X} → (x ∷ xs) ≡ (y ∷ ys) → x ≡ y
 same_head same = cc
 
 -- two or more
@@ -22,16 +23,13 @@ many_more (x ∷ []) few = absurd (omega (arith, few))
 many_more (x ∷ y ∷ xs) few = refl
 
 -- the one event of a kind is of it
-head_same : {w v : Happened} {ws vs : List Happened} → (w ∷ ws) ≡ (v ∷ vs) → w ≡ v
-head_same same = cc
-
 pub passed_head : (p : Happened → Bool) (ws : List Happened) (v : Happened) → filter p ws ≡ v ∷ [] → p v ≡ true
 passed_head p [] v same = let both : 0 ≡ length (v ∷ []) = ap length same in absurd (omega (arith, both))
 passed_head p (w ∷ ws) v same = by_kind (p w) refl same (passed_head p ws v)
   where
     by_kind : (b : Bool) → p w ≡ b → cond b (w ∷ filter p ws) (filter p ws) ≡ v ∷ [] →
         (filter p ws ≡ v ∷ [] → p v ≡ true) → p v ≡ true
-    by_kind true is same more = subst (λ (x : Happened). p x ≡ true) (head_same same) is
+    by_kind true is same more = subst (λ (x : Happened). p x ≡ true) (same_head same) is
     by_kind false is same more = more same
 
 pub one_nothing : many.One ≡ many.Nothing → ⊥
@@ -40,50 +38,31 @@ one_nothing same = cc
 pub one_more : many.One ≡ many.More → ⊥
 one_more same = cc
 
-module _ (p : Happened → Bool) (h : List Event) where
-  all_of : of_kind p (take (length h) h) ≡ of_kind p h
-  all_of = ap (λ (g : List Event). of_kind p g) (take_all (length h) h (omega arith))
+-- what is left before a place
+module _ (p : Happened → Bool) (h : List Event) (k : ℕ) (s : Since) (left : IsSince p h k s) where
+  pub none_left : s ≡ since.Nothing → of_kind p (take k h) ≡ []
+  none_left is = subst (λ (x : Since). IsSince p h k x) is left
 
-  -- there is none
-  pub none_left : IsSince p h (length h) since.Nothing → of_kind p h ≡ []
-  none_left none = sym all_of ∙ none
+  only : (t : ℕ) → s ≡ since.One t → (e : Event) × (slice_get h t ≡ Some e) × (of_kind p (take k h) ≡ e.what ∷ [])
+  only t is =
+      some_and (λ (e : Event). of_kind p (take k h) ≡ e.what ∷ []) (slice_get h t)
+      (subst (λ (x : Since). IsSince p h k x) is left)
 
-  -- there is one
-  pub one_left : (t : ℕ) → IsSince p h (length h) (since.One t) →
-      IsSomeAnd (slice_get h t) (λ e. of_kind p h ≡ e.what ∷ [])
-  one_left t one = subst (λ (ws : List Happened). IsSomeAnd (slice_get h t) (λ e. ws ≡ e.what ∷ [])) all_of one
+  pub one_inside : (t : ℕ) → s ≡ since.One t → t < length h
+  one_inside t is = let one = only t is in slice_get_within h t one.0 one.1
 
-  -- .. and so the number is one
-  pub one_of_kind : (t : ℕ) → IsSince p h (length h) (since.One t) → many.One ≡ many_of (of_kind p h)
-  one_of_kind t one = by_event (slice_get h t) (one_left t one)
-    where
-      by_event : (o : Option Event) → IsSomeAnd o (λ e. of_kind p h ≡ e.what ∷ []) → many.One ≡ many_of (of_kind p h)
-      by_event None some = absurd some
-      by_event (Some e) some = sym (ap (λ (ws : List Happened). many_of ws) some)
+  pub one_left : (t : ℕ) (x : Event) → s ≡ since.One t → of_kind p (take k h) ≡ (get_or h t x).what ∷ []
+  one_left t x is =
+      let one = only t is in
+      one.2 ∙ ap (λ (e : Event). e.what ∷ []) (sym (get_or_from_slice_get h t one.0 x one.1))
 
-  -- there are two or more
-  pub more_left : IsSince p h (length h) since.More → 2 ≤ length (of_kind p h)
-  more_left more = subst (λ (ws : List Happened). 2 ≤ length ws) all_of more
+  pub more_left : s ≡ since.More → 2 ≤ length (of_kind p (take k h))
+  more_left is = subst (λ (x : Since). IsSince p h k x) is left
 
-  -- there is not one
-  pub not_one_left : (s : Since) → ((t : ℕ) → s ≡ since.One t → ⊥) → IsSince p h (length h) s →
-      many.One ≡ many_of (of_kind p h) → ⊥
-  not_one_left since.Nothing not none one =
-      one_nothing (one ∙ ap (λ (ws : List Happened). many_of ws) (none_left none))
-  not_one_left (since.One t) not some one = not t refl
-  not_one_left since.More not more one = one_more (one ∙ sym (many_more (of_kind p h) (more_left more)))
-
-  -- what is told by the list of them
-  pub told_none : {X : Type 0} (f : List Happened → X) (told : X) → told ≡ f [] → IsSince p h (length h) since.Nothing →
-      told ≡ f (of_kind p h)
-  told_none f told is none = is ∙ sym (ap f (none_left none))
-
-  pub told_one : {X : Type 0} (f : List Happened → X) (told : X) (t : ℕ) →
-      ((e : Event) → slice_get h t ≡ Some e → told ≡ f (e.what ∷ [])) → IsSince p h (length h) (since.One t) →
-      told ≡ f (of_kind p h)
-  told_one f told t is one = by_event (slice_get h t) is (one_left t one)
-    where
-      by_event : (o : Option Event) → ((e : Event) → o ≡ Some e → told ≡ f (e.what ∷ [])) →
-          IsSomeAnd o (λ e. of_kind p h ≡ e.what ∷ []) → told ≡ f (of_kind p h)
-      by_event None is some = absurd some
-      by_event (Some e) is some = is e refl ∙ sym (ap f some)
+-- the number is not one
+pub not_one_left : (p : Happened → Bool) (h : List Event) (k : ℕ) (s : Since) →
+    ((t : ℕ) → s ≡ since.One t → ⊥) → IsSince p h k s → many.One ≡ many_of (of_kind p (take k h)) → ⊥
+not_one_left p h k since.Nothing not none one =
+    one_nothing (one ∙ ap (λ (ws : List Happened). many_of ws) none)
+not_one_left p h k (since.One t) not some one = not t refl
+not_one_left p h k since.More not more one = one_more (one ∙ sym (many_more (of_kind p (take k h)) more))

@@ -6,7 +6,7 @@ use Rattle.std.specs.Prelude.{All, IsSomeAnd, slice_get}
 use Rattle.std.specs.List.{cons_option}
 use Rattle.std.proofs.Math.Seq.{take-append_seam}
 use Rattle.std.proofs.lemmas.List.{get_or_default, length-map, length-take-le, take-append-drop, take-map, take_all}
-use Rattle.std.proofs.lemmas.List.Elements.{All-cons, All-get_or, All-head, All-nil, All-push, All-tail}
+use Rattle.std.proofs.lemmas.List.Elements.{All-get_or, All-push}
 use Rattle.std.proofs.lemmas.Option.{slice_get_within}
 use Rattle.nm_types.specs.Commands.{Numbered}
 use Rattle.nm_types.specs.Sizes.{Sizes}
@@ -40,12 +40,6 @@ each_rule P all own.Cancels = All-get_or P own_order 4 own.Stamps (omega arith) 
 each_rule P all own.Wholes = All-get_or P own_order 5 own.Stamps (omega arith) all
 each_rule P all own.Ends = All-get_or P own_order 6 own.Stamps (omega arith) all
 each_rule P all own.Answers = All-get_or P own_order 7 own.Stamps (omega arith) all
-
--- what follows of each
-pub all_along : {X : Type 0} (P Q : X → Type 0) (xs : List X) → ((x : X) → P x → Q x) → All P xs → All Q xs
-all_along P Q [] along all = All-nil Q
-all_along P Q (x ∷ xs) along all =
-    All-cons Q x xs (along x (All-head P x xs all)) (all_along P Q xs along (All-tail P x xs all))
 
 module _ {C : Type 0} (Keeps : C → Type 0) (order : List C) (i : ℕ) (other : C) (inside : i < length order) where
   abbrev item : C

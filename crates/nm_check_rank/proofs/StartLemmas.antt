@@ -27,12 +27,7 @@ pub few_started : (eager : ℕ) (commands : List Numbered) (before : List Event)
 few_started eager commands before line (command.Send to q tag ctx sync body) = omega arith
 few_started eager commands before line (command.Recv q from tag ctx cap) = omega arith
 few_started eager commands before line (command.Mrecv q m cap) = one_at_most (live_message commands before m) cap line
-few_started eager commands before line (command.Wait q) = omega arith
-few_started eager commands before line (command.Test q) = omega arith
-few_started eager commands before line (command.Probe from tag ctx) = omega arith
-few_started eager commands before line (command.Await from tag ctx) = omega arith
-few_started eager commands before line (command.Cancel q) = omega arith
-few_started eager commands before line (command.Mprobe m from tag ctx) = omega arith
+few_started eager commands before line c = omega arith
 
 -- the message of the handle of the command of a line
 pub of_handle : (commands : List Numbered) (before : List Event) (line : ℕ) (answer : Answer) (c : Command)

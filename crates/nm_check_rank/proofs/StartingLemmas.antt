@@ -1,9 +1,10 @@
 -- What is called for at the answer to a start, by the starts since the answer before.
-use Rattle.std.proofs.Common.{◌≡◌, ℕ, Bool, true, false, not, Option, Some, None, List, [], ◌∷◌, length}
+use Rattle.std.proofs.Common.{◌≡◌, ℕ, Bool, true, false, not, cond, Option, Some, None, List, [], ◌∷◌, length}
 use Rattle.std.proofs.Common.{refl, sym, ◌∙◌, ap, subst, arith}
-use Rattle.std.specs.Prelude.{IsSomeAnd, MatchBool, MatchOption, is_some, option_map, slice_get}
+use Rattle.std.specs.Prelude.{MatchBool, MatchOption, is_some, option_map}
 use Rattle.std.specs.Option.{option_map_or}
 use Rattle.std.proofs.lemmas.Bool.{false≢true}
+use Rattle.std.proofs.lemmas.Option.{none-some}
 use Rattle.nm_types.specs.declared.answers.Answer.{Answer}
 use Rattle.nm_types.specs.declared.messages.Peer.{Peer}
 use Rattle.nm_types.specs.declared.messages.TagPick.{TagPick}
@@ -15,10 +16,8 @@ use Rattle.nm_history.specs.declared.events.Event.{Event}
 use Rattle.nm_history.specs.declared.events.Happened.{Happened}
 use Rattle.nm_history.specs.declared.events.Happened.TheVariants as what
 use Rattle.nm_history.specs.Answers.{Message as Claimed, live_message}
-use Rattle.nm_history.specs.RankRun.{is_start, lacks_message, since_command, start_of, starts_since}
+use Rattle.nm_history.specs.RankRun.{lacks_message, start_of, starts_since}
 use Rattle.nm_lookups.specs.AskedFor.{message_meant}
-use Rattle.nm_lookups.specs.SinceAnswer.{IsSince, of_kind}
-use Rattle.nm_lookups.specs.declared.asked.since.Since.TheVariants as since
 use Rattle.nm_match.specs.declared.names.Message.{Message}
 use Rattle.nm_check_rank.specs.Arguments.{IsFirstMismatch, arguments}
 use Rattle.nm_check_rank.specs.Manies.{many_due, many_of}
@@ -28,7 +27,7 @@ use Rattle.nm_check_rank.specs.declared.paired.arguments.Mismatch.{Mismatch}
 use Rattle.nm_check_rank.specs.declared.paired.dues.Due.{Due}
 use Rattle.nm_check_rank.specs.declared.paired.dues.Due.TheVariants.{Against}
 use Rattle.nm_check_rank.specs.declared.paired.manies.Many.TheVariants as many
-use Rattle.nm_check_rank.proofs.ManyLemmas.{one_left, one_more, one_nothing, passed_head, same_head}
+use Rattle.nm_check_rank.proofs.ManyLemmas.{one_more, one_nothing, same_head}
 
 -- a test that is told
 pub on_true : (P Q : Type 0) (b : Bool) → true ≡ b → P → MatchBool b P Q
@@ -51,20 +50,6 @@ module _ (limit : ℕ) (c : Command) (told : Option Due) where
       told ≡ many_due (many_of xs) (many_of ys) → IsStartsDue limit c xs ys told
   many_is_due (w ∷ []) (v ∷ []) not is = absurd (not refl refl)
   many_is_due xs ys not is = is
-
-  -- .. which is the event at a place
-  pub one_there : (h : List Event) (t : ℕ) (xs : List Happened) →
-      ((e : Event) → slice_get h t ≡ Some e → is_start e.what ≡ true → IsStartsDue limit c xs (e.what ∷ []) told) →
-      IsSince is_start h (length h) (since.One t) → IsStartsDue limit c xs (starts_since h) told
-  one_there h t xs given one = by_event (slice_get h t) given (one_left is_start h t one)
-    where
-      by_event : (o : Option Event) →
-          ((e : Event) → o ≡ Some e → is_start e.what ≡ true → IsStartsDue limit c xs (e.what ∷ []) told) →
-          IsSomeAnd o (λ e. of_kind is_start h ≡ e.what ∷ []) → IsStartsDue limit c xs (starts_since h) told
-      by_event None given some = absurd some
-      by_event (Some e) given some =
-          subst (λ (ws : List Happened). IsStartsDue limit c xs ws told) (sym some)
-          (given e refl (passed_head is_start (since_command h) e.what some))
 
 -- a matched receive lacks its message where there is none
 pub none_held : (o : Option Message) (l : Option Claimed) (none : Bool) → option_map message_meant o ≡ l →
@@ -119,34 +104,20 @@ pub lacks_nothing : (commands : List Numbered) (before : List Event) (c : Comman
 lacks_nothing commands before (command.Mrecv q h cap) m = absurd (m q h cap refl)
 lacks_nothing commands before c m = refl
 
--- what is called for at an answer, by the command of its line
-module _ (limit : ℕ) (commands : List Numbered) (before : List Event) (line : ℕ) (started : Bool)
-    (told : Option Due) where
-  pub taken_is_due : (c : Command) → Some c ≡ command_at commands line → started ≡ true →
-      IsTakenDue limit commands before line c (starts_since before) told →
-      IsAnswerDue limit commands before line started told
-  taken_is_due c at is taken =
-      subst (λ (o : Option Command). MatchOption o (told ≡ many_due many.Nothing (many_of (starts_since before)))
-      (λ c. MatchBool started (IsTakenDue limit commands before line c (starts_since before) told)
-      (told ≡ many_due many.Nothing (many_of (starts_since before))))) at
-      (on_true (IsTakenDue limit commands before line c (starts_since before) told)
-      (told ≡ many_due many.Nothing (many_of (starts_since before))) started (sym is) taken)
+-- the command of a line that was taken is that of the line
+pub started_is : (started : Bool) (o : Option Command) (c : Command) → Some c ≡ cond started o None → Some c ≡ o
+started_is true o c is = is
+started_is false o c is = absurd (none-some c (sym is))
 
-  pub refused_is_due : (c : Command) → Some c ≡ command_at commands line → started ≡ false →
-      told ≡ many_due many.Nothing (many_of (starts_since before)) → IsAnswerDue limit commands before line started told
-  refused_is_due c at is none =
-      subst (λ (o : Option Command). MatchOption o (told ≡ many_due many.Nothing (many_of (starts_since before)))
-      (λ c. MatchBool started (IsTakenDue limit commands before line c (starts_since before) told)
-      (told ≡ many_due many.Nothing (many_of (starts_since before))))) at
-      (on_false (IsTakenDue limit commands before line c (starts_since before) told)
-      (told ≡ many_due many.Nothing (many_of (starts_since before))) started (sym is) none)
-
-  pub nothing_is_due : None ≡ command_at commands line →
-      told ≡ many_due many.Nothing (many_of (starts_since before)) → IsAnswerDue limit commands before line started told
-  nothing_is_due at none =
-      subst (λ (o : Option Command). MatchOption o (told ≡ many_due many.Nothing (many_of (starts_since before)))
-      (λ c. MatchBool started (IsTakenDue limit commands before line c (starts_since before) told)
-      (told ≡ many_due many.Nothing (many_of (starts_since before))))) at none
+-- what is called for at an answer, by the command of its line, if it was taken
+pub answer_is_due : (limit : ℕ) (commands : List Numbered) (before : List Event) (line : ℕ) (started : Bool)
+    (told : Option Due) (o : Option Command) → o ≡ cond started (command_at commands line) None →
+    MatchOption o (told ≡ many_due many.Nothing (many_of (starts_since before)))
+    (λ c. IsTakenDue limit commands before line c (starts_since before) told) →
+    IsAnswerDue limit commands before line started told
+answer_is_due limit commands before line started told o at due =
+    subst (λ (x : Option Command). MatchOption x (told ≡ many_due many.Nothing (many_of (starts_since before)))
+    (λ c. IsTakenDue limit commands before line c (starts_since before) told)) at due
 
 -- at any other event it is what stands against it
 pub other_is_due : (limit : ℕ) (commands : List Numbered) (before : List Event) (w : Happened) (told : Option Due) →

@@ -65,9 +65,9 @@ IsTakenDue limit commands before line c found told =
 -- what is called for at the answer to a command: its start, where it was taken, and else none
 abbrev pub IsAnswerDue : ℕ → List Numbered → List Event → ℕ → Bool → Option Due → Type 0
 IsAnswerDue limit commands before line started told =
-    MatchOption (command_at commands line) (told ≡ many_due many.Nothing (many_of (starts_since before)))
-    (λ c. MatchBool started (IsTakenDue limit commands before line c (starts_since before) told)
-    (told ≡ many_due many.Nothing (many_of (starts_since before))))
+    MatchOption (if started then command_at commands line else None)
+    (told ≡ many_due many.Nothing (many_of (starts_since before)))
+    (λ c. IsTakenDue limit commands before line c (starts_since before) told)
 
 -- .. and at the receive of a claimed message what stands against it
 abbrev pub IsStartDue : ℕ → List Numbered → List Event → Happened → Option Due → Type 0

@@ -1,5 +1,5 @@
 -- What a walk over the events of a rank finds.
-use Rattle.std.specs.Prelude.{IsSomeAnd, List, slice_get, take}
+use Rattle.std.specs.Prelude.{IsSomeAnd, List, length, slice_get, take}
 use Rattle.nm_types.specs.Commands.{Numbered}
 use Rattle.nm_types.specs.Sizes.{Sizes}
 use Rattle.nm_history.specs.declared.events.Event.{Event}
@@ -13,4 +13,4 @@ abbrev pub IsWalked : Sizes → List Numbered → List Event → Walked → Type
 IsWalked shape commands h (Breaks k s) =
     KeepsAll shape commands (take k h)
     × IsSomeAnd (slice_get h k) (λ e. BreaksAt shape commands (take k h) e s.clause s.due)
-IsWalked shape commands h (Ends so_far) = KeepsAll shape commands h × IsSoFar h so_far
+IsWalked shape commands h (Ends so_far) = KeepsAll shape commands h × IsSoFar h (length h) so_far

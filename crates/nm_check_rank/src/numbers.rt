@@ -1,7 +1,6 @@
 //! Whether messages and receives are numbered from 0.
 
-ghost use Rattle.std.specs.Prelude.{◌≡◌, ℕ, ◌+◌, ◌-◌, ◌<◌, ◌^◌, List, [], ◌∷◌, ◌++◌, length};
-ghost use Rattle.std.specs.Prelude.{MatchOption};
+ghost use Rattle.std.specs.Prelude.{◌≡◌, ℕ, ◌+◌, ◌-◌, ◌<◌, ◌≤◌, ◌^◌, List, [], ◌∷◌, ◌++◌, length, take};
 ghost use Rattle.nm_lookups.specs.Deciding.{Decides};
 ghost use Rattle.nm_check_rank.specs.Breaks.{BreaksFirstAt};
 ghost use Rattle.nm_check_rank.specs.Counted.{AreCounted};
@@ -86,19 +85,22 @@ impl Counts {
     }
 }
 
-/// The first send, receive or arrival that has not the next number, or comes from no rank.
-pub fn first_number(ranks: u8, events: &[Event]) -> Option<usize>
-    ensures { MatchOption result (Always (NumberAt ranks) events.now)
-        (BreaksFirstAt (Always (NumberAt ranks)) events.now) }
+/// How many events there are before the first send, receive or arrival that has not the next number,
+/// or comes from no rank: all of them, if there is none.
+pub(crate) fn first_number(ranks: u8, events: &[Event]) -> usize
+    ensures inside { result ≤ length events.now }
+    ensures kept { Always (NumberAt ranks) (take result events.now) }
+    ensures broken { result < length events.now →
+        BreaksFirstAt (Always (NumberAt ranks)) events.now result }
 {
     let mut counts = Counts::none();
     for (k, e) in events.iter().enumerate() {
         if !counts.is_next(ranks, &e.what) {
-            return Some(k);
+            return k;
         }
         counts.add(&e.what);
     }
-    None
+    events.len()
 }
 
 /// The counts of a history.

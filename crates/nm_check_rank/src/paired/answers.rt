@@ -1,7 +1,7 @@
 //! The answers of commands.
 
 ghost use Rattle.std.specs.Prelude.{◌≡◌, ℕ, List, Some, option_map, slice_get, take};
-ghost use Rattle.nm_types.specs.Commands.{Numbered, command_at, commands_of};
+ghost use Rattle.nm_types.specs.Commands.{Numbered, command_at};
 ghost use Rattle.nm_types.specs.declared.answers.Answer as given_answer;
 ghost use Rattle.nm_types.specs.declared.scripts.Line as script_line;
 ghost use Rattle.nm_history.specs.declared.events.Event as event;
@@ -10,18 +10,18 @@ ghost use Rattle.nm_history.specs.Answers.{answer_of, without_bytes};
 ghost use Rattle.nm_history.specs.Answers.{arrival_claimed as arrival_claimed_lem};
 ghost use Rattle.nm_lookups.specs.Looks.{found_by};
 ghost use Rattle.nm_lookups.specs.Deciding.{Decides};
-ghost use Rattle.nm_lookups.specs.Placed.{ArePlaces};
 ghost use Rattle.nm_check_rank.specs.Handles.{IsOfHandle, IsOfName};
+ghost use Rattle.nm_check_rank.specs.Runs.{IsRun, commands_in};
 ghost use Rattle.nm_check_rank.specs.Tabled.{AreRankTables};
 ghost use Rattle.nm_check_rank.specs.Told.{untold};
 
 use crate::paired::arrivals::arrival_claimed;
 use crate::paired::results::{cancel_answer, test_answer, wait_answer};
+use crate::paired::runs::Run;
 use crate::paired::tables::Tables;
 use crate::paired::told::{
     Told, await_answer, claim_answer, is_told, probe_answer, receive_answer, start_answer,
 };
-use nm_history::Event;
 use nm_lookups::asked::requests::Request;
 use nm_lookups::firsts::Message;
 use nm_types::{Answer, Arrival, Command};
@@ -58,33 +58,19 @@ fn answer_by(
 }
 
 /// The answer that the events before a place give to the command of its line.
-pub(crate) fn answer_told(
-    events: &[Event],
-    tables: &Tables,
-    command: &Command,
-    k: usize,
-    line: u64,
-) -> Option<Told>
-    requires { ArePlaces events.now tables.now.places }
-    ensures { (rank : ℕ) (lines : List script_line.Line) (e : event.Event)
-        (answer : given_answer.Answer) → AreRankTables rank lines events.now tables.now →
-        slice_get events.now k ≡ Some e → e.what ≡ Ran line answer →
-        command_at (commands_of rank lines) line ≡ Some command.now →
-        option_map untold result
-        ≡ answer_of (commands_of rank lines) (take k events.now) line command.now }
+pub(crate) fn answer_told(run: &Run, command: &Command, k: usize, line: u64) -> Option<Told>
+    requires { IsRun run.now }
+    ensures { (e : event.Event) (answer : given_answer.Answer) →
+        slice_get run.now.events.now k ≡ Some e → e.what ≡ Ran line answer →
+        command_at (commands_in run.now) line ≡ Some command.now → option_map untold result
+        ≡ answer_of (commands_in run.now) (take k run.now.events.now) line command.now }
 {
+    let tables = run.tables;
     let request = tables.asked.request(k);
     let message = tables.asked.message(k);
-    let claimed = arrival_claimed(events, &tables.places, line, k);
-    answer_by(
-        tables,
-        command,
-        request,
-        message,
-        claimed,
-        tables.pairing.look(k),
-        k,
-    )
+    let claimed = arrival_claimed(run.events, &tables.places, line, k);
+    let found = tables.pairing.look(k);
+    answer_by(tables, command, request, message, claimed, found, k)
 }
 
 /// Whether an answer is the one that a command has.

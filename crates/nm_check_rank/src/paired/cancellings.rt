@@ -1,6 +1,6 @@
 //! What is called for at the answer to a cancel.
 
-ghost use Rattle.std.specs.Prelude.{◌≡◌, ◌<◌, ℕ, false, if◌then◌else◌, None, List, Some, length};
+ghost use Rattle.std.specs.Prelude.{◌≡◌, ℕ, false, if◌then◌else◌, None, List, Some};
 ghost use Rattle.std.specs.Prelude.{option_map, slice_get, take};
 ghost use Rattle.std.specs.Option.{option_map_or};
 ghost use Rattle.nm_types.specs.Commands.{command_at, commands_of};
@@ -10,8 +10,9 @@ ghost use Rattle.nm_history.specs.declared.events.Event as event;
 ghost use Rattle.nm_history.specs.declared.events.Happened.TheVariants.{Cancel, Ran, Recall};
 ghost use Rattle.nm_history.specs.RankRun.{cancels_since, is_canceller as is_canceller_lem, is_cancelling};
 ghost use Rattle.nm_lookups.specs.AskedFor.{meant_by};
+ghost use Rattle.nm_lookups.specs.SinceAnswer.{IsSince};
 ghost use Rattle.nm_check_rank.specs.Cancellings as spec;
-ghost use Rattle.nm_check_rank.specs.SoFar.{IsLeft};
+ghost use Rattle.nm_check_rank.specs.Runs.{IsRun, commands_in};
 ghost use Rattle.nm_check_rank.specs.Tabled.{AreRankTables};
 ghost use Rattle.nm_check_rank.specs.declared.paired.dues.Due.TheVariants as due;
 ghost use Rattle.nm_check_rank.specs.declared.paired.objections.Objection.TheVariants as against;
@@ -20,6 +21,7 @@ use crate::paired::cancels::is_canceller;
 use crate::paired::dues::{Due, against};
 use crate::paired::manies::{Many, many_due, many_of};
 use crate::paired::objections::{Objection, cancel_objection, word_after};
+use crate::paired::runs::Run;
 use crate::paired::tables::Tables;
 use nm_history::{Event, Happened};
 use nm_lookups::asked::commands::command_of_line;
@@ -96,35 +98,19 @@ fn send_due(to: u8, n: u64, what: &Happened) -> Option<Due>
     }
 }
 
-/// .. which is the event at a place.
-fn receive_there(before: &[Event], place: usize, number: u64, paired: bool) -> Option<Due>
-    ensures { (e : event.Event) → slice_get before.now place ≡ Some e →
-        result ≡ spec.receive_due number paired e.what }
-{
-    if place >= before.len() {
-        return None;
-    }
-    receive_due(number, paired, &before[place].what)
-}
-
-/// .. and so of a send.
-fn send_there(before: &[Event], place: usize, to: u8, n: u64) -> Option<Due>
-    ensures { (e : event.Event) → slice_get before.now place ≡ Some e →
-        result ≡ spec.send_due to n e.what }
-{
-    if place >= before.len() {
-        return None;
-    }
-    send_due(to, n, &before[place].what)
-}
-
 /// What is called for where a receive is cancelled.
-fn receive_cancels(before: &[Event], since: Since, number: u64, paired: bool) -> Option<Due>
-    requires { IsLeft is_cancelling before.now since }
-    ensures { result ≡ spec.receive_cancels number paired (cancels_since before.now) }
+fn receive_cancels(
+    events: &[Event],
+    since: Since,
+    k: usize,
+    number: u64,
+    paired: bool,
+) -> Option<Due>
+    requires { IsSince is_cancelling events.now k since }
+    ensures { result ≡ spec.receive_cancels number paired (cancels_since (take k events.now)) }
 {
     match since {
-        Since::One(place) => receive_there(before, place, number, paired),
+        Since::One(place) => receive_due(number, paired, &events[place].what),
         _ => many_due(Many::One, many_of(since)),
     }
 }
@@ -143,63 +129,53 @@ fn unrecalled(recalled: bool) -> Option<Due>
 }
 
 /// What is called for where a send is cancelled.
-fn send_cancels(before: &[Event], since: Since, to: u8, n: u64, recalled: bool) -> Option<Due>
-    requires { IsLeft is_cancelling before.now since }
-    ensures { result ≡ spec.send_cancels to n recalled (cancels_since before.now) }
+fn send_cancels(
+    events: &[Event],
+    since: Since,
+    k: usize,
+    to: u8,
+    n: u64,
+    recalled: bool,
+) -> Option<Due>
+    requires { IsSince is_cancelling events.now k since }
+    ensures { result ≡ spec.send_cancels to n recalled (cancels_since (take k events.now)) }
 {
     match since {
         Since::Nothing => unrecalled(recalled),
-        Since::One(place) => send_there(before, place, to, n),
+        Since::One(place) => send_due(to, n, &events[place].what),
         Since::More => many_due(Many::One, Many::More),
     }
 }
 
 /// What is called for where a request is cancelled.
-fn live_due(
-    before: &[Event],
-    tables: &Tables,
-    since: Since,
-    k: usize,
-    request: Request,
-) -> Option<Due>
-    requires { IsLeft is_cancelling before.now since }
-    ensures { (rank : ℕ) (lines : List script_line.Line) (h : List event.Event) →
-        AreRankTables rank lines h tables.now → before.now ≡ take k h →
-        result ≡ spec.cancels_due before.now (Some (meant_by request)) (cancels_since before.now) }
+fn live_due(run: &Run, since: Since, k: usize, request: Request) -> Option<Due>
+    requires run { IsRun run.now }
+    requires left { IsSince is_cancelling run.now.events.now k since }
+    ensures { result ≡ spec.cancels_due (take k run.now.events.now) (Some (meant_by request))
+        (cancels_since (take k run.now.events.now)) }
 {
     match request {
         Request::Receiving { number } => {
-            receive_cancels(before, since, number, tables.pairing.is_paired(number, k))
+            let paired = run.tables.pairing.is_paired(number, k);
+            receive_cancels(run.events, since, k, number, paired)
         }
         Request::Sending { to, n } => {
-            let recalls = &tables.places.outgoing.recalled.recalls;
-            send_cancels(
-                before,
-                since,
-                to,
-                n,
-                is_before::<Recalls>(recalls, to, n, k),
-            )
+            let recalls = &run.tables.places.outgoing.recalled.recalls;
+            let recalled = is_before::<Recalls>(recalls, to, n, k);
+            send_cancels(run.events, since, k, to, n, recalled)
         }
     }
 }
 
 /// .. if one is.
-fn cancels_due(
-    before: &[Event],
-    tables: &Tables,
-    since: Since,
-    k: usize,
-    request: Option<Request>,
-) -> Option<Due>
-    requires { IsLeft is_cancelling before.now since }
-    ensures { (rank : ℕ) (lines : List script_line.Line) (h : List event.Event) →
-        AreRankTables rank lines h tables.now → before.now ≡ take k h →
-        result ≡ spec.cancels_due before.now (option_map meant_by request)
-        (cancels_since before.now) }
+fn cancels_due(run: &Run, since: Since, k: usize, request: Option<Request>) -> Option<Due>
+    requires run { IsRun run.now }
+    requires left { IsSince is_cancelling run.now.events.now k since }
+    ensures { result ≡ spec.cancels_due (take k run.now.events.now) (option_map meant_by request)
+        (cancels_since (take k run.now.events.now)) }
 {
     match request {
-        Some(request) => live_due(before, tables, since, k, request),
+        Some(request) => live_due(run, since, k, request),
         None => many_due(Many::Nothing, many_of(since)),
     }
 }
@@ -230,26 +206,17 @@ fn cancelled(rank: u8, lines: &[Line], tables: &Tables, k: usize, line: u64) -> 
 }
 
 /// What is called for at a place by the rule on cancels.
-pub(crate) fn cancel_due(
-    rank: u8,
-    lines: &[Line],
-    events: &[Event],
-    tables: &Tables,
-    since: Since,
-    k: usize,
-) -> Option<Due>
-    requires left { IsLeft is_cancelling (take k events.now) since }
-    requires told { AreRankTables rank lines.now events.now tables.now }
-    requires inside { k < length events.now }
-    ensures { (e : event.Event) → slice_get events.now k ≡ Some e →
-        result ≡ spec.cancel_due (commands_of rank lines.now) (take k events.now) e.what }
+pub(crate) fn cancel_due(run: &Run, since: Since, k: usize, e: &Event) -> Option<Due>
+    requires run { IsRun run.now }
+    requires left { IsSince is_cancelling run.now.events.now k since }
+    requires here { slice_get run.now.events.now k ≡ Some e.now }
+    ensures { result ≡ spec.cancel_due (commands_in run.now) (take k run.now.events.now) e.now.what }
 {
-    let what = &events[k].what;
-    match what {
+    match &e.what {
         Happened::Ran { line, answer: _ } => {
-            let request = cancelled(rank, lines, tables, k, *line);
-            cancels_due(&events[..k], tables, since, k, request)
+            let request = cancelled(run.rank, run.lines, run.tables, k, *line);
+            cancels_due(run, since, k, request)
         }
-        _ => against(cancel_objection(tables, k, what)),
+        _ => against(cancel_objection(run.tables, k, &e.what)),
     }
 }

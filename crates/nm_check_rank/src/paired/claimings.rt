@@ -1,6 +1,6 @@
 //! What is called for at a claim, and at the answer to a matched probe.
 
-ghost use Rattle.std.specs.Prelude.{◌≡◌, ◌<◌, ℕ, if◌then◌else◌, None, List, Some, [], ◌∷◌, length};
+ghost use Rattle.std.specs.Prelude.{◌≡◌, ℕ, if◌then◌else◌, None, List, Some, [], ◌∷◌};
 ghost use Rattle.std.specs.Prelude.{option_map, option_to_list, slice_get, take};
 ghost use Rattle.nm_types.specs.Commands.{commands_of};
 ghost use Rattle.nm_history.specs.declared.events.Event as event;
@@ -8,15 +8,15 @@ ghost use Rattle.nm_history.specs.declared.events.Happened.TheVariants.{Claim};
 ghost use Rattle.nm_history.specs.RankRun.{claims_since};
 ghost use Rattle.nm_match.specs.Names.{id_of_arrival};
 ghost use Rattle.nm_lookups.specs.Pairings.{Tells};
+ghost use Rattle.nm_lookups.specs.SinceAnswer.{IsSince};
 ghost use Rattle.nm_check_rank.specs.Claimings as spec;
 ghost use Rattle.nm_check_rank.specs.Kinds.{is_claiming};
-ghost use Rattle.nm_check_rank.specs.SoFar.{IsLeft};
-ghost use Rattle.nm_check_rank.specs.Tabled.{AreRankTables};
+ghost use Rattle.nm_check_rank.specs.Runs.{IsRun, commands_in};
 
 use crate::paired::claims::{calls_for_claim, claim_line, is_mprobe_line};
 use crate::paired::dues::Due;
 use crate::paired::manies::{Many, many_due, one_if};
-use crate::paired::tables::Tables;
+use crate::paired::runs::Run;
 use nm_history::{Event, Happened};
 use nm_lookups::asked::since::Since;
 use nm_lookups::firsts::Message;
@@ -89,40 +89,32 @@ fn line_due(called: bool, line: u64, found: Option<u64>) -> Option<Due>
 }
 
 /// .. of the claims since the answer before.
-fn claims_due(before: &[Event], since: Since, called: bool, line: u64) -> Option<Due>
-    requires { IsLeft is_claiming before.now since }
+fn claims_due(events: &[Event], since: Since, k: usize, called: bool, line: u64) -> Option<Due>
+    requires { IsSince is_claiming events.now k since }
     ensures { result
-        ≡ spec.claims_due (if called then line ∷ [] else []) (claims_since before.now) }
+        ≡ spec.claims_due (if called then line ∷ [] else []) (claims_since (take k events.now)) }
 {
     match since {
         Since::Nothing => line_due(called, line, None),
-        Since::One(place) => line_due(called, line, claim_line(before, place)),
+        Since::One(place) => line_due(called, line, claim_line(&events[place].what)),
         Since::More => many_due(one_if(called), Many::More),
     }
 }
 
 /// What is called for at a place by the rule on claims.
-pub(crate) fn claim_due(
-    rank: u8,
-    lines: &[Line],
-    events: &[Event],
-    tables: &Tables,
-    since: Since,
-    k: usize,
-) -> Option<Due>
-    requires left { IsLeft is_claiming (take k events.now) since }
-    requires told { AreRankTables rank lines.now events.now tables.now }
-    requires inside { k < length events.now }
-    ensures { (e : event.Event) → slice_get events.now k ≡ Some e →
-        result ≡ spec.claim_due (commands_of rank lines.now) (take k events.now) e.what }
+pub(crate) fn claim_due(run: &Run, since: Since, k: usize, e: &Event) -> Option<Due>
+    requires run { IsRun run.now }
+    requires left { IsSince is_claiming run.now.events.now k since }
+    requires here { slice_get run.now.events.now k ≡ Some e.now }
+    ensures { result ≡ spec.claim_due (commands_in run.now) (take k run.now.events.now) e.now.what }
 {
-    match &events[k].what {
+    match &e.what {
         Happened::Ran { line, answer } => {
-            let called = calls_for_claim(rank, lines, *line, answer);
-            claims_due(&events[..k], since, called, *line)
+            let called = calls_for_claim(run.rank, run.lines, *line, answer);
+            claims_due(run.events, since, k, called, *line)
         }
         Happened::Claim { from, n, line } => {
-            let called = claim_called(rank, lines, &tables.pairing, k, *line);
+            let called = claim_called(run.rank, run.lines, &run.tables.pairing, k, *line);
             message_due(called, Message { rank: *from, n: *n })
         }
         _ => None,

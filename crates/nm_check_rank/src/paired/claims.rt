@@ -1,13 +1,12 @@
 //! Claims, and the matched probes that call for them.
 
-ghost use Rattle.std.specs.Prelude.{◌≡◌, ◌&&◌, false, Some, slice_get};
+ghost use Rattle.std.specs.Prelude.{◌≡◌, ◌&&◌, false};
 ghost use Rattle.std.specs.Option.{option_map_or};
 ghost use Rattle.nm_types.specs.Commands.{command_at, commands_of};
-ghost use Rattle.nm_history.specs.declared.events.Event as event;
 ghost use Rattle.nm_history.specs.Answers.{is_seen as is_seen_lem};
 ghost use Rattle.nm_history.specs.RankRun.{is_matched_probe, line_of_claim};
 
-use nm_history::{Event, Happened};
+use nm_history::Happened;
 use nm_lookups::asked::commands::command_of_line;
 use nm_lookups::asked::handles::is_seen;
 use nm_lookups::asked::since::Called;
@@ -52,15 +51,11 @@ pub(crate) fn calls_for_claim(rank: u8, lines: &[Line], line: u64, answer: &Answ
     is_mprobe_line(rank, lines, line) && is_seen(answer)
 }
 
-/// The line of the claim at a place.
-pub(crate) fn claim_line(events: &[Event], place: usize) -> Option<u64>
-    ensures { (e : event.Event) → slice_get events.now place ≡ Some e →
-        result ≡ line_of_claim e.what }
+/// The line of a claim.
+pub(crate) fn claim_line(what: &Happened) -> Option<u64>
+    ensures { result ≡ line_of_claim what.now }
 {
-    if place >= events.len() {
-        return None;
-    }
-    match &events[place].what {
+    match what {
         Happened::Claim { line, .. } => Some(*line),
         _ => None,
     }

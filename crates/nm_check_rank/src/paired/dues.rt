@@ -2,36 +2,32 @@
 
 ghost use Rattle.std.specs.Prelude.{◌≡◌, ◌<◌, List, MatchOption, Some, length, option_and_then};
 ghost use Rattle.std.specs.Prelude.{option_map, slice_get, take};
-ghost use Rattle.nm_types.specs.Commands.{Numbered, command_at, commands_of};
+ghost use Rattle.nm_types.specs.Commands.{Numbered, command_at};
 ghost use Rattle.nm_types.specs.declared.answers.Answer as given_answer;
 ghost use Rattle.nm_history.specs.declared.events.Event as event;
 ghost use Rattle.nm_history.specs.declared.events.Happened.TheVariants.{Ran};
 ghost use Rattle.nm_history.specs.Answers.{answer_of};
 ghost use Rattle.nm_history.specs.RankRun.{ran_lines};
 ghost use Rattle.nm_lookups.specs.Deciding.{Decides};
-ghost use Rattle.nm_check_rank.specs.Counted.{AreCounted};
 ghost use Rattle.nm_check_rank.specs.Dues as spec;
-ghost use Rattle.nm_check_rank.specs.Dues.{IsDue, IsDueAt, IsOwnDue, next_line as next_line_lem};
+ghost use Rattle.nm_check_rank.specs.Dues.{IsDue, IsDueAt, next_line as next_line_lem};
 ghost use Rattle.nm_check_rank.specs.OwnBreaks.{NextAt};
 ghost use Rattle.nm_check_rank.specs.Runs.{IsRun, commands_in};
-ghost use Rattle.nm_check_rank.specs.Tabled.{AreRankTables};
 ghost use Rattle.nm_check_rank.specs.Told.{untold};
-ghost use Rattle.nm_check_rank.specs.declared.clauses.OwnClause.TheVariants as own;
 ghost use Rattle.nm_check_rank.specs.declared.paired.dues.Due.TheVariants.{Against, Stamp};
 
-use crate::numbers::{Counts, counted};
+use crate::numbers::counted;
 use crate::paired::answers::{answer_told, is_answer_told};
 use crate::paired::arguments::Mismatch;
 use crate::paired::manies::Many;
 use crate::paired::objections::Objection;
 use crate::paired::runs::Run;
-use crate::paired::tables::Tables;
 use crate::paired::told::{Told, told_of};
 use nm_history::{Event, Happened};
 use nm_lookups::asked::commands::command_of_line;
 use nm_lookups::asked::requests::Request;
 use nm_lookups::firsts::Message;
-use nm_types::{Answer, Line, Shape};
+use nm_types::{Answer, Shape};
 
 /// What is called for at an event.
 #[derive(Clone, Copy)]
@@ -104,22 +100,16 @@ pub enum Due {
 }
 
 /// The answer that the command of a line has by the events before a place, where it ran.
-fn answer_called(
-    rank: u8,
-    lines: &[Line],
-    events: &[Event],
-    tables: &Tables,
-    k: usize,
-    line: u64,
-) -> Option<Told>
-    requires told { AreRankTables rank lines.now events.now tables.now }
-    ensures { (e : event.Event) (answer : given_answer.Answer) → slice_get events.now k ≡ Some e →
-        e.what ≡ Ran line answer → option_map untold result
-        ≡ option_and_then (λ c. answer_of (commands_of rank lines.now) (take k events.now) line c)
-        (command_at (commands_of rank lines.now) line) }
+fn answer_called(run: &Run, k: usize, line: u64) -> Option<Told>
+    requires { IsRun run.now }
+    ensures { (e : event.Event) (answer : given_answer.Answer) →
+        slice_get run.now.events.now k ≡ Some e → e.what ≡ Ran line answer →
+        option_map untold result ≡ option_and_then
+        (λ c. answer_of (commands_in run.now) (take k run.now.events.now) line c)
+        (command_at (commands_in run.now) line) }
 {
-    match command_of_line(lines, rank, line) {
-        Some(command) => answer_told(events, tables, command, k, line),
+    match command_of_line(run.lines, run.rank, line) {
+        Some(command) => answer_told(run, command, k, line),
         None => None,
     }
 }
@@ -163,19 +153,18 @@ fn next_line(own: &[u64], ran: usize) -> Option<u64>
 }
 
 /// What stands against an event by the rule on answers, where so many commands ran before.
-pub(crate) fn answer_due(run: &Run, ran: usize, k: usize) -> Option<Due>
+pub(crate) fn answer_due(run: &Run, ran: usize, k: usize, e: &Event) -> Option<Due>
     requires run { IsRun run.now }
-    requires inside { k < length run.now.events.now }
     requires ran { ran ≡ length (ran_lines (take k run.now.events.now)) }
-    ensures { (e : event.Event) → slice_get run.now.events.now k ≡ Some e →
-        MatchOption result (NextAt (commands_in run.now) (take k run.now.events.now) e.what)
-        (λ due. (¬ NextAt (commands_in run.now) (take k run.now.events.now) e.what)
-        × IsDueAt (commands_in run.now) (take k run.now.events.now) e.what (Some due)) }
+    requires here { slice_get run.now.events.now k ≡ Some e.now }
+    ensures { MatchOption result
+        (NextAt (commands_in run.now) (take k run.now.events.now) e.now.what)
+        (λ due. (¬ NextAt (commands_in run.now) (take k run.now.events.now) e.now.what)
+        × IsDueAt (commands_in run.now) (take k run.now.events.now) e.now.what (Some due)) }
 {
-    let events = run.events;
-    match &events[k].what {
+    match &e.what {
         Happened::Ran { line, answer } => {
-            let called = answer_called(run.rank, run.lines, events, run.tables, k, *line);
+            let called = answer_called(run, k, *line);
             let next = next_line(run.own, ran);
             line_due(called, next, *line, answer)
         }
@@ -186,7 +175,7 @@ pub(crate) fn answer_due(run: &Run, ran: usize, k: usize) -> Option<Due>
 /// What stands against a stamp: the one before is not less.
 pub(crate) fn stamp_due(last: u64, found: u64) -> Option<Due>
     ensures { MatchOption result (last < found)
-        (λ due. (¬ (last < found)) × (due ≡ Stamp last found)) }
+        (λ due. (¬ (last < found)) × (Some due ≡ Some (Stamp last found))) }
 {
     if last < found {
         None
@@ -228,9 +217,7 @@ fn stranger(ranks: u8, what: &Happened) -> Option<u8>
 fn numbers_due(called: Option<u64>, found: Option<u64>) -> Option<Due>
     ensures { result ≡ spec.numbers_due called found }
 {
-    let Some(called) = called else {
-        return None;
-    };
+    let called = called?;
     match found {
         Some(found) => Some(Due::Number { called, found }),
         None => None,
@@ -247,24 +234,15 @@ fn rank_or_number(ranks: u8, found: Option<u8>, numbers: Option<Due>) -> Option<
     }
 }
 
-/// What the rule on numbers calls for at an event, by the counts of those before it.
-fn counted_due(ranks: u8, counts: &Counts, what: &Happened) -> Option<Due>
-    ensures { (before : List event.Event) → AreCounted before counts.now →
-        result ≡ spec.number_due ranks (spec.stranger ranks what.now)
-        (spec.numbers_due (spec.next_number before what.now) (spec.number_of what.now)) }
+/// What the rule on numbers calls for at an event behind others.
+pub(crate) fn number_due(shape: Shape, before: &[Event], what: &Happened) -> Option<Due>
+    ensures { result ≡ spec.number_due shape.ranks (spec.stranger shape.ranks what.now)
+        (spec.numbers_due (spec.next_number before.now what.now) (spec.number_of what.now)) }
 {
+    let ranks = shape.ranks();
+    let counts = counted(before);
     let numbers = numbers_due(counts.next_number(what), number_of(what));
     rank_or_number(ranks, stranger(ranks, what), numbers)
-}
-
-/// What the rule on numbers calls for at a place.
-pub fn number_due(shape: Shape, events: &[Event], k: usize) -> Option<Due>
-    requires inside { k < length events.now }
-    ensures { (commands : List Numbered) (e : event.Event) → slice_get events.now k ≡ Some e →
-        IsOwnDue shape commands own.Numbers (take k events.now) e result }
-{
-    let counts = counted(&events[..k]);
-    counted_due(shape.ranks(), &counts, &events[k].what)
 }
 
 /// What stands against an event, if something does.

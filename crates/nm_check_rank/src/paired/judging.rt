@@ -68,7 +68,8 @@ fn first_broken(run: &Run, at: u64) -> Option<OwnClause>
 
 /// The first rule in order that the end breaks.
 fn first_left(so_far: SoFar, at: u64) -> Option<OwnClause>
-    ensures { (h : List event.Event) → IsSoFar h so_far → MatchOption result
+    ensures { (h : List event.Event) → IsSoFar h (length h) so_far →
+        MatchOption result
         (All (λ d. KeepsInTheEnd at d h) own_order)
         (IsFirstBroken (λ d. KeepsInTheEnd at d h) own_order) }
 {
@@ -83,7 +84,7 @@ fn first_left(so_far: SoFar, at: u64) -> Option<OwnClause>
 /// The end breaks a rule first, if it breaks one.
 fn left_in_the_end(so_far: SoFar, at: u64) -> Option<Breach>
     ensures { (shape : Sizes) (commands : List Numbered) (h : List event.Event) →
-        IsSoFar h so_far → KeepsAll shape commands h →
+        IsSoFar h (length h) so_far → KeepsAll shape commands h →
         MatchOption result (IsRankRun shape commands at h) (IsBreach shape commands at h) }
 {
     match first_left(so_far, at) {
@@ -96,67 +97,6 @@ fn left_in_the_end(so_far: SoFar, at: u64) -> Option<Breach>
     }
 }
 
-/// Where a rank breaks a rule first, if it breaks one.
-fn first_breach(run: &Run, at: u64) -> Option<Breach>
-    requires { IsRun run.now }
-    ensures { MatchOption result
-        (IsRankRun run.now.shape (commands_in run.now) at run.now.events.now)
-        (IsBreach run.now.shape (commands_in run.now) at run.now.events.now) }
-{
-    match walk(run) {
-        Walked::Breaks { at: k, standing } => Some(Breach {
-            clause: standing.clause,
-            place: Break::At(k),
-            due: Some(standing.due),
-        }),
-        Walked::Ends(so_far) => left_in_the_end(so_far, at),
-    }
-}
-
-/// The first rule in order that a rank breaks, which breaks one there.
-fn broken_rule(run: &Run, at: u64, first: Breach) -> OwnClause
-    requires run { IsRun run.now }
-    requires broken { IsBreach run.now.shape (commands_in run.now) at run.now.events.now first }
-    ensures { IsFirstBroken (KeepsOwn run.now.shape (commands_in run.now) at run.now.events.now)
-        own_order result }
-{
-    match first_broken(run, at) {
-        Some(clause) => clause,
-        None => first.clause,
-    }
-}
-
-/// The verdict where all numbers are right.
-fn judge_numbered(
-    alloc: Global,
-    shape: Shape,
-    rank: u8,
-    lines: &[Line],
-    at: u64,
-    events: &[Event],
-) -> Result<Judged, Memory>
-    requires { Always (NumberAt shape.ranks) events.now }
-    ensures { IfOk result (IsJudged shape rank lines.now at events.now) }
-{
-    let tables = Tables::of(alloc, rank, lines, events)?;
-    let own = own_lines(alloc, rank, lines)?;
-    let run = Run {
-        shape,
-        rank,
-        lines,
-        own: &own,
-        events,
-        tables: &tables,
-    };
-    match first_breach(&run, at) {
-        Some(first) => {
-            let clause = broken_rule(&run, at, first);
-            Ok(Judged::Breaks { clause, first })
-        }
-        None => Ok(Judged::Runs(tables)),
-    }
-}
-
 /// The event at a place has a wrong number, and breaks no rule but that and the one on stamps.
 fn wrong_number(shape: Shape, last: u64, events: &[Event], k: usize) -> Breach
     requires inside { k < length events.now }
@@ -166,7 +106,8 @@ fn wrong_number(shape: Shape, last: u64, events: &[Event], k: usize) -> Breach
         KeepsAll shape commands (take k events.now) →
         IsBreach shape commands at events.now result }
 {
-    match stamp_due(last, events[k].stamp) {
+    let e = &events[k];
+    match stamp_due(last, e.stamp) {
         Some(due) => Breach {
             clause: OwnClause::Stamps,
             place: Break::At(k),
@@ -175,27 +116,42 @@ fn wrong_number(shape: Shape, last: u64, events: &[Event], k: usize) -> Breach
         None => Breach {
             clause: OwnClause::Numbers,
             place: Break::At(k),
-            due: number_due(shape, events, k),
+            due: number_due(shape, &events[..k], &e.what),
         },
     }
 }
 
-/// Where a rank breaks a rule first, where the event at a place is the first with a wrong number and
-/// this is the run up to it.
-fn breach_up_to(run: &Run, events: &[Event], k: usize) -> Breach
+/// Where a rank breaks a rule first, if it breaks one, behind the events whose numbers are right.
+fn breach_behind(run: &Run, at: u64, so_far: SoFar) -> Option<Breach>
     requires run { IsRun run.now }
-    requires front { run.now.events.now ≡ take k events.now }
-    requires broken { BreaksFirstAt (Always (NumberAt run.now.shape.ranks)) events.now k }
-    ensures { (at : ℕ) →
-        IsBreach run.now.shape (commands_in run.now) at events.now result }
+    requires kept { KeepsAll run.now.shape (commands_in run.now) run.now.events.now }
+    requires so_far { IsSoFar run.now.events.now (length run.now.events.now) so_far }
+    ensures { MatchOption result
+        (IsRankRun run.now.shape (commands_in run.now) at run.now.all.now)
+        (IsBreach run.now.shape (commands_in run.now) at run.now.all.now) }
+{
+    let right = run.events.len();
+    let count = run.all.len();
+    if right < count {
+        return Some(wrong_number(run.shape, so_far.stamp, run.all, right));
+    }
+    left_in_the_end(so_far, at)
+}
+
+/// Where a rank breaks a rule first, if it breaks one.
+fn first_breach(run: &Run, at: u64) -> Option<Breach>
+    requires { IsRun run.now }
+    ensures { MatchOption result
+        (IsRankRun run.now.shape (commands_in run.now) at run.now.all.now)
+        (IsBreach run.now.shape (commands_in run.now) at run.now.all.now) }
 {
     match walk(run) {
-        Walked::Breaks { at, standing } => Breach {
+        Walked::Breaks { at: k, standing } => Some(Breach {
             clause: standing.clause,
-            place: Break::At(at),
+            place: Break::At(k),
             due: Some(standing.due),
-        },
-        Walked::Ends(so_far) => wrong_number(run.shape, so_far.stamp, events, k),
+        }),
+        Walked::Ends(so_far) => breach_behind(run, at, so_far),
     }
 }
 
@@ -212,34 +168,22 @@ fn stamps_or_numbers(events: &[Event]) -> OwnClause
     }
 }
 
-/// The verdict where the event at a place is the first with a wrong number.
-fn judge_unnumbered(
-    alloc: Global,
-    shape: Shape,
-    rank: u8,
-    lines: &[Line],
-    events: &[Event],
-    k: usize,
-) -> Result<Judged, Memory>
-    requires { BreaksFirstAt (Always (NumberAt shape.ranks)) events.now k }
-    ensures { (at : ℕ) → IfOk result (IsJudged shape rank lines.now at events.now) }
+/// The first rule in order that a rank breaks, which breaks one there.
+fn broken_rule(run: &Run, at: u64, first: Breach) -> OwnClause
+    requires run { IsRun run.now }
+    requires broken { IsBreach run.now.shape (commands_in run.now) at run.now.all.now first }
+    ensures { IsFirstBroken (KeepsOwn run.now.shape (commands_in run.now) at run.now.all.now)
+        own_order result }
 {
-    let front = &events[..k];
-    let tables = Tables::of(alloc, rank, lines, front)?;
-    let own = own_lines(alloc, rank, lines)?;
-    let run = Run {
-        shape,
-        rank,
-        lines,
-        own: &own,
-        events: front,
-        tables: &tables,
-    };
-    let first = breach_up_to(&run, events, k);
-    Ok(Judged::Breaks {
-        clause: stamps_or_numbers(events),
-        first,
-    })
+    let right = run.events.len();
+    let count = run.all.len();
+    if right < count {
+        return stamps_or_numbers(run.all);
+    }
+    match first_broken(run, at) {
+        Some(clause) => clause,
+        None => first.clause,
+    }
 }
 
 /// Whether a rank's history is a run of its first commands, as many as `at` says; else which of its
@@ -254,8 +198,24 @@ pub fn judge_rank(
 ) -> Result<Judged, Memory>
     ensures { IfOk result (IsJudged shape rank lines.now at events.now) }
 {
-    match first_number(shape.ranks(), events) {
-        Some(k) => judge_unnumbered(alloc, shape, rank, lines, events, k),
-        None => judge_numbered(alloc, shape, rank, lines, at, events),
+    let right = first_number(shape.ranks(), events);
+    let front = &events[..right];
+    let tables = Tables::of(alloc, rank, lines, front)?;
+    let own = own_lines(alloc, rank, lines)?;
+    let run = Run {
+        shape,
+        rank,
+        lines,
+        own: &own,
+        all: events,
+        events: front,
+        tables: &tables,
+    };
+    match first_breach(&run, at) {
+        Some(first) => {
+            let clause = broken_rule(&run, at, first);
+            Ok(Judged::Breaks { clause, first })
+        }
+        None => Ok(Judged::Runs(tables)),
     }
 }

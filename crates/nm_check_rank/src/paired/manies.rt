@@ -1,11 +1,10 @@
 //! How many events are called for since the answer before, and how many were found.
 
-ghost use Rattle.std.specs.Prelude.{◌≡◌, Bool, if◌then◌else◌, List};
+ghost use Rattle.std.specs.Prelude.{◌≡◌, ℕ, Bool, if◌then◌else◌, List, take};
 ghost use Rattle.nm_history.specs.declared.events.Event as event;
 ghost use Rattle.nm_history.specs.declared.events.Happened as occurrence;
-ghost use Rattle.nm_lookups.specs.SinceAnswer.{of_kind};
+ghost use Rattle.nm_lookups.specs.SinceAnswer.{IsSince, of_kind};
 ghost use Rattle.nm_check_rank.specs.Manies as spec;
-ghost use Rattle.nm_check_rank.specs.SoFar.{IsLeft};
 ghost use Rattle.nm_check_rank.specs.declared.paired.manies.Many.TheVariants.{Nothing, One};
 
 use crate::paired::dues::Due;
@@ -24,8 +23,8 @@ pub enum Many {
 
 /// How many there are since the last answer.
 pub(crate) fn many_of(since: Since) -> Many
-    ensures { (p : occurrence.Happened → Bool) (h : List event.Event) →
-        IsLeft p h since → result ≡ spec.many_of (of_kind p h) }
+    ensures { (p : occurrence.Happened → Bool) (h : List event.Event) (k : ℕ) →
+        IsSince p h k since → result ≡ spec.many_of (of_kind p (take k h)) }
 {
     match since {
         Since::Nothing => Many::Nothing,

@@ -2,7 +2,7 @@
 
 ghost use Rattle.std.specs.Prelude.{◌≡◌, ◌&&◌, ◌||◌, if◌then◌else◌, ℕ, List, Option, Some, None};
 ghost use Rattle.std.specs.Prelude.{option_map};
-ghost use Rattle.std.specs.Prelude.{is_some, option_and_then, take, true, unwrap_or};
+ghost use Rattle.std.specs.Prelude.{option_and_then, take, true, unwrap_or};
 ghost use Rattle.std.specs.Option.{option_map_or};
 ghost use Rattle.nm_types.specs.Commands.{Numbered};
 ghost use Rattle.nm_types.specs.declared.answers.Answer.TheVariants as answers;
@@ -176,16 +176,6 @@ pub(crate) fn cancel_answer(tables: &Tables, request: Option<Request>, k: usize)
     }
 }
 
-/// Whether there is a result.
-fn is_there(told: Option<Told>) -> bool
-    ensures { result ≡ is_some (option_map untold told) }
-{
-    match told {
-        Some(_) => true,
-        None => false,
-    }
-}
-
 /// Whether a wait for a name's live request is over before a place.
 pub(crate) fn is_over(tables: &Tables, request: Option<Request>, k: usize) -> bool
     ensures { (rank : ℕ) (lines : List script_line.Line) (h : List event.Event) →
@@ -194,7 +184,7 @@ pub(crate) fn is_over(tables: &Tables, request: Option<Request>, k: usize) -> bo
 {
     complete_has_result();
     match request {
-        Some(request) => is_there(request_result(tables, request, k)),
+        Some(request) => request_result(tables, request, k).is_some(),
         None => true,
     }
 }

@@ -1,6 +1,6 @@
 //! What there is of a rank's events so far, besides what is looked up.
 
-ghost use Rattle.std.specs.Prelude.{◌≡◌, ◌+◌, ◌<◌, ◌-◌, ◌^◌, ◌++◌, ◌∷◌, [], List, length};
+ghost use Rattle.std.specs.Prelude.{◌≡◌, ◌+◌, ◌<◌, ◌-◌, ◌^◌, List, Some, length, slice_get};
 ghost use Rattle.std.specs.Option.{option_map_or};
 ghost use Rattle.nm_history.specs.declared.events.Event as event;
 ghost use Rattle.nm_check_rank.specs.SoFar.{IsSoFar};
@@ -33,7 +33,7 @@ pub(crate) struct SoFar {
 impl SoFar {
     /// Before the first event.
     pub(crate) fn none() -> SoFar
-        ensures { IsSoFar [] result }
+        ensures { (h : List event.Event) → IsSoFar h 0 result }
     {
         SoFar {
             stamp: 0,
@@ -46,8 +46,8 @@ impl SoFar {
 
     /// After one event more, which is at this place.
     pub(crate) fn after(self, k: usize, e: &Event) -> SoFar
-        ensures { (h : List event.Event) → length h ≡ k → k < 2 ^ 64 - 1 → IsSoFar h self →
-            IsSoFar (h ++ e.now ∷ []) result }
+        ensures { (h : List event.Event) → slice_get h k ≡ Some e.now → k < 2 ^ 64 - 1 →
+            IsSoFar h k self → IsSoFar h (k + 1) result }
     {
         let line = line_ran(&e.what);
         let ran = ran_after(self.ran, line);
@@ -66,7 +66,7 @@ impl SoFar {
     /// Whether nothing is left in the end that a rule does not allow, where so many commands are
     /// said to have run.
     pub(crate) fn is_over(self, clause: OwnClause, at: u64) -> bool
-        ensures { (h : List event.Event) → IsSoFar h self →
+        ensures { (h : List event.Event) → IsSoFar h (length h) self →
             Decides result (KeepsInTheEnd at clause h) }
     {
         match clause {

@@ -1,31 +1,29 @@
 //! What is called for at the answer to a start, and at the receive of a claimed message.
 
-ghost use Rattle.std.specs.Prelude.{◌≡◌, ◌<◌, ℕ, true, false, List, [], ◌∷◌, Some, length};
-ghost use Rattle.std.specs.Prelude.{option_map, slice_get, take};
-ghost use Rattle.nm_types.specs.Commands.{Numbered, commands_of};
+ghost use Rattle.std.specs.Prelude.{◌≡◌, ℕ, true, false, if◌then◌else◌, List, [], ◌∷◌, Some, None};
+ghost use Rattle.std.specs.Prelude.{option_copied, slice_get, take};
+ghost use Rattle.nm_types.specs.Commands.{Numbered, command_at, commands_of};
 ghost use Rattle.nm_types.specs.declared.answers.Answer.{Answer};
 ghost use Rattle.nm_history.specs.declared.events.Event as event;
 ghost use Rattle.nm_history.specs.declared.events.Happened as occurrence;
 ghost use Rattle.nm_history.specs.declared.events.Happened.TheVariants as happening;
 ghost use Rattle.nm_history.specs.RankRun.{is_start, lacks_message, start_of, starts_since};
-ghost use Rattle.nm_lookups.specs.AskedFor.{asked_message, message_meant};
+ghost use Rattle.nm_lookups.specs.SinceAnswer.{IsSince};
 ghost use Rattle.nm_match.specs.declared.names.Message as message_lem;
 ghost use Rattle.nm_check_rank.specs.Arguments.{IsFirstMismatch, arguments};
 ghost use Rattle.nm_check_rank.specs.Handles.{IsOfHandle};
-ghost use Rattle.nm_check_rank.specs.Manies.{many_due as many_due_lem, many_of as many_of_lem};
-ghost use Rattle.nm_check_rank.specs.SoFar.{IsLeft};
+ghost use Rattle.nm_check_rank.specs.Manies.{many_of as many_of_lem};
+ghost use Rattle.nm_check_rank.specs.Runs.{IsRun, commands_in};
 ghost use Rattle.nm_check_rank.specs.Startings as spec;
 ghost use Rattle.nm_check_rank.specs.Startings.{IsAnswerDue, IsStartDue, IsStartsDue, IsTakenDue};
-ghost use Rattle.nm_check_rank.specs.Tabled.{AreRankTables};
-ghost use Rattle.nm_check_rank.specs.declared.paired.manies.Many.TheVariants as number;
 
 use crate::paired::arguments::{Mismatch, match_mismatch, post_mismatch, send_mismatch};
 use crate::paired::dues::{Due, against};
 use crate::paired::limits::one_due;
 use crate::paired::manies::{Many, many_due, many_of};
 use crate::paired::objections::{Objection, match_objection};
+use crate::paired::runs::Run;
 use crate::paired::starts::length_of;
-use crate::paired::tables::Tables;
 use nm_history::{Event, Happened};
 use nm_lookups::asked::commands::command_of_line;
 use nm_lookups::asked::requests::is_started;
@@ -136,119 +134,73 @@ fn found_due(
     }
 }
 
-/// .. which is the event at a place.
-fn there_due(
-    before: &[Event],
-    place: usize,
-    command: &Command,
-    message: Option<Message>,
-    line: u64,
-    limit: u16,
-) -> Option<Due>
-    ensures { (commands : List Numbered) (e : event.Event) → slice_get before.now place ≡ Some e →
-        IsOfHandle commands before.now command.now message →
-        lacks_message commands before.now command.now ≡ false → is_start e.what ≡ true →
-        IsStartsDue limit command.now (start_of limit commands before.now line command.now)
-        (e.what ∷ []) result }
-{
-    if place >= before.len() {
-        return None;
-    }
-    found_due(&before[place].what, command, message, line, limit)
-}
-
 /// What is called for where the command of a line was taken.
 fn taken_due(
-    before: &[Event],
+    run: &Run,
     since: Since,
+    k: usize,
     command: &Command,
     message: Option<Message>,
     line: u64,
-    limit: u16,
 ) -> Option<Due>
-    requires { IsLeft is_start before.now since }
-    ensures { (commands : List Numbered) → IsOfHandle commands before.now command.now message →
-        IsTakenDue limit commands before.now line command.now (starts_since before.now) result }
+    requires { IsSince is_start run.now.events.now k since }
+    ensures { (commands : List Numbered) →
+        IsOfHandle commands (take k run.now.events.now) command.now message →
+        IsTakenDue run.now.shape.eager commands (take k run.now.events.now) line command.now
+        (starts_since (take k run.now.events.now)) result }
 {
     if lacks(command, message) {
         return Some(Due::Against {
             objection: Objection::NoMessage,
         });
     }
+    let events = run.events;
     match since {
-        Since::One(place) => there_due(before, place, command, message, line, limit),
+        Since::One(place) => {
+            let what = &events[place].what;
+            found_due(what, command, message, line, run.shape.eager())
+        }
         _ => many_due(starts_called(command), many_of(since)),
     }
 }
 
-/// Where no start is called for.
-fn none_due(since: Since) -> Option<Due>
-    ensures { (before : List event.Event) → IsLeft is_start before since →
-        result ≡ many_due_lem number.Nothing (many_of_lem (starts_since before)) }
+/// The command of a line, if it was taken.
+fn started_command(lines: &[Line], rank: u8, line: u64, started: bool) -> Option<&Command>
+    ensures { option_copied result
+        ≡ (if started then command_at (commands_of rank lines.now) line else None) }
 {
-    many_due(Many::Nothing, many_of(since))
+    if started {
+        command_of_line(lines, rank, line)
+    } else {
+        None
+    }
 }
 
 /// What is called for at the answer to the command of a line.
-fn answer_due(
-    rank: u8,
-    lines: &[Line],
-    before: &[Event],
-    since: Since,
-    message: Option<Message>,
-    line: u64,
-    started: bool,
-    limit: u16,
-) -> Option<Due>
-    requires { IsLeft is_start before.now since }
-    ensures { (answer : Answer) → option_map message_meant message
-        ≡ asked_message (commands_of rank lines.now) before.now (happening.Ran line answer) →
-        IsAnswerDue limit (commands_of rank lines.now) before.now line started result }
+fn answer_due(run: &Run, since: Since, k: usize, line: u64, started: bool) -> Option<Due>
+    requires run { IsRun run.now }
+    requires left { IsSince is_start run.now.events.now k since }
+    ensures { (e : event.Event) (answer : Answer) → slice_get run.now.events.now k ≡ Some e →
+        e.what ≡ happening.Ran line answer →
+        IsAnswerDue run.now.shape.eager (commands_in run.now) (take k run.now.events.now) line
+        started result }
 {
-    match command_of_line(lines, rank, line) {
-        Some(command) => {
-            if started {
-                taken_due(before, since, command, message, line, limit)
-            } else {
-                none_due(since)
-            }
-        }
-        None => none_due(since),
+    match started_command(run.lines, run.rank, line, started) {
+        Some(command) => taken_due(run, since, k, command, run.tables.asked.message(k), line),
+        None => many_due(Many::Nothing, many_of(since)),
     }
 }
 
 /// What is called for at a place by the rule on starts.
-pub(crate) fn start_due(
-    rank: u8,
-    lines: &[Line],
-    events: &[Event],
-    tables: &Tables,
-    since: Since,
-    limit: u16,
-    k: usize,
-) -> Option<Due>
-    requires left { IsLeft is_start (take k events.now) since }
-    requires told { AreRankTables rank lines.now events.now tables.now }
-    requires inside { k < length events.now }
-    ensures { (e : event.Event) → slice_get events.now k ≡ Some e →
-        IsStartDue limit (commands_of rank lines.now) (take k events.now) e.what result }
+pub(crate) fn start_due(run: &Run, since: Since, k: usize, e: &Event) -> Option<Due>
+    requires run { IsRun run.now }
+    requires left { IsSince is_start run.now.events.now k since }
+    requires here { slice_get run.now.events.now k ≡ Some e.now }
+    ensures { IsStartDue run.now.shape.eager (commands_in run.now) (take k run.now.events.now)
+        e.now.what result }
 {
-    let what = &events[k].what;
-    match what {
-        Happened::Ran { line, answer } => {
-            let before = &events[..k];
-            let started = is_started(answer);
-            answer_due(
-                rank,
-                lines,
-                before,
-                since,
-                tables.asked.message(k),
-                *line,
-                started,
-                limit,
-            )
-        }
-        _ => against(match_objection(tables, k, what)),
+    match &e.what {
+        Happened::Ran { line, answer } => answer_due(run, since, k, *line, is_started(answer)),
+        _ => against(match_objection(run.tables, k, &e.what)),
     }
 }

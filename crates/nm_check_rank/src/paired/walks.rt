@@ -1,6 +1,6 @@
 //! Walks over the events of a rank.
 
-ghost use Rattle.std.specs.Prelude.{MatchOption};
+ghost use Rattle.std.specs.Prelude.{MatchOption, length};
 ghost use Rattle.nm_check_rank.specs.OwnBreaks.{KeepsSoFar};
 ghost use Rattle.nm_check_rank.specs.Runs.{IsRun, commands_in};
 ghost use Rattle.nm_check_rank.specs.SoFar.{IsSoFar};
@@ -28,7 +28,7 @@ pub(crate) fn walk(run: &Run) -> Walked
     let events = run.events;
     let mut so_far = SoFar::none();
     for (k, e) in events.iter().enumerate() {
-        if let Some(standing) = first_against(run, so_far, k) {
+        if let Some(standing) = first_against(run, so_far, k, e) {
             return Walked::Breaks { at: k, standing };
         }
         so_far = so_far.after(k, e);
@@ -43,12 +43,12 @@ pub(crate) fn walk_by(run: &Run, clause: OwnClause) -> Option<SoFar>
     ensures { MatchOption result
         (¬ KeepsSoFar run.now.shape (commands_in run.now) clause run.now.events.now)
         (λ s. KeepsSoFar run.now.shape (commands_in run.now) clause run.now.events.now
-        × IsSoFar run.now.events.now s) }
+        × IsSoFar run.now.events.now (length run.now.events.now) s) }
 {
     let events = run.events;
     let mut so_far = SoFar::none();
     for (k, e) in events.iter().enumerate() {
-        if stands_against(run, so_far, clause, k).is_some() {
+        if let Some(_due) = stands_against(run, so_far, clause, k, e) {
             return None;
         }
         so_far = so_far.after(k, e);

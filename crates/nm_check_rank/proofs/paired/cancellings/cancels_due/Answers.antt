@@ -5,10 +5,8 @@ use Rattle.nm_check_rank.specs.declared.paired.manies.Many.{Many}
 use Rattle.nm_check_rank.specs.declared.paired.manies.Many.TheVariants.{Nothing}
 use Rattle.nm_check_rank.proofs.paired.cancellings.cancels_due.Goals as goal
 
-pub returns-in-Some : goal.returns-in-Some
-returns-in-Some c = λ rank lines h told is. rw c.in-Some.is (c.live_due.ensures rank lines h told is)
-
 pub returns-in-None : goal.returns-in-None
-returns-in-None c = λ rank lines h told is. rw c.in-None.is
-    (c.many_due.ensures
-    ∙ ap (λ (m : Many). many_due Nothing m) (c.many_of.ensures is_cancelling c.args.before.now c.requires))
+returns-in-None c =
+    rw c.in-None.is
+    (c.many_due.ensures ∙ ap (λ (m : Many). many_due Nothing m)
+    (c.many_of.ensures is_cancelling c.args.run.now.events.now c.args.k c.requires.left))

@@ -1,10 +1,21 @@
+use Rattle.std.proofs.Common.{length}
 use Rattle.nm_check_rank.specs.Runs.{commands_in}
+use Rattle.nm_check_rank.proofs.FrontLemmas.{front_breach}
 use Rattle.nm_check_rank.proofs.paired.judging.first_breach.Goals as goal
 
 pub returns-in-Breaks : goal.returns-in-Breaks
-returns-in-Breaks c = c.in-Breaks.ensures
+returns-in-Breaks c =
+    let run = c.args.run.now in
+    let breaks = rw c.requires.front at c.in-Breaks.ensures in
+    front_breach run.shape (commands_in run) c.args.at run.all.now (length run.events.now) c.in-Breaks.k
+    c.in-Breaks.standing.clause c.in-Breaks.standing.due c.requires.inside breaks.0 breaks.1
+
+pub breach_behind-requires : goal.breach_behind-requires
+breach_behind-requires c = record {
+  run = c.requires;
+  kept = c.in-Ends.ensures.0;
+  so_far = c.in-Ends.ensures.1;
+}
 
 pub returns-in-Ends : goal.returns-in-Ends
-returns-in-Ends c =
-    let run = c.args.run.now in
-    c.left_in_the_end.ensures run.shape (commands_in run) run.events.now c.in-Ends.ensures.1 c.in-Ends.ensures.0
+returns-in-Ends c = c.breach_behind.ensures

@@ -1,4 +1,4 @@
-use Rattle.std.proofs.Common.{◌≡◌, List, take}
+use Rattle.std.proofs.Common.{◌≡◌, List, length, take}
 use Rattle.std.specs.Prelude.{All}
 use Rattle.nm_history.specs.declared.events.Event.{Event}
 use Rattle.nm_check_rank.specs.OwnBreaks.{KeepsInTheEnd}
@@ -10,5 +10,5 @@ use Rattle.nm_check_rank.proofs.paired.judging.first_left.Given as goal
 abbrev pub invariant-loop-clause : goal.invariant-loop-clause
 invariant-loop-clause l =
     (l.clause-items ≡ own_order)
-    × ((h : List Event) → IsSoFar h l.so_far →
+    × ((h : List Event) → IsSoFar h (length h) l.so_far →
     All (λ d. KeepsInTheEnd l.at d h) (take l.clause-index l.clause-items))

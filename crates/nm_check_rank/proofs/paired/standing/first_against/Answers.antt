@@ -1,5 +1,4 @@
-use Rattle.std.proofs.Common.{◌≡◌, ℕ, Some, List, take, get_or, subst}
-use Rattle.std.specs.Prelude.{slice_get}
+use Rattle.std.proofs.Common.{ℕ, List, take, get_or, subst}
 use Rattle.std.proofs.lemmas.List.Elements.{All-nil}
 use Rattle.nm_history.specs.declared.events.Event.{Event}
 use Rattle.nm_check_rank.specs.FirstBroken.{IsFirstBroken}
@@ -9,16 +8,16 @@ use Rattle.nm_check_rank.specs.Runs.{commands_in}
 use Rattle.nm_check_rank.specs.declared.clauses.OwnClause.{OwnClause}
 use Rattle.nm_check_rank.specs.declared.clauses.OwnClause.TheVariants as own
 use Rattle.nm_check_rank.specs.declared.paired.runs.Run.{Run}
-use Rattle.nm_check_rank.proofs.OwnLemmas.{all_along, broken_next, each_rule, kept_all, kept_next}
+use Rattle.nm_check_rank.proofs.OwnLemmas.{broken_next, each_rule, kept_all, kept_next}
 use Rattle.nm_check_rank.proofs.paired.standing.first_against.Goals as goal
 
 -- the event at a place keeps a rule
-abbrev Keeps : Run → ℕ → OwnClause → Type 0
-Keeps run k d = (e : Event) → slice_get run.events.now k ≡ Some e →
-    RuleAt run.shape (commands_in run) d (take k run.events.now) e
+abbrev Keeps : Run → ℕ → Event → OwnClause → Type 0
+Keeps run k e d = RuleAt run.shape (commands_in run) d (take k run.events.now) e
 
 pub loop-clause-init : goal.loop-clause-init
-loop-clause-init c = (c.order-clause-items.ensures, All-nil (λ d. Keeps c.args.run.now c.args.k d))
+loop-clause-init c =
+    (c.order-clause-items.ensures, All-nil (λ d. Keeps c.args.run.now c.args.k c.args.e.now d))
 
 pub stands_against-requires-clause-kept : goal.stands_against-requires-clause-kept
 stands_against-requires-clause-kept c =
@@ -27,29 +26,23 @@ stands_against-requires-clause-kept c =
 pub loop-clause-preserved : goal.loop-clause-preserved
 loop-clause-preserved c = (
   c.loop-clause.invariant.0,
-  kept_next (λ d. Keeps c.args.run.now c.args.k d) c.order-clause-items.result.now c.loop-clause.clause-index
-      own.Answers c.loop-clause-test.true c.loop-clause.invariant.1 c.in_default.ensures,
+  kept_next (λ d. Keeps c.args.run.now c.args.k c.args.e.now d) c.order-clause-items.result.now
+      c.loop-clause.clause-index own.Answers c.loop-clause-test.true c.loop-clause.invariant.1 c.in_default.ensures,
 )
 
 pub returns-in-Some : goal.returns-in-Some
-returns-in-Some c = λ e here.
-    let run = c.args.run.now in
-    let before = take c.args.k run.events.now in
+returns-in-Some c =
     let items = c.order-clause-items.result.now in
-    let i = c.loop-clause.clause-index in
-    let against = c.in-Some.ensures e here in (
-      subst (λ (ds : List OwnClause). IsFirstBroken (λ d. RuleAt run.shape (commands_in run) d before e) ds
+    let i = c.loop-clause.clause-index in (
+      subst (λ (ds : List OwnClause). IsFirstBroken (λ d. Keeps c.args.run.now c.args.k c.args.e.now d) ds
           (get_or items i own.Answers)) c.loop-clause.invariant.0
-          (broken_next (λ d. RuleAt run.shape (commands_in run) d before e) items i own.Answers
-          c.loop-clause-test.true
-          (all_along (λ d. Keeps run c.args.k d) (λ d. RuleAt run.shape (commands_in run) d before e) (take i items)
-          (λ d keeps. keeps e here) c.loop-clause.invariant.1) against.0),
-      against.1,
+          (broken_next (λ d. Keeps c.args.run.now c.args.k c.args.e.now d) items i own.Answers c.loop-clause-test.true
+          c.loop-clause.invariant.1 c.in-Some.ensures.0),
+      c.in-Some.ensures.1,
     )
 
 pub returns : goal.returns
-returns c = λ e here d.
-    each_rule (λ d. Keeps c.args.run.now c.args.k d)
-    (kept_all (λ d. Keeps c.args.run.now c.args.k d) c.order-clause-items.result.now own_order
-    c.loop-clause.clause-index
-    c.loop-clause.invariant.0 c.loop-clause-test.false c.loop-clause.invariant.1) d e here
+returns c = λ d.
+    each_rule (λ d. Keeps c.args.run.now c.args.k c.args.e.now d)
+    (kept_all (λ d. Keeps c.args.run.now c.args.k c.args.e.now d) c.order-clause-items.result.now own_order
+    c.loop-clause.clause-index c.loop-clause.invariant.0 c.loop-clause-test.false c.loop-clause.invariant.1) d

@@ -1,6 +1,5 @@
-use Rattle.std.proofs.Common.{◌≡◌, Some, take}
-use Rattle.std.specs.Prelude.{All, slice_get}
-use Rattle.nm_history.specs.declared.events.Event.{Event}
+use Rattle.std.proofs.Common.{◌≡◌, take}
+use Rattle.std.specs.Prelude.{All}
 use Rattle.nm_check_rank.specs.OwnBreaks.{RuleAt}
 use Rattle.nm_check_rank.specs.OwnClauses.{own_order}
 use Rattle.nm_check_rank.specs.Runs.{commands_in}
@@ -10,5 +9,5 @@ use Rattle.nm_check_rank.proofs.paired.standing.first_against.Given as goal
 abbrev pub invariant-loop-clause : goal.invariant-loop-clause
 invariant-loop-clause l =
     (l.clause-items ≡ own_order)
-    × All (λ d. (e : Event) → slice_get l.run.events.now l.k ≡ Some e →
-    RuleAt l.run.shape (commands_in l.run) d (take l.k l.run.events.now) e) (take l.clause-index l.clause-items)
+    × All (λ d. RuleAt l.run.shape (commands_in l.run) d (take l.k l.run.events.now) l.e)
+    (take l.clause-index l.clause-items)

@@ -1,24 +1,34 @@
-use Rattle.nm_types.specs.Commands.{commands_of}
+use Rattle.std.proofs.Common.{None, Some, ◌∙◌, ap, take}
+use Rattle.nm_types.specs.Commands.{command_at}
+use Rattle.nm_history.specs.declared.events.Happened.{Happened}
+use Rattle.nm_history.specs.RankRun.{is_start}
+use Rattle.nm_lookups.specs.AskedFor.{asked_message}
+use Rattle.nm_check_rank.specs.Manies.{many_due}
+use Rattle.nm_check_rank.specs.Runs.{commands_in}
+use Rattle.nm_check_rank.specs.declared.paired.manies.Many.{Many}
+use Rattle.nm_check_rank.specs.declared.paired.manies.Many.TheVariants.{Nothing}
 use Rattle.nm_check_rank.proofs.StartLemmas.{of_handle}
-use Rattle.nm_check_rank.proofs.StartingLemmas.{nothing_is_due, refused_is_due, taken_is_due}
+use Rattle.nm_check_rank.proofs.StartingLemmas.{answer_is_due, started_is}
 use Rattle.nm_check_rank.proofs.paired.startings.answer_due.Goals as goal
 
-pub returns-then-started : goal.returns-then-started
-returns-then-started c = λ answer asked.
-    let commands = commands_of c.args.rank c.args.lines.now in
-    let h = c.args.before.now in
-    taken_is_due c.args.limit commands h c.args.line c.args.started c.taken_due.result c.in-Some.command.now
-    c.in-Some.ensures c.if-started.true
+pub returns-in-Some : goal.returns-in-Some
+returns-in-Some c = λ e answer here ran.
+    let run = c.args.run.now in
+    let commands = commands_in run in
+    let before = take c.args.k run.events.now in
+    let command = c.in-Some.command.now in
+    answer_is_due run.shape.eager commands before c.args.line c.args.started c.taken_due.result (Some command)
+    c.in-Some.ensures
     (c.taken_due.ensures commands
-    (of_handle commands h c.args.line answer c.in-Some.command.now c.args.message c.in-Some.ensures asked))
-
-pub returns-else-started : goal.returns-else-started
-returns-else-started c = λ answer asked.
-    refused_is_due c.args.limit (commands_of c.args.rank c.args.lines.now) c.args.before.now c.args.line c.args.started
-    c.none_due.result c.in-Some.command.now c.in-Some.ensures c.if-started.false
-    (c.none_due.ensures c.args.before.now c.requires)
+    (of_handle commands before c.args.line answer command c.message.result
+    (started_is c.args.started (command_at commands c.args.line) command c.in-Some.ensures)
+    (c.message.ensures commands run.events.now e c.requires.run.tables.asked here
+    ∙ ap (λ (w : Happened). asked_message commands before w) ran)))
 
 pub returns-in-None : goal.returns-in-None
-returns-in-None c = λ answer asked.
-    nothing_is_due c.args.limit (commands_of c.args.rank c.args.lines.now) c.args.before.now c.args.line c.args.started
-    c.none_due-in-None.result c.in-None.ensures (c.none_due-in-None.ensures c.args.before.now c.requires)
+returns-in-None c = λ e answer here ran.
+    let run = c.args.run.now in
+    let h = run.events.now in
+    answer_is_due run.shape.eager (commands_in run) (take c.args.k h) c.args.line c.args.started c.many_due.result None
+    c.in-None.ensures
+    (c.many_due.ensures ∙ ap (λ (m : Many). many_due Nothing m) (c.many_of.ensures is_start h c.args.k c.requires.left))

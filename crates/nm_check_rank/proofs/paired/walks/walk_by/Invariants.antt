@@ -1,4 +1,4 @@
-use Rattle.std.proofs.Common.{take}
+use Rattle.std.proofs.Common.{◌≤◌, length, take}
 use Rattle.nm_check_rank.specs.OwnBreaks.{KeepsSoFar}
 use Rattle.nm_check_rank.specs.Runs.{commands_in}
 use Rattle.nm_check_rank.specs.SoFar.{IsSoFar}
@@ -7,5 +7,5 @@ use Rattle.nm_check_rank.proofs.paired.walks.walk_by.Given as goal
 -- what there is of the events so far, which keep the rule
 abbrev pub invariant-loop-k : goal.invariant-loop-k
 invariant-loop-k l =
-    IsSoFar (take l.k l.run.events.now) l.so_far
+    (l.k ≤ length l.run.events.now) × IsSoFar l.run.events.now l.k l.so_far
     × KeepsSoFar l.run.shape (commands_in l.run) l.clause (take l.k l.run.events.now)

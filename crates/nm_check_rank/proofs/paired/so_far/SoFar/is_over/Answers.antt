@@ -1,5 +1,7 @@
-use Rattle.std.proofs.Common.{◌≡◌, ℕ, length, subst}
-use Rattle.nm_history.specs.RankRun.{is_cancelling, is_start}
+use Rattle.std.proofs.Common.{◌≡◌, ℕ, List, length, arith, subst}
+use Rattle.std.proofs.lemmas.List.{take_all}
+use Rattle.nm_history.specs.declared.events.Event.{Event}
+use Rattle.nm_history.specs.RankRun.{is_cancelling, is_start, ran_lines}
 use Rattle.nm_lookups.specs.Deciding.{Decides}
 use Rattle.nm_check_rank.specs.Kinds.{is_claiming}
 use Rattle.nm_check_rank.proofs.ClaimLemmas.{no_claiming, no_claims}
@@ -9,7 +11,9 @@ use Rattle.nm_check_rank.proofs.paired.so_far.SoFar.is_over.Goals as goal
 
 pub returns-in-Answers : goal.returns-in-Answers
 returns-in-Answers c = λ h so_far. rw c.in-Answers.is
-    (subst (λ (n : ℕ). Decides c.is_same.result (c.args.at ≡ n)) so_far.ran c.is_same.ensures)
+    (subst (λ (g : List Event). Decides c.is_same.result (c.args.at ≡ length (ran_lines g)))
+    (take_all (length h) h (omega arith))
+    (subst (λ (n : ℕ). Decides c.is_same.result (c.args.at ≡ n)) so_far.ran c.is_same.ensures))
 
 pub returns-in-Starts : goal.returns-in-Starts
 returns-in-Starts c = λ h so_far. rw c.in-Starts.is
