@@ -129,7 +129,8 @@ module _ (before : List Event) (from n line : ℕ) where
   found_tells (Some a) =
       tells_by
       (cond (a.env.from == from && a.n == n) None (Some (due.Claim (Some (id_of_arrival a)) found)))
-      (tells_test ((a.env.from ≡ from) × (a.n ≡ n)) (a.env.from == from && a.n == n) (due.Claim (Some (id_of_arrival a)) found)
+      (tells_test ((a.env.from ≡ from) × (a.n ≡ n)) (a.env.from == from && a.n == n)
+      (due.Claim (Some (id_of_arrival a)) found)
       (decides_both (a.env.from ≡ from) (a.n ≡ n) (a.env.from == from) (a.n == n) (decides_nat a.env.from from)
       (decides_nat a.n n)))
       (λ both i. what.Claim (both.0 i) (both.1 i) line ∷ []) (λ is. parts is)
@@ -503,8 +504,8 @@ module _ (limit : ℕ) (commands : List Numbered) (before : List Event) (line : 
           (λ same. (same, refl)) (λ all. all.0)
 
 -- the receive of a claimed message
-claimed_tells : (taken claimed : Bool) →
-    Tells (cond taken (Some against.Taken) (cond claimed None (Some against.NotClaimed))) (IsTrue (claimed && not taken))
+claimed_tells : (taken claimed : Bool) → Tells
+    (cond taken (Some against.Taken) (cond claimed None (Some against.NotClaimed))) (IsTrue (claimed && not taken))
 claimed_tells false true = refl
 claimed_tells false false = λ is. false≢true is
 claimed_tells true true = λ is. false≢true is

@@ -5,7 +5,6 @@ use Rattle.std.proofs.Common.{refl, sym, ◌∙◌, ap}
 use Rattle.std.specs.Prelude.{IsTrue, filter_map, is_some, option_and_then, position}
 use Rattle.std.specs.List.{cons_option, find, slice_get}
 use Rattle.std.specs.Option.{option_map_or}
-use Rattle.std.proofs.lemmas.Bool.{false≢true}
 use Rattle.nm_types.specs.declared.messages.Arrival.{Arrival}
 use Rattle.nm_history.specs.declared.events.Event.{Event}
 use Rattle.nm_history.specs.declared.events.Happened.{Happened}
@@ -13,7 +12,7 @@ use Rattle.nm_history.specs.declared.events.Happened.TheVariants as happening
 use Rattle.nm_history.specs.Happens.{is_arrival}
 use Rattle.nm_history.specs.Sends.{arrival_of, message_of}
 use Rattle.nm_lookups.proofs.GivenLemmas.{given_before, given_later, given_never}
-use Rattle.nm_lookups.proofs.RequestLemmas.{an_event}
+use Rattle.nm_lookups.proofs.RequestLemmas.{an_event, made_at}
 
 module _ {X Y : Type 0} (f : X → Option Y) (q : Y → Bool) where
   -- what an element gives, if it passes
@@ -47,11 +46,7 @@ module _ {X Y : Type 0} (f : X → Option Y) (q : Y → Bool) where
   passed_is : (o : Option Y) → IsTrue (is_some (option_and_then (λ y. cond (q y) (Some y) None) o)) →
       o ≡ option_and_then (λ y. cond (q y) (Some y) None) o
   passed_is None some = refl
-  passed_is (Some y) some = by_test (q y) some
-    where
-      by_test : (b : Bool) → IsTrue (is_some (cond b (Some y) None)) → Some y ≡ cond b (Some y) None
-      by_test true some = refl
-      by_test false some = absurd (false≢true some)
+  passed_is (Some y) some = made_at (q y) y some
 
 module _ (h : List Event) (k from n : ℕ) where
   abbrev Names : Arrival → Bool

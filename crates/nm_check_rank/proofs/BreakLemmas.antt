@@ -1,15 +1,11 @@
 -- The first event at which a rule of each event breaks.
-use Rattle.std.proofs.Common.{◌≡◌, ℕ, ◌+◌, ◌<◌, Option, Some, None, List, [], length, take, drop, get_or}
-use Rattle.std.proofs.Common.{Bool, true, false, sym, subst}
+use Rattle.std.proofs.Common.{◌≡◌, ℕ, ◌+◌, ◌<◌, List, [], length, take, drop, get_or, sym, subst}
 use Rattle.std.proofs.lemmas.List.{take-append-drop}
-use Rattle.std.proofs.lemmas.Bool.{false≢true}
-use Rattle.std.specs.Prelude.{is_some, not, MatchOption}
 use Rattle.nm_history.specs.declared.events.Event.{Event}
 use Rattle.nm_history.specs.AtEach.{AtEach}
 use Rattle.nm_history.proofs.AtEachLemmas.{AtEach-split}
 use Rattle.nm_history.proofs.EachLemmas.{AtEach-prefix}
 use Rattle.nm_types.proofs.ListLemmas.{take_next}
-use Rattle.nm_lookups.specs.Deciding.{Decides}
 use Rattle.nm_check_rank.specs.Breaks.{BreaksFirstAt}
 
 module _ (R : List Event → Event → Type 0) (h : List Event) where
@@ -28,11 +24,3 @@ module _ (R : List Event → Event → Type 0) (h : List Event) where
   not_kept k first each = first.broken
       (AtEach-prefix R (take (k + 1) h) (drop (k + 1) h)
       (subst (λ (g : List Event). AtEach R g) (sym (take-append-drop (k + 1) h)) each))
-
-  -- whether there is none tells whether all keep the rule
-  pub decided : (found : Option ℕ) (none : Bool) → is_some found ≡ not none →
-      MatchOption found (AtEach R h) (BreaksFirstAt (AtEach R) h) → Decides none (AtEach R h)
-  decided None true is kept = kept
-  decided None false is kept = absurd (false≢true is)
-  decided (Some k) true is first = absurd (false≢true (sym is))
-  decided (Some k) false is first = not_kept k first

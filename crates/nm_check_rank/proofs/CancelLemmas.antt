@@ -1,10 +1,10 @@
 -- The rule on cancels, by the cancels since the last answer.
-use Rattle.std.proofs.Common.{◌≡◌, ℕ, ◌+◌, ◌≤◌, ◌||◌, Bool, true, false, cond, Some}
+use Rattle.std.proofs.Common.{◌≡◌, inl, inr, ℕ, ◌+◌, ◌≤◌, ◌||◌, Bool, true, false, cond, Some}
 use Rattle.std.proofs.Common.{List, [], ◌∷◌, ◌++◌}
 use Rattle.std.proofs.Common.{length, refl, sym, ◌∙◌, ap, subst, arith, length-append, append-nil}
 use Rattle.std.specs.Prelude.{All}
 use Rattle.std.specs.List.{filter, list_any}
-use Rattle.std.proofs.lemmas.Bool.{false≢true}
+use Rattle.std.proofs.lemmas.Bool.{false≢true, or_cases, or_left, or_right}
 use Rattle.std.proofs.lemmas.List.Elements.{All-head, All-pop, All-same, filter-append}
 use Rattle.nm_types.specs.Commands.{Numbered}
 use Rattle.nm_history.specs.declared.events.Event.{Event}
@@ -36,14 +36,6 @@ module _ (commands : List Numbered) (to n : ℕ) where
       let first : is_recall to n x ≡ true = ap (λ (y : Happened). is_recall to n y) is ∙ is_that_recall in
       absurd (false≢true (sym none ∙ among (ap (λ (b : Bool). b || list_any (is_recall to n) xs) first)))
 
-  or_more : (a b c : Bool) → (b ≡ true → c ≡ true) → (a || b) ≡ true → (a || c) ≡ true
-  or_more true b c more either = refl
-  or_more false b c more either = more either
-
-  or_last : (a b : Bool) → b ≡ true → (a || b) ≡ true
-  or_last true b last = refl
-  or_last false b last = last
-
   pub some_of_kind : (q p : Happened → Bool) (xs : List Happened) → list_any q (filter p xs) ≡ true →
       list_any q xs ≡ true
   some_of_kind q p [] some = some
@@ -51,8 +43,12 @@ module _ (commands : List Numbered) (to n : ℕ) where
     where
       by_kind : (b : Bool) → list_any q (cond b (x ∷ filter p xs) (filter p xs)) ≡ true →
           (list_any q (filter p xs) ≡ true → list_any q xs ≡ true) → (q x || list_any q xs) ≡ true
-      by_kind true some more = or_more (q x) (list_any q (filter p xs)) (list_any q xs) more some
-      by_kind false some more = or_last (q x) (list_any q xs) (more some)
+      by_kind true some more =
+          elim (or_cases (q x) (list_any q (filter p xs)) some) [
+            | inl first ↦ or_left (q x) (list_any q xs) first
+            | inr later ↦ or_right (q x) (list_any q xs) (more later)
+          ]
+      by_kind false some more = or_right (q x) (list_any q xs) (more some)
 
   abbrev FewRecalls : List Event → Type 0
   FewRecalls h =

@@ -1,9 +1,8 @@
 -- What is called for at the answer to a cancel, by the cancels since the answer before.
-use Rattle.std.proofs.Common.{◌≡◌, ℕ, ◌≤◌, Bool, true, false, cond, Option, Some, None, List, [], ◌∷◌, length}
-use Rattle.std.proofs.Common.{refl, sym, arith}
+use Rattle.std.proofs.Common.{◌≡◌, ℕ, ◌≤◌, Bool, false, cond, Option, Some, None, List, [], ◌∷◌, length}
+use Rattle.std.proofs.Common.{refl, ap, arith}
 use Rattle.std.specs.Prelude.{option_and_then, option_map}
 use Rattle.std.specs.Option.{option_map_or}
-use Rattle.std.proofs.lemmas.Bool.{false≢true}
 use Rattle.nm_types.specs.declared.answers.Answer.{Answer}
 use Rattle.nm_types.specs.declared.scripts.Command.{Command}
 use Rattle.nm_types.specs.Commands.{Numbered}
@@ -38,26 +37,13 @@ module _ (commands : List Numbered) (before : List Event) where
   abbrev Cancelled : Command → Option Meant
   Cancelled c = cond (is_canceller c) (option_and_then (live commands before) (name_of c)) None
 
-  -- the request that a cancel asks for
-  pub cancelled_by : (o : Option Command) → true ≡ option_map_or is_canceller o false →
-      option_and_then (live commands before) (option_and_then name_of o) ≡ option_and_then Cancelled o
-  cancelled_by None is = absurd (false≢true (sym is))
-  cancelled_by (Some c) is = by_test (is_canceller c) is
-    where
-      by_test : (b : Bool) → true ≡ b → option_and_then (live commands before) (name_of c)
-          ≡ cond b (option_and_then (live commands before) (name_of c)) None
-      by_test true is = refl
-      by_test false is = absurd (false≢true (sym is))
-
-  -- .. and no other command
-  pub none_cancelled : (o : Option Command) → false ≡ option_map_or is_canceller o false →
-      None ≡ option_and_then Cancelled o
-  none_cancelled None is = refl
-  none_cancelled (Some c) is = by_test (is_canceller c) is
-    where
-      by_test : (b : Bool) → false ≡ b → None ≡ cond b (option_and_then (live commands before) (name_of c)) None
-      by_test true is = absurd (false≢true is)
-      by_test false is = refl
+  -- the request that a cancel asks for, and no other command
+  pub cancelled_by : (o : Option Command) (b : Bool) → b ≡ option_map_or is_canceller o false →
+      cond b (option_and_then (live commands before) (option_and_then name_of o)) None ≡ option_and_then Cancelled o
+  cancelled_by None b is =
+      ap (λ (x : Bool). cond x (option_and_then (live commands before) (option_and_then name_of None)) None) is
+  cancelled_by (Some c) b is =
+      ap (λ (x : Bool). cond x (option_and_then (live commands before) (name_of c)) None) is
 
   -- at another event than an answer
   pub other_cancel : (w : Happened) → ((line : ℕ) (answer : Answer) → w ≡ Ran line answer → ⊥) →

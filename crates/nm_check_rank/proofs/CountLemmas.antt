@@ -110,28 +110,18 @@ no_receive (happened.Match number from n cap line) not other = absurd (other num
 no_receive what not other = refl
 
 -- an event that is a receive, and so no send and no arrival
-pub record IsReceive (what : Happened) : Type 0 where
-  pub number : ℕ
-  pub numbered : receive_of what ≡ Some number
-  pub no_send : (stamp : ℕ) → sent_of stamp what ≡ None
-  pub no_arrival : (stamp : ℕ) → arrived_of stamp what ≡ None
+abbrev pub IsReceive : Happened → Type 0
+IsReceive w =
+    ((stamp : ℕ) → sent_of stamp w ≡ None) × ((stamp : ℕ) → arrived_of stamp w ≡ None)
+    × (number : ℕ) × (receive_of w ≡ Some number)
 
-pub a_post : (what : Happened) (p : Post) (line : ℕ) → what ≡ happened.Post p line → IsReceive what
-a_post what p line is = subst IsReceive (sym is) (record {
-  number = p.number;
-  numbered = refl;
-  no_send = λ stamp. refl;
-  no_arrival = λ stamp. refl;
-})
+pub a_post : (w : Happened) (p : Post) (line : ℕ) → w ≡ happened.Post p line → IsReceive w
+a_post w p line is =
+    subst (λ (x : Happened). IsReceive x) (sym is) ((λ stamp. refl), (λ stamp. refl), p.number, refl)
 
-pub a_match : (what : Happened) (number from n cap line : ℕ) → what ≡ happened.Match number from n cap line →
-    IsReceive what
-a_match what number from n cap line is = subst IsReceive (sym is) (record {
-  number = number;
-  numbered = refl;
-  no_send = λ stamp. refl;
-  no_arrival = λ stamp. refl;
-})
+pub a_match : (w : Happened) (number from n cap line : ℕ) → w ≡ happened.Match number from n cap line → IsReceive w
+a_match w number from n cap line is =
+    subst (λ (x : Happened). IsReceive x) (sym is) ((λ stamp. refl), (λ stamp. refl), number, refl)
 
 -- two counts are compared
 pub counts_decided : (a b m n : ℕ) → a ≡ m → b ≡ n → Decides (a == b) (m ≡ n)

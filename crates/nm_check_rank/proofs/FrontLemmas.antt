@@ -67,11 +67,12 @@ module _ (shape : Sizes) (commands : List Numbered) (at : ℕ) (h : List Event) 
       breaks
 
   pub stamp_breach : (d : Due) → (StampAt (take k h) e.stamp → ⊥) →
-      Some d ≡ Some (due.Stamp (last_stamp (take k h)) e.stamp) → IsBreachAt shape commands at h own.Stamps (Some d) (At k)
+      Some d ≡ Some (due.Stamp (last_stamp (take k h)) e.stamp) →
+      IsBreachAt shape commands at h own.Stamps (Some d) (At k)
   stamp_breach d broken is = (
     kept,
     at_place own.Stamps (Some d)
-        (broken_next Rule own_order 0 own.Stamps (omega arith) (All-nil Rule) broken, is),
+        (broken_next Rule own_order 0 own.Stamps (omega arith) own_order refl (All-nil Rule) broken, is),
   )
 
   number_broken : BreaksFirstAt (Always (NumberAt shape.ranks)) h k → NumberAt shape.ranks (take k h) e.what → ⊥
@@ -95,8 +96,8 @@ module _ (shape : Sizes) (commands : List Numbered) (at : ℕ) (h : List Event) 
         kept,
         at_place own.Numbers o
             (some_due own.Numbers o some (λ d same. (
-              broken_next Rule own_order 1 own.Numbers (omega arith) (All-cons Rule own.Stamps [] stamp (All-nil Rule))
-                  broken,
+              broken_next Rule own_order 1 own.Numbers (omega arith) own_order refl
+                  (All-cons Rule own.Stamps [] stamp (All-nil Rule)) broken,
               subst (λ (x : Option Due). IsOwnDue shape commands own.Numbers (take k h) e x) same told,
             ))),
       )

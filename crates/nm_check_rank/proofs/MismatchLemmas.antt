@@ -46,31 +46,22 @@ pub sorts_apart : (a : Sort) (w : Happened) (xs : List Argument) → a ≢ sort_
 sorts_apart a w xs not =
     mismatch_here (arg.Sort a) (arg.Sort (sort_of w)) xs (others_of w) (λ same. not (sort_back same))
 
-send_receive : sort.Send ≡ sort.Receive → ⊥
-send_receive same = cc
-
-send_matched : sort.Send ≡ sort.Matched → ⊥
-send_matched same = cc
-
-receive_matched : sort.Receive ≡ sort.Matched → ⊥
-receive_matched same = cc
-
 pub no_send : (w : Happened) →
     ((to n tag ctx len : ℕ) (how : How) (line : ℕ) → w ≡ what.Send to n tag ctx len how line → ⊥) →
     sort.Send ≢ sort_of w
 no_send (what.Send to n tag ctx len how line) not = absurd (not to n tag ctx len how line refl)
-no_send (what.Match number from n cap line) not = λ same. send_matched same
-no_send w not = λ same. send_receive same
+no_send (what.Match number from n cap line) not = λ same. cc
+no_send w not = λ same. cc
 
 pub no_post : (w : Happened) → ((p : Post) (line : ℕ) → w ≡ what.Post p line → ⊥) → is_start w ≡ true →
     sort.Receive ≢ sort_of w
-no_post (what.Send to n tag ctx len how line) not started = λ same. send_receive (sym same)
+no_post (what.Send to n tag ctx len how line) not started = λ same. cc
 no_post (what.Post p line) not started = absurd (not p line refl)
-no_post (what.Match number from n cap line) not started = λ same. receive_matched same
+no_post (what.Match number from n cap line) not started = λ same. cc
 no_post w not started = absurd (false≢true started)
 
 pub no_match : (w : Happened) → ((number from n cap line : ℕ) → w ≡ what.Match number from n cap line → ⊥) →
     sort.Matched ≢ sort_of w
-no_match (what.Send to n tag ctx len how line) not = λ same. send_matched (sym same)
+no_match (what.Send to n tag ctx len how line) not = λ same. cc
 no_match (what.Match number from n cap line) not = absurd (not number from n cap line refl)
-no_match w not = λ same. receive_matched (sym same)
+no_match w not = λ same. cc

@@ -50,26 +50,17 @@ module _ (rank : ℕ) (lines : List Line) (k : ℕ) (l : Line) (inside : k < len
       ap (λ (ls : List Line). lines_from rank 2 ls) (take_next lines k l inside is) ∙ lines_push rank 2 (take k lines) l
       ∙ ap (λ (m : ℕ). lines_from rank 2 (take k lines) ++ cond (l.rank == rank) (m ∷ []) []) place
 
-  equal : l.rank ≡ rank → (l.rank == rank) ≡ true
-  equal same = grind (arith, nat_tests)
-
-  unequal : (l.rank ≡ rank → ⊥) → (l.rank == rank) ≡ false
-  unequal not = grind (arith, nat_tests)
+  by_test : (own : List ℕ) (b : Bool) → (l.rank == rank) ≡ b →
+      own ≡ map (λ c. c.line) (commands_of rank (take k lines)) →
+      own ++ cond b ((k + 2) ∷ []) [] ≡ map (λ c. c.line) (commands_of rank (take (k + 1) lines))
+  by_test own b is are = let back = sym is in (λ i. are i ++ cond (back i) ((k + 2) ∷ []) []) ∙ sym own_next
 
   -- the line of one more command
   pub own_line : (own : List ℕ) → l.rank ≡ rank → own ≡ map (λ c. c.line) (commands_of rank (take k lines)) →
       own ++ (k + 2) ∷ [] ≡ map (λ c. c.line) (commands_of rank (take (k + 1) lines))
-  own_line own ours are =
-      ap (λ (ls : List ℕ). ls ++ (k + 2) ∷ []) are
-      ∙ ap (λ (b : Bool). map (λ (c : Numbered). c.line) (commands_of rank (take k lines)) ++ cond b
-      ((k + 2) ∷ []) []) (sym (equal ours))
-      ∙ sym own_next
+  own_line own ours are = by_test own true (grind (arith, nat_tests)) are
 
   -- .. of another rank's
   pub other_line : (own : List ℕ) → (l.rank ≡ rank → ⊥) → own ≡ map (λ c. c.line) (commands_of rank (take k lines)) →
       own ≡ map (λ c. c.line) (commands_of rank (take (k + 1) lines))
-  other_line own others are =
-      are ∙ sym (append-nil (map (λ (c : Numbered). c.line) (commands_of rank (take k lines))))
-      ∙ ap (λ (b : Bool). map (λ (c : Numbered). c.line) (commands_of rank (take k lines)) ++ cond b
-      ((k + 2) ∷ []) []) (sym (unequal others))
-      ∙ sym own_next
+  other_line own others are = sym (append-nil own) ∙ by_test own false (grind (arith, nat_tests)) are

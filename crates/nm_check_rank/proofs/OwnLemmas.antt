@@ -6,11 +6,11 @@ use Rattle.std.specs.Prelude.{All, IsSomeAnd, slice_get}
 use Rattle.std.specs.List.{cons_option}
 use Rattle.std.proofs.Math.Seq.{take-append_seam}
 use Rattle.std.proofs.lemmas.List.{get_or_default, length-map, length-take-le, take-append-drop, take-map, take_all}
-use Rattle.std.proofs.lemmas.List.Elements.{All-get_or, All-push}
+use Rattle.std.proofs.lemmas.List.Elements.{All-get_or}
 use Rattle.std.proofs.lemmas.Option.{slice_get_within}
 use Rattle.nm_types.specs.Commands.{Numbered}
 use Rattle.nm_types.specs.Sizes.{Sizes}
-use Rattle.nm_types.proofs.ListLemmas.{get_behind, split_at, take_more, take_next}
+use Rattle.nm_types.proofs.ListLemmas.{get_behind, split_at, take_more}
 use Rattle.nm_history.specs.declared.events.Event.{Event}
 use Rattle.nm_history.specs.declared.events.Happened.{Happened}
 use Rattle.nm_history.specs.declared.events.Happened.TheVariants.{Ran}
@@ -20,7 +20,7 @@ use Rattle.nm_history.proofs.AtEachLemmas.{AtEach-front, AtEach-push, AtEach-spl
 use Rattle.nm_history.proofs.DeliveryLemmas.{AtEach-along}
 use Rattle.nm_history.proofs.RankRunLemmas.{ran_lines-push}
 use Rattle.nm_check_rank.specs.FirstBroken.{IsFirstBroken}
-use Rattle.nm_check_rank.specs.OwnBreaks.{BreaksAt, IsBreachAt, KeepsInTheEnd, KeepsSoFar, NextAt, RuleAt}
+use Rattle.nm_check_rank.specs.OwnBreaks.{BreaksAt, BreaksOf, IsBreachAt, KeepsInTheEnd, KeepsSoFar, NextAt, RuleAt}
 use Rattle.nm_check_rank.specs.OwnClauses.{KeepsOwn, own_order}
 use Rattle.nm_check_rank.specs.declared.breaks.Break.{Break}
 use Rattle.nm_check_rank.specs.declared.breaks.Break.TheVariants.{At, Behind}
@@ -28,6 +28,7 @@ use Rattle.nm_check_rank.specs.declared.clauses.OwnClause.{OwnClause}
 use Rattle.nm_check_rank.specs.declared.clauses.OwnClause.TheVariants as own
 use Rattle.nm_check_rank.specs.declared.paired.dues.Due.{Due}
 use Rattle.nm_check_rank.proofs.AgainstLemmas.{holds_at}
+use Rattle.nm_check_rank.proofs.ManyLemmas.{same_head}
 use Rattle.nm_check_rank.proofs.PushLemmas.{by_pushes}
 
 -- the rules in order are all rules
@@ -41,28 +42,33 @@ each_rule P all own.Wholes = All-get_or P own_order 5 own.Stamps (omega arith) a
 each_rule P all own.Ends = All-get_or P own_order 6 own.Stamps (omega arith) all
 each_rule P all own.Answers = All-get_or P own_order 7 own.Stamps (omega arith) all
 
-module _ {C : Type 0} (Keeps : C → Type 0) (order : List C) (i : ℕ) (other : C) (inside : i < length order) where
+module _ {C : Type 0} (Keeps : C → Type 0) (items : List C) (i : ℕ) (other : C) (inside : i < length items) where
   abbrev item : C
-  item = get_or order i other
+  item = get_or items i other
 
-  is_item : item ≡ get_or order i item
-  is_item = get_or_default order i other item inside
+  is_item : item ≡ get_or items i item
+  is_item = get_or_default items i other item inside
 
-  -- one rule more that is kept
-  pub kept_next : All Keeps (take i order) → Keeps item → All Keeps (take (i + 1) order)
-  kept_next kept here =
-      subst (λ (cs : List C). All Keeps cs) (sym (take_next order i item inside is_item))
-      (All-push Keeps (take i order) item kept here)
-
-  -- .. that is broken
-  pub broken_next : All Keeps (take i order) → (Keeps item → ⊥) → IsFirstBroken Keeps order item
-  broken_next kept broken = record {
-    earlier = take i order;
-    later = drop (i + 1) order;
-    split = split_at order i item inside is_item;
+  -- one rule more that is broken
+  pub broken_next : (order : List C) → items ≡ order → All Keeps (take i items) → (Keeps item → ⊥) →
+      IsFirstBroken Keeps order item
+  broken_next order same kept broken = record {
+    earlier = take i items;
+    later = drop (i + 1) items;
+    split = sym same ∙ split_at items i item inside is_item;
     kept = kept;
     broken = broken;
   }
+
+-- of one rule it is the one that is broken
+pub one_broken : {C : Type 0} (Keeps : C → Type 0) (c d : C) → IsFirstBroken Keeps (c ∷ []) d → Keeps c → ⊥
+one_broken {C} Keeps c d first kept = by_split first.earlier first.split
+  where
+    by_split : (earlier : List C) → c ∷ [] ≡ earlier ++ d ∷ first.later → ⊥
+    by_split [] same = first.broken (subst Keeps (same_head same) kept)
+    by_split (x ∷ xs) same =
+        let both : 1 ≡ suc (length (xs ++ d ∷ first.later)) = ap length same in
+        let more = length-append xs (d ∷ first.later) in omega (arith, both, more)
 
 -- all of them are kept
 pub kept_all : {C : Type 0} (Keeps : C → Type 0) (items order : List C) (i : ℕ) → items ≡ order → length items ≤ i →
@@ -176,32 +182,23 @@ module _ (shape : Sizes) (commands : List Numbered) (at : ℕ) (h : List Event) 
       KeepsOwn shape commands at h c
   whole_of own.Answers so end = subst (λ (n : ℕ). Answers commands n h) (sym end) (answers_of commands h so)
   whole_of own.Starts so end = record { made = so; no_others = end }
-  whole_of own.Numbers so end = so
   whole_of own.Cancels so end = record { made = so; no_others = end }
-  whole_of own.Wholes so end = so
-  whole_of own.Ends so end = so
-  whole_of own.Stamps so end = so
   whole_of own.Claims so end = record { made = so; no_others = end }
+  whole_of c so end = so
 
   pub so_far_of : (c : OwnClause) → KeepsOwn shape commands at h c → KeepsSoFar shape commands c h
   so_far_of own.Answers whole = next_of commands at h whole
   so_far_of own.Starts whole = whole.made
-  so_far_of own.Numbers whole = whole
   so_far_of own.Cancels whole = whole.made
-  so_far_of own.Wholes whole = whole
-  so_far_of own.Ends whole = whole
-  so_far_of own.Stamps whole = whole
   so_far_of own.Claims whole = whole.made
+  so_far_of c whole = whole
 
   pub end_of : (c : OwnClause) → KeepsOwn shape commands at h c → KeepsInTheEnd at c h
   end_of own.Answers whole = ran_of_answers commands at h whole
   end_of own.Starts whole = whole.no_others
-  end_of own.Numbers whole = tt
   end_of own.Cancels whole = whole.no_others
-  end_of own.Wholes whole = tt
-  end_of own.Ends whole = tt
-  end_of own.Stamps whole = tt
   end_of own.Claims whole = whole.no_others
+  end_of c whole = tt
 
   -- .. all of them are those of a run
   pub run_of : ((c : OwnClause) → KeepsOwn shape commands at h c) → IsRankRun shape commands at h
@@ -224,6 +221,13 @@ module _ (shape : Sizes) (commands : List Numbered) (at : ℕ) (h : List Event) 
   at_event c k e here first whole =
       first.broken (holds_at (λ before e. RuleAt shape commands c before e) h k e here
       (so_far_of shape commands at h c (whole c)))
+
+  pub one_stands : (c d : OwnClause) (due : Due) (k : ℕ) (o : Option Event) → slice_get h k ≡ o →
+      IsSomeAnd o (λ e. BreaksOf shape commands (c ∷ []) (take k h) e d due) → KeepsOwn shape commands at h c → ⊥
+  one_stands c d due k None here some whole = some
+  one_stands c d due k (Some e) here some whole =
+      one_broken (λ d. RuleAt shape commands d (take k h) e) c d some.0
+      (holds_at (λ before e. RuleAt shape commands c before e) h k e here (so_far_of shape commands at h c whole))
 
   pub breach_breaks : (c : OwnClause) (due : Option Due) (b : Break) → IsBreachAt shape commands at h c due b →
       ((d : OwnClause) → KeepsOwn shape commands at h d) → ⊥

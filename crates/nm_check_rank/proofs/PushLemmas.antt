@@ -1,8 +1,8 @@
 -- What holds of each history that grows by one event after another, and what happened since the last answer.
-use Rattle.std.proofs.Common.{◌≡◌, ◌||◌, Bool, true, false, List, [], ◌∷◌, ◌++◌, refl, sym, ◌∙◌, ap, subst}
+use Rattle.std.proofs.Common.{◌≡◌, inl, inr, ◌||◌, Bool, true, List, [], ◌∷◌, ◌++◌, sym, ◌∙◌, ap, subst}
 use Rattle.std.proofs.Common.{append-nil, append_assoc}
 use Rattle.std.specs.List.{list_any}
-use Rattle.std.proofs.lemmas.Bool.{false≢true}
+use Rattle.std.proofs.lemmas.Bool.{false≢true, or_cases, or_left, or_right}
 use Rattle.std.proofs.lemmas.List.Folds.{list_any-append}
 use Rattle.nm_history.specs.declared.events.Event.{Event}
 use Rattle.nm_history.specs.declared.events.Happened.{Happened}
@@ -22,11 +22,6 @@ module _ (P : List Event → Type 0) (step : (h : List Event) (e : Event) → P 
   by_pushes none h = from_front [] h none
 
 module _ (q : Happened → Bool) where
-  or_still : (a b x : Bool) → (a ≡ true → b ≡ true) → (a || x) ≡ true → (b || x) ≡ true
-  or_still true b x more either = let is : b ≡ true = more refl in rw is refl
-  or_still false true x more either = refl
-  or_still false false x more either = either
-
   -- what happened since the last answer happened
   pub since_happened : (h : List Event) → list_any q (since_command h) ≡ true → happened q h ≡ true
   since_happened h = by_pushes (λ h. list_any q (since_command h) ≡ true → happened q h ≡ true) step (λ none. none) h
@@ -36,8 +31,11 @@ module _ (q : Happened → Bool) where
           list_any q (since_after (since_command h) what) ≡ true → (happened q h || list_any q (what ∷ [])) ≡ true
       by_what h e (Ran line answer) before some = absurd (false≢true some)
       by_what h e what before some =
-          or_still (list_any q (since_command h)) (happened q h) (list_any q (what ∷ [])) before
-          (sym (list_any-append q (since_command h) (what ∷ [])) ∙ some)
+          elim (or_cases (list_any q (since_command h)) (list_any q (what ∷ []))
+          (sym (list_any-append q (since_command h) (what ∷ [])) ∙ some)) [
+            | inl was ↦ or_left (happened q h) (list_any q (what ∷ [])) (before was)
+            | inr is ↦ or_right (happened q h) (list_any q (what ∷ [])) is
+          ]
 
       step : (h : List Event) (e : Event) → (list_any q (since_command h) ≡ true → happened q h ≡ true) →
           list_any q (since_command (h ++ e ∷ [])) ≡ true → happened q (h ++ e ∷ []) ≡ true

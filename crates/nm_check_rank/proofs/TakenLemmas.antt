@@ -1,7 +1,7 @@
 -- The first event by which a receive took a message.
-use Rattle.std.proofs.Common.{◌≡◌, ℕ, ◌+◌, ◌<◌, ◌≤◌, Bool, true, false, Option, Some, None, List, length, take}
-use Rattle.std.proofs.Common.{refl, sym, ◌∙◌, ap, arith}
-use Rattle.std.proofs.lemmas.Bool.{false≢true}
+use Rattle.std.proofs.Common.{◌≡◌, ◌⊎◌, inl, inr, ℕ, ◌+◌, ◌<◌, ◌≤◌, true, false, Option, Some, None, List, length, take}
+use Rattle.std.proofs.Common.{sym, ◌∙◌, ap, arith}
+use Rattle.std.proofs.lemmas.Bool.{cases_lt, false≢true}
 use Rattle.std.proofs.lemmas.Bool.Decides.{nat_tests}
 use Rattle.std.proofs.lemmas.List.{take_all}
 use Rattle.std.specs.Prelude.{nat_lt}
@@ -19,12 +19,11 @@ next_above t = grind (arith, nat_tests)
 -- a place before which it is not taken, and behind which it is, is inside
 inside_of : (h : List Event) (from n t : ℕ) → is_taken (take t h) from n ≡ false →
     is_taken (take (t + 1) h) from n ≡ true → t < length h
-inside_of h from n t early late = by_test (nat_lt t (length h)) refl
+inside_of h from n t early late = by_order (cases_lt t (length h))
   where
-    by_test : (b : Bool) → nat_lt t (length h) ≡ b → t < length h
-    by_test true is = let low : t < length h = grind (arith, nat_tests) in low
-    by_test false is =
-        let over : length h ≤ t = grind (arith, nat_tests) in
+    by_order : (t < length h) ⊎ (length h ≤ t) → t < length h
+    by_order (inl low) = low
+    by_order (inr over) =
         let same : take t h ≡ take (t + 1) h =
         take_all t h over ∙ sym (take_all (t + 1) h (omega (arith, over))) in
         absurd (false≢true (sym early ∙ ap (λ (g : List Event). is_taken g from n) same ∙ late))

@@ -25,19 +25,8 @@ retold answer.Late = told.Late
 retold answer.Asked = told.Asked
 
 told_back : (t : Told) → retold (untold t) ≡ t
-told_back told.Started = refl
-told_back told.Busy = refl
-told_back told.Null = refl
-told_back told.No = refl
-told_back told.Nothing = refl
-told_back told.Sent = refl
 told_back (told.Got from tag len) = ap (λ (n : ℕ). told.Got from tag n) (length-replicate len 0)
-told_back (told.Cut from tag len) = refl
-told_back told.Cancelled = refl
-told_back (told.Seen from tag len) = refl
-told_back told.Done = refl
-told_back told.Late = refl
-told_back told.Asked = refl
+told_back t = refl
 
 -- answers are the same where they are told the same
 pub told_decided : (r : Bool) (a b : Told) (given : Answer) → untold b ≡ given → Decides r (a ≡ b) →

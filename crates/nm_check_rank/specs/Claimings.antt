@@ -2,7 +2,6 @@
 use Rattle.std.specs.Prelude.{ℕ, ◌==◌, ◌&&◌, false, if◌then◌else◌, Option, Some, None, List, [], ◌∷◌}
 use Rattle.std.specs.Prelude.{option_and_then, option_map}
 use Rattle.std.specs.Option.{option_map_or}
-use Rattle.nm_types.specs.declared.answers.Answer.{Answer}
 use Rattle.nm_types.specs.Commands.{Numbered, command_at}
 use Rattle.nm_history.specs.declared.events.Event.{Event}
 use Rattle.nm_history.specs.declared.events.Happened.{Happened}
@@ -36,14 +35,13 @@ abbrev pub claims_due : List ℕ → List ℕ → Option Due
 claims_due (called ∷ []) (found ∷ []) = named_due called found
 claims_due called found = many_due (many_of called) (many_of found)
 
--- the line of a matched probe whose answer shows a message
-abbrev pub claims_called : List Numbered → ℕ → Answer → List ℕ
-claims_called commands line answer =
-    if option_map_or is_matched_probe (command_at commands line) false && is_seen answer then line ∷ [] else []
-
--- what is called for at a claim, and at an answer by the claims since the answer before
+-- what is called for at a claim, and at an answer by the claims since the answer before: the one of a matched probe
+-- whose answer shows a message
 abbrev pub claim_due : List Numbered → List Event → Happened → Option Due
 claim_due commands before (Claim from n line) =
     message_due (claim_called commands before line) (record { rank = from; n = n })
-claim_due commands before (Ran line answer) = claims_due (claims_called commands line answer) (claims_since before)
+claim_due commands before (Ran line answer) =
+    claims_due
+    (if option_map_or is_matched_probe (command_at commands line) false && is_seen answer then line ∷ [] else [])
+    (claims_since before)
 claim_due commands before what = None

@@ -58,11 +58,14 @@ IsAgainst shape commands c before e found =
 abbrev pub KeepsAll : Sizes → List Numbered → List Event → Type 0
 KeepsAll shape commands h = (c : OwnClause) → KeepsSoFar shape commands c h
 
--- of the rules that an event breaks it is the first in order, and this stands against the event
+-- of these rules it is the first that an event breaks, and this stands against the event
+abbrev pub BreaksOf : Sizes → List Numbered → List OwnClause → List Event → Event → OwnClause → Due → Type 0
+BreaksOf shape commands rules before e c due =
+    IsFirstBroken (λ d. RuleAt shape commands d before e) rules c × IsOwnDue shape commands c before e (Some due)
+
+-- .. of all rules in order
 abbrev pub BreaksAt : Sizes → List Numbered → List Event → Event → OwnClause → Due → Type 0
-BreaksAt shape commands before e c due =
-    IsFirstBroken (λ d. RuleAt shape commands d before e) own_order c
-    × IsOwnDue shape commands c before e (Some due)
+BreaksAt shape commands before e c due = BreaksOf shape commands own_order before e c due
 
 -- A rank breaks a rule of its own run first there: the events before keep all rules, and of those that this event
 -- breaks it is the first in order; or all events keep all rules, and it is the first that the end breaks.

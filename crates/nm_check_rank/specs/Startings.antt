@@ -45,15 +45,11 @@ one_due limit c w = None
 abbrev pub mismatch_due : Option Mismatch → Option Due → Option Due
 mismatch_due first other = option_map_or (λ m. Some (due.Argument m)) first other
 
--- one start is called for, and one was found
-abbrev pub IsOneDue : ℕ → Command → Happened → Happened → Option Due → Type 0
-IsOneDue limit c called found told =
-    (first : Option Mismatch) × IsFirstMismatch (arguments called) (arguments found) first
-    × (told ≡ mismatch_due first (one_due limit c found))
-
--- .. or another number of them is called for than was found
+-- one start is called for, and one was found; or another number of them is called for than was found
 abbrev pub IsStartsDue : ℕ → Command → List Happened → List Happened → Option Due → Type 0
-IsStartsDue limit c (w ∷ []) (v ∷ []) told = IsOneDue limit c w v told
+IsStartsDue limit c (w ∷ []) (v ∷ []) told =
+    (first : Option Mismatch) × IsFirstMismatch (arguments w) (arguments v) first
+    × (told ≡ mismatch_due first (one_due limit c v))
 IsStartsDue limit c called found told = told ≡ many_due (many_of called) (many_of found)
 
 -- the start of a command that was taken: a matched receive has the live message of its handle

@@ -147,27 +147,7 @@ fn send_cancels(
     }
 }
 
-/// What is called for where a request is cancelled.
-fn live_due(run: &Run, since: Since, k: usize, request: Request) -> Option<Due>
-    requires run { IsRun run.now }
-    requires left { IsSince is_cancelling run.now.events.now k since }
-    ensures { result ≡ spec.cancels_due (take k run.now.events.now) (Some (meant_by request))
-        (cancels_since (take k run.now.events.now)) }
-{
-    match request {
-        Request::Receiving { number } => {
-            let paired = run.tables.pairing.is_paired(number, k);
-            receive_cancels(run.events, since, k, number, paired)
-        }
-        Request::Sending { to, n } => {
-            let recalls = &run.tables.places.outgoing.recalled.recalls;
-            let recalled = is_before::<Recalls>(recalls, to, n, k);
-            send_cancels(run.events, since, k, to, n, recalled)
-        }
-    }
-}
-
-/// .. if one is.
+/// What is called for where a request is cancelled, if one is.
 fn cancels_due(run: &Run, since: Since, k: usize, request: Option<Request>) -> Option<Due>
     requires run { IsRun run.now }
     requires left { IsSince is_cancelling run.now.events.now k since }
@@ -175,7 +155,15 @@ fn cancels_due(run: &Run, since: Since, k: usize, request: Option<Request>) -> O
         (cancels_since (take k run.now.events.now)) }
 {
     match request {
-        Some(request) => live_due(run, since, k, request),
+        Some(Request::Receiving { number }) => {
+            let paired = run.tables.pairing.is_paired(number, k);
+            receive_cancels(run.events, since, k, number, paired)
+        }
+        Some(Request::Sending { to, n }) => {
+            let recalls = &run.tables.places.outgoing.recalled.recalls;
+            let recalled = is_before::<Recalls>(recalls, to, n, k);
+            send_cancels(run.events, since, k, to, n, recalled)
+        }
         None => many_due(Many::Nothing, many_of(since)),
     }
 }

@@ -8,7 +8,7 @@ ghost use Rattle.nm_history.specs.RankRun.{Always, IsRankRun, NumberAt, last_sta
 ghost use Rattle.nm_lookups.specs.Deciding.{Decides};
 ghost use Rattle.nm_check_rank.specs.Breaks.{BreaksFirstAt};
 ghost use Rattle.nm_check_rank.specs.FirstBroken.{IsFirstBroken};
-ghost use Rattle.nm_check_rank.specs.OwnBreaks.{IsBreach, KeepsAll, KeepsInTheEnd};
+ghost use Rattle.nm_check_rank.specs.OwnBreaks.{IsBreach, KeepsAll};
 ghost use Rattle.nm_check_rank.specs.OwnClauses.{KeepsOwn, own_order};
 ghost use Rattle.nm_check_rank.specs.Runs.{IsRun, commands_in};
 ghost use Rattle.nm_check_rank.specs.SoFar.{IsSoFar};
@@ -23,7 +23,7 @@ use crate::paired::order::own_lines;
 use crate::paired::runs::Run;
 use crate::paired::so_far::SoFar;
 use crate::paired::tables::Tables;
-use crate::paired::walks::{Walked, walk, walk_by};
+use crate::paired::walks::{Walked, walk};
 use crate::stamps::stamps_rise;
 use nm_history::Event;
 use nm_types::{Line, Memory, Shape};
@@ -44,9 +44,9 @@ fn keeps(run: &Run, at: u64, clause: OwnClause) -> bool
     ensures { Decides result
         (KeepsOwn run.now.shape (commands_in run.now) at run.now.events.now clause) }
 {
-    match walk_by(run, clause) {
-        Some(so_far) => so_far.is_over(clause, at),
-        None => false,
+    match walk(run, &[clause]) {
+        Walked::Breaks { at: _, standing: _ } => false,
+        Walked::Ends(so_far) => so_far.is_over(clause, at),
     }
 }
 
@@ -66,35 +66,22 @@ fn first_broken(run: &Run, at: u64) -> Option<OwnClause>
     None
 }
 
-/// The first rule in order that the end breaks.
-fn first_left(so_far: SoFar, at: u64) -> Option<OwnClause>
-    ensures { (h : List event.Event) → IsSoFar h (length h) so_far →
-        MatchOption result
-        (All (λ d. KeepsInTheEnd at d h) own_order)
-        (IsFirstBroken (λ d. KeepsInTheEnd at d h) own_order) }
-{
-    for clause in OwnClause::order() {
-        if !so_far.is_over(*clause, at) {
-            return Some(*clause);
-        }
-    }
-    None
-}
-
 /// The end breaks a rule first, if it breaks one.
 fn left_in_the_end(so_far: SoFar, at: u64) -> Option<Breach>
     ensures { (shape : Sizes) (commands : List Numbered) (h : List event.Event) →
         IsSoFar h (length h) so_far → KeepsAll shape commands h →
         MatchOption result (IsRankRun shape commands at h) (IsBreach shape commands at h) }
 {
-    match first_left(so_far, at) {
-        Some(clause) => Some(Breach {
-            clause,
-            place: Break::Behind,
-            due: None,
-        }),
-        None => None,
+    for clause in OwnClause::order() {
+        if !so_far.is_over(*clause, at) {
+            return Some(Breach {
+                clause: *clause,
+                place: Break::Behind,
+                due: None,
+            });
+        }
     }
+    None
 }
 
 /// The event at a place has a wrong number, and breaks no rule but that and the one on stamps.
@@ -145,7 +132,7 @@ fn first_breach(run: &Run, at: u64) -> Option<Breach>
         (IsRankRun run.now.shape (commands_in run.now) at run.now.all.now)
         (IsBreach run.now.shape (commands_in run.now) at run.now.all.now) }
 {
-    match walk(run) {
+    match walk(run, OwnClause::order()) {
         Walked::Breaks { at: k, standing } => Some(Breach {
             clause: standing.clause,
             place: Break::At(k),

@@ -44,18 +44,8 @@ pub(crate) fn one_if(called: bool) -> Many
 pub(crate) fn many_due(called: Many, found: Many) -> Option<Due>
     ensures { result ≡ spec.many_due called found }
 {
-    let wrong = Some(Due::Many { called, found });
-    match called {
-        Many::Nothing => match found {
-            Many::Nothing => None,
-            Many::One => wrong,
-            Many::More => wrong,
-        },
-        Many::One => match found {
-            Many::Nothing => wrong,
-            Many::One => None,
-            Many::More => wrong,
-        },
-        Many::More => wrong,
+    match (called, found) {
+        (Many::Nothing, Many::Nothing) | (Many::One, Many::One) => None,
+        _ => Some(Due::Many { called, found }),
     }
 }

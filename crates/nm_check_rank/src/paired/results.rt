@@ -121,16 +121,6 @@ pub(crate) fn wait_answer(tables: &Tables, request: Option<Request>, k: usize) -
     }
 }
 
-/// A result, or that there is none.
-fn result_or_no(told: Option<Told>) -> Told
-    ensures { untold result ≡ unwrap_or (option_map untold told) answers.No }
-{
-    match told {
-        Some(told) => told,
-        None => Told::No,
-    }
-}
-
 /// The answer of a test of a name's live request.
 pub(crate) fn test_answer(tables: &Tables, request: Option<Request>, k: usize) -> Told
     ensures { (rank : ℕ) (lines : List script_line.Line) (h : List event.Event) →
@@ -140,26 +130,8 @@ pub(crate) fn test_answer(tables: &Tables, request: Option<Request>, k: usize) -
         (option_map meant_by request) answers.Null }
 {
     match request {
-        Some(request) => result_or_no(request_result(tables, request, k)),
+        Some(request) => request_result(tables, request, k).unwrap_or(Told::No),
         None => Told::Null,
-    }
-}
-
-/// The answer of a cancel of a request.
-fn cancel_told(tables: &Tables, request: Request, k: usize) -> Told
-    ensures { (rank : ℕ) (lines : List script_line.Line) (h : List event.Event) →
-        AreRankTables rank lines h tables.now →
-        untold result ≡ cancel_answer_lem (take k h) (meant_by request) }
-{
-    match request {
-        Request::Sending { .. } => Told::Asked,
-        Request::Receiving { number } => {
-            if tables.pairing.is_paired(number, k) {
-                Told::Late
-            } else {
-                Told::Done
-            }
-        }
     }
 }
 
@@ -171,7 +143,14 @@ pub(crate) fn cancel_answer(tables: &Tables, request: Option<Request>, k: usize)
         (option_map meant_by request) answers.Null }
 {
     match request {
-        Some(request) => cancel_told(tables, request, k),
+        Some(Request::Receiving { number }) => {
+            if tables.pairing.is_paired(number, k) {
+                Told::Late
+            } else {
+                Told::Done
+            }
+        }
+        Some(Request::Sending { .. }) => Told::Asked,
         None => Told::Null,
     }
 }
@@ -189,26 +168,15 @@ pub(crate) fn is_over(tables: &Tables, request: Option<Request>, k: usize) -> bo
     }
 }
 
-/// The pair of a request before a place, if it is a receive.
-fn pair_of_live(tables: &Tables, request: Request, k: usize) -> Option<Pair>
-    ensures { (rank : ℕ) (lines : List script_line.Line) (h : List event.Event) →
-        AreRankTables rank lines h tables.now →
-        result ≡ pair_of_request (take k h) (meant_by request) }
-{
-    match request {
-        Request::Sending { .. } => None,
-        Request::Receiving { number } => tables.pairing.pair(number, k),
-    }
-}
-
-/// The pair of a name's live request before a place.
+/// The pair of a name's live request before a place, if it is a receive.
 fn pair_of_name(tables: &Tables, request: Option<Request>, k: usize) -> Option<Pair>
     ensures { (rank : ℕ) (lines : List script_line.Line) (h : List event.Event) →
         AreRankTables rank lines h tables.now →
         result ≡ option_and_then (pair_of_request (take k h)) (option_map meant_by request) }
 {
     match request {
-        Some(request) => pair_of_live(tables, request, k),
+        Some(Request::Receiving { number }) => tables.pairing.pair(number, k),
+        Some(Request::Sending { .. }) => None,
         None => None,
     }
 }

@@ -1,10 +1,9 @@
 //! What stands against an event of a rank, by each rule of its own run.
 
-ghost use Rattle.std.specs.Prelude.{◌≡◌, MatchOption, Some, slice_get, take};
-ghost use Rattle.nm_check_rank.specs.OwnBreaks.{BreaksAt, IsAgainst, KeepsAll, KeepsSoFar, RuleAt};
+ghost use Rattle.std.specs.Prelude.{◌≡◌, All, MatchOption, Some, slice_get, take};
+ghost use Rattle.nm_check_rank.specs.OwnBreaks.{BreaksOf, IsAgainst, KeepsSoFar, RuleAt};
 ghost use Rattle.nm_check_rank.specs.Runs.{IsRun, commands_in};
 ghost use Rattle.nm_check_rank.specs.SoFar.{IsSoFar};
-ghost use Rattle.nm_check_rank.specs.declared.clauses.OwnClause as own_clause;
 
 use crate::clauses::OwnClause;
 use crate::paired::cancellings::cancel_due;
@@ -52,19 +51,26 @@ pub(crate) fn stands_against(
     }
 }
 
-/// The first rule in order that the event at a place breaks, where those before it keep all rules.
-pub(crate) fn first_against(run: &Run, so_far: SoFar, k: usize, e: &Event) -> Option<Standing>
+/// The first of some rules that the event at a place breaks, where those before it keep them.
+pub(crate) fn first_against(
+    run: &Run,
+    rules: &[OwnClause],
+    so_far: SoFar,
+    k: usize,
+    e: &Event,
+) -> Option<Standing>
     requires run { IsRun run.now }
     requires here { slice_get run.now.events.now k ≡ Some e.now }
     requires so_far { IsSoFar run.now.events.now k so_far }
-    requires kept { KeepsAll run.now.shape (commands_in run.now) (take k run.now.events.now) }
+    requires kept { All (λ d. KeepsSoFar run.now.shape (commands_in run.now) d
+        (take k run.now.events.now)) rules.now }
     ensures { MatchOption result
-        ((d : own_clause.OwnClause) → RuleAt run.now.shape (commands_in run.now) d
-        (take k run.now.events.now) e.now)
-        (λ s. BreaksAt run.now.shape (commands_in run.now) (take k run.now.events.now) e.now
-        s.clause s.due) }
+        (All (λ d. RuleAt run.now.shape (commands_in run.now) d (take k run.now.events.now) e.now)
+        rules.now)
+        (λ s. BreaksOf run.now.shape (commands_in run.now) rules.now (take k run.now.events.now)
+        e.now s.clause s.due) }
 {
-    for clause in OwnClause::order() {
+    for clause in rules {
         if let Some(due) = stands_against(run, so_far, *clause, k, e) {
             return Some(Standing {
                 clause: *clause,

@@ -57,11 +57,11 @@ received : (before : List Event) (stamp more : ℕ) (what : Happened) (counts : 
     AreCounted before counts → more ≡ min (counts.receives + 1) 18446744073709551615 → IsReceive what →
     AreCounted (before ++ event stamp what ∷ []) (record counts { receives = more })
 received before stamp more what counts few counted is one = record {
-  sent = λ to low. counted.sent to low ∙ sym (sends_same before (event stamp what) to (one.no_send stamp));
-  came = λ from low. counted.came from low ∙ sym (arrivals_same before (event stamp what) from (one.no_arrival stamp));
+  sent = λ to low. counted.sent to low ∙ sym (sends_same before (event stamp what) to (one.0 stamp));
+  came = λ from low. counted.came from low ∙ sym (arrivals_same before (event stamp what) from (one.1 stamp));
   received = let small = few_receives before in let same = counted.received in let next :
       more ≡ length (receives before) + 1 = omega (arith, is, same, small, few) in
-      next ∙ sym (receives_more before (event stamp what) one.number one.numbered);
+      next ∙ sym (receives_more before (event stamp what) one.2 one.3);
 }
 
 pub returns-in-Post : goal.returns-in-Post

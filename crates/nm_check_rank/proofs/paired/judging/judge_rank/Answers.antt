@@ -45,7 +45,8 @@ pub first_breach-requires : goal.first_breach-requires
 first_breach-requires c =
     let right = c.first_number-right in
     is_run _ right.result refl right.ensures.inside (rw c.ranks.ensures.value at right.ensures.broken)
-    (rw c.ranks.ensures.value at right.ensures.kept) c.in_ok-tables.ensures (c.deref.ensures.value ∙ c.in_ok-own.ensures)
+    (rw c.ranks.ensures.value at right.ensures.kept) c.in_ok-tables.ensures
+    (c.deref.ensures.value ∙ c.in_ok-own.ensures)
 
 pub broken_rule-clause-requires : goal.broken_rule-clause-requires
 broken_rule-clause-requires c =

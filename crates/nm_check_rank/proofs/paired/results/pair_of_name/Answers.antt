@@ -1,4 +1,6 @@
 use Rattle.nm_check_rank.proofs.paired.results.pair_of_name.Goals as goal
 
-pub returns-in-Some : goal.returns-in-Some
-returns-in-Some c = λ rank lines h told. rw c.in-Some.is (c.pair_of_live.ensures rank lines h told)
+pub returns-in-Some-Receiving : goal.returns-in-Some-Receiving
+returns-in-Some-Receiving c = λ rank lines h told.
+    let is = rw c.in-Some-Receiving.is at c.in-Some-Receiving.field-0-is in
+    rw (c.in-Some-Receiving.is, is) (c.pair.ensures rank lines h told.tells)

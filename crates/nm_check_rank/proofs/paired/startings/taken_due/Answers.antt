@@ -31,9 +31,10 @@ returns-in-One c = λ commands held.
     let command = c.args.command.now in
     let xs = start_of limit commands before c.args.line command in
     let told = c.found_due.result in
-    let w = (get_or h c.in-One.place c.index-events-place.result).what in
+    let x = c.index-events-place.result in
+    let w = (get_or h c.in-One.place x).what in
     let holds = sym c.if-lacks.false ∙ c.lacks.ensures commands before held in
-    let one = one_left is_start h c.args.k c.args.since c.requires c.in-One.place c.index-events-place.result c.in-One.is in
+    let one = one_left is_start h c.args.k c.args.since c.requires c.in-One.place x c.in-One.is in
     on_false (told ≡ Some (Against NoMessage)) (IsStartsDue limit command xs (starts_since before) told)
     (lacks_message commands before command) holds
     (subst (λ (ws : List Happened). IsStartsDue limit command xs ws told) (sym one)
