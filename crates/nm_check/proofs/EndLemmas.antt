@@ -9,10 +9,9 @@ use Rattle.nm_check.specs.Found.{IsFound, verdict_in}
 use Rattle.nm_check.specs.Judgements.{judged_as}
 use Rattle.nm_check.specs.declared.breaks.finding.Found.{Found}
 use Rattle.nm_check.specs.declared.breaks.finding.Found.TheVariants.{NoTrace, NoScript, BadTrace, Judged}
-use Rattle.nm_check.specs.Answers.{IsAnswer, IsAsked, IsFoundIn, IsFoundOf, AreQuotesOf, IsTraced, IsWritten}
-use Rattle.nm_check.specs.Answers.{NotAsked, SaysVerdict, WasRead, found_status, status_of, text_of, usage}
+use Rattle.nm_check.specs.Answers.{IsAnswer, IsAsked, IsFoundIn, IsFoundOf, AreQuotesOf, IsTraced, IsWritten, NotAsked}
+use Rattle.nm_check.specs.Answers.{SaysVerdict, WasRead, found_status, status_of, text_of, usage, verdict_status}
 use Rattle.nm_shell.specs.Done.{Ending, OrFails, OrUnwritten, unread}
-use Rattle.nm_check.specs.Answers.{verdict_status}
 use Rattle.nm_check.specs.Endings.{IsSpoken, IsStatus, IsTold}
 use Rattle.nm_check.specs.Quotes.{quotes_of}
 use Rattle.nm_check.specs.declared.verdict.quotes.Quotes.{Quotes}

@@ -1,13 +1,16 @@
 -- The last two lines of a trace are those of the cells and of the end.
-use Rattle.std.proofs.Common.{◌≡◌, ℕ, ◌+◌, ◌-◌, Bool, true, false, List, [], ◌∷◌, ◌++◌, length}
+use Rattle.std.proofs.Common.{◌≡◌, ℕ, ◌+◌, ◌-◌, ◌<◌, ◌≤◌, ◌^◌, ◌==◌, Bool, true, false, List, [], ◌∷◌, ◌++◌, length, map}
 use Rattle.std.proofs.Common.{refl, sym, ◌∙◌, ap, arith, append_assoc, length-append}
-use Rattle.std.specs.Prelude.{codes, decimal, slice_get}
+use Rattle.std.specs.Prelude.{codes, count_by, decimal, slice_get}
 use Rattle.std.specs.List.{join_with_byte}
+use Rattle.std.proofs.lemmas.List.{length-map}
+use Rattle.std.proofs.lemmas.List.Sums.{count_by-le-length, length-filter}
 use Rattle.nm_types.proofs.ListLemmas.{get_behind}
 use Rattle.nm_types.specs.Sizes.{Sizes}
 use Rattle.nm_types.specs.Text.{text_line}
 use Rattle.nm_types.specs.declared.answers.Account.{Account}
 use Rattle.nm_report.specs.declared.records.RunRecord.{RunRecord}
+use Rattle.nm_report.specs.Ends.{ends_of}
 use Rattle.nm_report.specs.Layout.{by_rank}
 use Rattle.nm_report.specs.Report.{answer_lines, cells_line, end_line, trace_text}
 use Rattle.nm_script.specs.Lines.{is_printable, lines_of}
@@ -15,9 +18,10 @@ use Rattle.nm_script.proofs.WordLemmas.{decimal_solid, joined_printable}
 use Rattle.nm_trace.specs.Notes.{cells_words, end_word}
 use Rattle.nm_trace.specs.Traces.{CellsIn, IsTraceOf}
 use Rattle.nm_check.specs.Lines.{IsLineAt}
+use Rattle.nm_check.specs.Places.{events_in}
 use Rattle.nm_check.specs.Stops.{lines_in}
 use Rattle.nm_check.proofs.FedLemmas.{Feeds, answers_feed, feeds_both, feeds_last, trace_feeds}
-use Rattle.nm_check.proofs.LineLemmas.{one_line, there_too}
+use Rattle.nm_check.proofs.LineLemmas.{all_lines, lines_from, many_from, one_line, pair_text, there_too}
 
 cells_printable : (cells : Account) → CellsIn cells → is_printable (join_with_byte 32 (cells_words cells)) ≡ true
 cells_printable cells within =
@@ -97,3 +101,24 @@ module _ (bytes : List ℕ) (cells : Account) (done : Bool) (two : LastTwo bytes
     ap (λ (ls : List (List ℕ)). slice_get ls (length two.before + 1)) two.are
         ∙ there_too two.before (join_with_byte 32 (cells_words cells) ∷ end_word done ∷ []) 1 (end_word done) refl,
   )
+
+-- the events and the counts of a trace are no more than its bytes
+pub few_lines : (shape : Sizes) (bytes : List ℕ) (run : RunRecord) → IsTraceOf shape bytes run →
+    shape.ranks < 2 ^ 64 → events_in (ends_of run.ranks) + length run.pairs ≤ length bytes
+few_lines shape bytes run trace few =
+    let two = last_two shape bytes run trace in
+    let all = all_lines shape bytes run trace few in
+    let lines : length (lines_of bytes) ≡ length two.before + 2 =
+    ap length two.are
+    ∙ length-append two.before (join_with_byte 32 (cells_words run.cells) ∷ end_word run.done ∷ []) in
+    let parts : length (lines_of bytes)
+    ≡ length (lines_from 0 run.ranks) + length (map pair_text run.pairs ++ lines_of all.0) =
+    ap length all.1 ∙ length-append (lines_from 0 run.ranks) (map pair_text run.pairs ++ lines_of all.0) in
+    let counts : length (map pair_text run.pairs ++ lines_of all.0)
+    ≡ length (map pair_text run.pairs) + length (lines_of all.0) =
+    length-append (map pair_text run.pairs) (lines_of all.0) in
+    let events : length (lines_from 0 run.ranks) ≡ events_in (ends_of run.ranks) = many_from 0 run.ranks in
+    let pairs : length (map pair_text run.pairs) ≡ length run.pairs = length-map run.pairs pair_text in
+    let feeds : lines_in bytes ≡ count_by (λ (b : ℕ). b == 10) bytes = length-filter (λ (b : ℕ). b == 10) bytes in
+    let less : count_by (λ (b : ℕ). b == 10) bytes ≤ length bytes = count_by-le-length (λ (b : ℕ). b == 10) bytes in
+    omega (arith, two.many, lines, parts, counts, events, pairs, feeds, less)

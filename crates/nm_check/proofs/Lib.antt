@@ -7,6 +7,7 @@ mod HeldLemmas
 mod LastLemmas
 mod LineLemmas
 mod OtherLemmas
+mod QuoteLemmas
 mod RangeLemmas
 mod RankLemmas
 mod RankedLemmas

@@ -57,7 +57,7 @@ event_lines_are rank (e ∷ es) rest few within =
     ∙ ap (λ (ls : List (List ℕ)). event_text rank e ∷ ls) (event_lines_are rank es rest few within.1)
 
 -- .. and of those of all ranks from one on
-abbrev lines_from : ℕ → List RankAccount → List (List ℕ)
+abbrev pub lines_from : ℕ → List RankAccount → List (List ℕ)
 lines_from rank [] = []
 lines_from rank (a ∷ accounts) = map (event_text rank) a.history.events ++ lines_from (rank + 1) accounts
 
@@ -142,7 +142,8 @@ event_stands shape bytes run i k a e trace few here there =
     ∙ ap (λ (n : ℕ). Some (event_text n e)) same
 
 -- a line for each event
-many_from : (rank : ℕ) (accounts : List RankAccount) → length (lines_from rank accounts) ≡ events_in (ends_of accounts)
+pub many_from : (rank : ℕ) (accounts : List RankAccount) →
+    length (lines_from rank accounts) ≡ events_in (ends_of accounts)
 many_from rank [] = refl
 many_from rank (a ∷ accounts) =
     let texts = map (event_text rank) a.history.events in
@@ -155,7 +156,7 @@ many_from rank (a ∷ accounts) =
     omega (arith, both, long, sum, more)
 
 -- the line of a count of packets
-abbrev pair_text : PairCount → List ℕ
+abbrev pub pair_text : PairCount → List ℕ
 pair_text pair = join_with_byte 32 (pair_words pair)
 
 pair_printable : (pair : PairCount) → PairIn pair → is_printable (pair_text pair) ≡ true
@@ -180,19 +181,28 @@ pair_lines_are (pair ∷ pairs) rest within =
     ∙ one_line (pair_words pair) (flat_map pair_line pairs ++ rest) (pair_printable pair within.0)
     ∙ ap (λ (ls : List (List ℕ)). pair_text pair ∷ ls) (pair_lines_are pairs rest within.1)
 
+-- the lines of a trace are those of its events, then those of its counts, and then the others
+pub all_lines : (shape : Sizes) (bytes : List ℕ) (run : RunRecord) → IsTraceOf shape bytes run →
+    shape.ranks < 2 ^ 64 →
+    (rest : List ℕ) × (lines_of bytes ≡ lines_from 0 run.ranks ++ (map pair_text run.pairs ++ lines_of rest))
+all_lines shape bytes run trace few =
+    let rest = by_rank answer_lines run.ranks ⧺ cells_line run.cells ⧺ end_line run.done in (
+      rest,
+      lines_are shape bytes run trace few rest refl
+          ∙ ap (λ (ls : List (List ℕ)). lines_from 0 run.ranks ++ ls) (pair_lines_are run.pairs rest trace.pairs),
+    )
+
 -- a count of packets stands behind the events, in its place
 pub count_stands : (shape : Sizes) (bytes : List ℕ) (run : RunRecord) (k : ℕ) (pair : PairCount) →
     IsTraceOf shape bytes run → shape.ranks < 2 ^ 64 → slice_get run.pairs k ≡ Some pair →
     slice_get (lines_of bytes) (events_in (ends_of run.ranks) + k) ≡ Some (join_with_byte 32 (pair_words pair))
 count_stands shape bytes run k pair trace few here =
-    let rest = by_rank answer_lines run.ranks ⧺ cells_line run.cells ⧺ end_line run.done in
-    let texts = map pair_text run.pairs ++ lines_of rest in
+    let all = all_lines shape bytes run trace few in
+    let texts = map pair_text run.pairs ++ lines_of all.0 in
     let events = lines_from 0 run.ranks in
     let many : length events ≡ events_in (ends_of run.ranks) = many_from 0 run.ranks in
     let place : events_in (ends_of run.ranks) + k ≡ length events + k = omega (arith, many) in
     ap (λ (n : ℕ). slice_get (lines_of bytes) n) place
-    ∙ ap (λ (ls : List (List ℕ)). slice_get ls (length events + k))
-    (lines_are shape bytes run trace few rest refl
-    ∙ ap (λ (ls : List (List ℕ)). events ++ ls) (pair_lines_are run.pairs rest trace.pairs))
+    ∙ ap (λ (ls : List (List ℕ)). slice_get ls (length events + k)) all.1
     ∙ there_too events texts k (pair_text pair)
-    (get_before (map pair_text run.pairs) (lines_of rest) k (pair_text pair) (get_map pair_text run.pairs k pair here))
+    (get_before (map pair_text run.pairs) (lines_of all.0) k (pair_text pair) (get_map pair_text run.pairs k pair here))

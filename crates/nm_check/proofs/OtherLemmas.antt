@@ -83,8 +83,8 @@ module _ (ranks : List RankAccount) (y : ℕ) where
 
   -- and is this one
   pub first_at : (test : Happened → Bool) (es : List Event) (at : Option ℕ) (held : Option EventLine) →
-      es ≡ history_of (ends_of ranks) y → at ≡ position (λ (e : Event). test e.what) es → held ≡ option_map (held_at (ends_of ranks) y) at →
-      held ≡ first_held (ends_of ranks) y test
+      es ≡ history_of (ends_of ranks) y → at ≡ position (λ (e : Event). test e.what) es →
+      held ≡ option_map (held_at (ends_of ranks) y) at → held ≡ first_held (ends_of ranks) y test
   first_at test es at held same found is =
       is ∙ ap (λ (o : Option ℕ). option_map (held_at (ends_of ranks) y) o) found
       ∙ ap (λ (h : List Event). option_map (held_at (ends_of ranks) y) (position (λ e. test e.what) h)) same

@@ -14,7 +14,7 @@ use Rattle.nm_check_rank.specs.declared.breaks.Break.TheVariants.{At}
 use Rattle.nm_check_rank.specs.declared.clauses.OwnClause.{OwnClause}
 use Rattle.nm_check_rank.specs.declared.paired.breaches.Breach.{Breach}
 use Rattle.nm_check_rank.specs.declared.paired.dues.Due.{Due}
-use Rattle.nm_check.specs.OwnFirsts.{IsBreachOf}
+use Rattle.nm_check.specs.Verdicts.{IsBreachOf}
 
 -- a place at an event is inside
 breach_inside : (shape : Sizes) (commands : List Numbered) (at : ℕ) (h : List Event) (c : OwnClause)

@@ -67,16 +67,6 @@ spot_inside lines ranks i j c spot breaks = by_side breaks.inside
     by_side (inl here) = subst (λ (x : ℕ). spot.at < length (history_of ranks x)) (sym here.0) here.1
     by_side (inr here) = subst (λ (x : ℕ). spot.at < length (history_of ranks x)) (sym here.0) here.1
 
--- .. which is one of the two
-pub spot_known : (lines : List Line) (ranks : List Ended) (i j n : ℕ) (c : CarriedClause) (spot : Spot) →
-    BreaksBetweenAt lines ranks i j c spot → i < n → j < n → spot.rank < n
-spot_known lines ranks i j n c spot breaks low_i low_j = by_side breaks.inside
-  where
-    by_side : ((spot.rank ≡ i) × (spot.at < length (history_of ranks i)))
-        ⊎ ((spot.rank ≡ j) × (spot.at < length (history_of ranks j))) → spot.rank < n
-    by_side (inl here) = subst (λ (x : ℕ). x < n) (sym here.0) low_i
-    by_side (inr here) = subst (λ (x : ℕ). x < n) (sym here.0) low_j
-
 -- no history has more events than all ranks have
 pub history_le : (ranks : List Ended) (i : ℕ) → length (history_of ranks i) ≤ events_in ranks
 history_le ranks i = by_rank (slice_get ranks i) refl
@@ -110,19 +100,12 @@ carried_ranks shape lines ranks c i j breaks = (
     receiver (Some a) there = some_inside ranks j (λ b. IsFirstBroken
         (KeepsCarried i j (commands_of i lines) (commands_of j lines) a.events b.events) carried_order c) there
 
--- the rank of an event that breaks a rule of rest
-pub rest_known : (r : EventRule) (ranks : List Ended) (spot : Spot) → BreaksRestAt r ranks spot →
-    spot.rank < length ranks
-rest_known r ranks spot breaks =
-    some_inside ranks spot.rank (λ rank. BreaksFirstAt (KeepRestAt r ranks spot.rank rank.events) rank.events spot.at)
-    breaks.first
-
--- .. of a rank that stands where it may not
+-- the rank that stands where it may not
 pub standing_known : (lines : List Line) (ranks : List Ended) (i : ℕ) → BreaksStanding lines ranks i → i < length ranks
 standing_known lines ranks i breaks =
     some_inside ranks i (λ rank. IsStopped (commands_of i lines) rank → ⊥) breaks.first
 
--- .. and its place
+-- the place of an event that breaks a rule of rest
 pub rest_inside : (r : EventRule) (ranks : List Ended) (spot : Spot) → BreaksRestAt r ranks spot →
     spot.at < length (history_of ranks spot.rank)
 rest_inside r ranks spot breaks = by_rank (slice_get ranks spot.rank) breaks.first

@@ -145,40 +145,20 @@ zeroed_le behind (b ∷ line) = by_byte (is_ascii_digit b) behind (zeroed_le (is
     by_byte true false few = omega (arith, few)
     by_byte false behind few = omega (arith, few)
 
--- what is behind the line between is shorter than the whole
-pub rest_less : (bytes front rest : List ℕ) → IsCut bytes front rest → length rest < length bytes
-rest_less bytes front rest cut = by_end cut.follows
-  where
-    by_end : IsDivider cut.behind rest → length rest < length bytes
-    by_end (inl is) =
-        let whole = ap (λ (xs : List ℕ). length xs) cut.split ∙ length-append front cut.behind in
-        let behind = ap (λ (xs : List ℕ). length xs) is ∙ length-append (codes "---\n") rest in
-        let four : length (codes "---\n") ≡ 4 = refl in
-        omega (arith, whole, behind, four)
-    by_end (inr is) =
-        let whole = ap (λ (xs : List ℕ). length xs) cut.split ∙ length-append front cut.behind in
-        let behind : length cut.behind ≡ 3 = ap (λ (xs : List ℕ). length xs) is.0 in
-        let none : length rest ≡ 0 = ap (λ (xs : List ℕ). length xs) is.1 in
-        omega (arith, whole, behind, none)
-
 -- what stops a text at a line that is there and has its line feed
 pub stops_there : (shape : Sizes) (bytes text : List ℕ) (line : ℕ) (s : Stop) →
     slice_get (lines_of bytes) (line - 1) ≡ Some text → line ≤ lines_in bytes → IsLineStop shape text s →
     IsStop shape bytes line s
-stops_there shape bytes text line stop.Short here fed is = absurd is
-stops_there shape bytes text line stop.Unfed here fed is = absurd is
-stops_there shape bytes text line stop.Order here fed is =
-    subst (λ (o : Option (List ℕ)). IsSomeAnd o (λ text. (line ≤ lines_in bytes) × IsLineStop shape text stop.Order))
-    (sym here) (fed, is)
-stops_there shape bytes text line stop.Number here fed is =
-    subst (λ (o : Option (List ℕ)). IsSomeAnd o (λ text. (line ≤ lines_in bytes) × IsLineStop shape text stop.Number))
-    (sym here) (fed, is)
-stops_there shape bytes text line stop.Event here fed is =
-    subst (λ (o : Option (List ℕ)). IsSomeAnd o (λ text. (line ≤ lines_in bytes) × IsLineStop shape text stop.Event))
-    (sym here) (fed, is)
-stops_there shape bytes text line stop.Report here fed is =
-    subst (λ (o : Option (List ℕ)). IsSomeAnd o (λ text. (line ≤ lines_in bytes) × IsLineStop shape text stop.Report))
-    (sym here) (fed, is)
-stops_there shape bytes text line stop.Line here fed is =
-    subst (λ (o : Option (List ℕ)). IsSomeAnd o (λ text. (line ≤ lines_in bytes) × IsLineStop shape text stop.Line))
-    (sym here) (fed, is)
+stops_there shape bytes text line s here fed is = by_stop s is (there s is)
+  where
+    there : (s : Stop) → IsLineStop shape text s → IsSomeAnd (slice_get (lines_of bytes) (line - 1))
+        (λ text. (line ≤ lines_in bytes) × IsLineStop shape text s)
+    there s is =
+        subst (λ (o : Option (List ℕ)). IsSomeAnd o (λ text. (line ≤ lines_in bytes) × IsLineStop shape text s))
+        (sym here) (fed, is)
+
+    by_stop : (s : Stop) → IsLineStop shape text s → IsSomeAnd (slice_get (lines_of bytes) (line - 1))
+        (λ text. (line ≤ lines_in bytes) × IsLineStop shape text s) → IsStop shape bytes line s
+    by_stop stop.Short is all = absurd is
+    by_stop stop.Unfed is all = absurd is
+    by_stop s is all = all

@@ -10,9 +10,8 @@ use Rattle.nm_check_ranks.specs.declared.rest.clauses.RestClause.TheVariants.{Wa
 use Rattle.nm_check.specs.Against.{IsAgainst}
 use Rattle.nm_check.specs.Miscounts.{IsFirstCounted}
 use Rattle.nm_check.specs.Others.{IsOtherEvent}
-use Rattle.nm_check.specs.OwnFirsts.{IsBreachOf}
+use Rattle.nm_check.specs.Verdicts.{IsBreachOf, Judges}
 use Rattle.nm_check.specs.Places.{IsTold, events_in, told_of}
-use Rattle.nm_check.specs.Verdicts.{Judges}
 use Rattle.nm_check.specs.declared.verdicts.Verdict.{Verdict}
 use Rattle.nm_check.specs.declared.verdicts.Verdict.TheVariants as verdict
 use Rattle.nm_check.specs.declared.breaks.cells.CellCount.{CellCount}

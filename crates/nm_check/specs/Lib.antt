@@ -6,7 +6,6 @@ pub mod Judgements
 pub mod Lines
 pub mod Miscounts
 pub mod Others
-pub mod OwnFirsts
 pub mod Places
 pub mod Quotes
 pub mod Ranges

@@ -8,8 +8,7 @@ use Rattle.nm_report.specs.declared.records.RunRecord.{RunRecord}
 use Rattle.nm_check_ranks.specs.CarriedBreaks.{BreaksBetweenAt}
 use Rattle.nm_check_ranks.specs.RestBreaks.{BreaksThere, clause_of}
 use Rattle.nm_check_ranks.specs.Tabled.{EachTabled}
-use Rattle.nm_check.specs.OwnFirsts.{IsBreachOf}
-use Rattle.nm_check.specs.Verdicts.{BreaksOwn, Judges, RunsItsOwn}
+use Rattle.nm_check.specs.Verdicts.{IsBreachOf, BreaksOwn, Judges, RunsItsOwn}
 use Rattle.nm_check.specs.declared.judging.Tabled.{Tabled}
 use Rattle.nm_check.specs.declared.judging.Tabled.TheVariants as what
 use Rattle.nm_check.specs.declared.verdicts.Verdict.{Verdict}
@@ -27,7 +26,7 @@ IsRanked shape lines ranks (Breaks clause rank first) =
 
 -- the verdict of what breaks first where all ranks run their own commands
 abbrev pub verdict_of : Tabled → Verdict
-verdict_of (what.Carried pair) = Carried pair.broken.first.clause pair.from pair.broken.to
+verdict_of (what.Carried pair) = Carried pair.first.clause pair.from pair.to
 verdict_of (what.Rest first) = Rest (clause_of first)
 verdict_of what.Home = Home
 verdict_of what.Done = Done
@@ -36,7 +35,7 @@ verdict_of what.Holds = Holds
 -- it breaks there first
 abbrev pub BreaksAt : List Line → List Ended → Tabled → Type 0
 BreaksAt lines ranks (what.Carried pair) =
-    BreaksBetweenAt lines ranks pair.from pair.broken.to pair.broken.first.clause pair.broken.first.spot
+    BreaksBetweenAt lines ranks pair.from pair.to pair.first.clause pair.first.spot
 BreaksAt lines ranks (what.Rest first) = BreaksThere lines ranks first
 BreaksAt lines ranks _ = Unit {0}
 

@@ -12,10 +12,11 @@ use Rattle.nm_report.specs.Cells.{AllCellsFree}
 use Rattle.nm_report.specs.Ends.{are_done, ends_of, packets_of}
 use Rattle.nm_report.specs.Lawful.{IsRunIn}
 use Rattle.nm_check_rank.specs.FirstBroken.{IsFirstBroken}
+use Rattle.nm_check_rank.specs.OwnBreaks.{IsBreach}
 use Rattle.nm_check_rank.specs.OwnClauses.{KeepsOwn, own_order}
 use Rattle.nm_check_rank.specs.declared.clauses.OwnClause.{OwnClause}
-use Rattle.nm_check_ranks.specs.CarriedClauses.{KeepsCarried, PairDelivered, StandsBefore}
-use Rattle.nm_check_ranks.specs.CarriedClauses.{carried_order}
+use Rattle.nm_check_rank.specs.declared.paired.breaches.Breach.{Breach}
+use Rattle.nm_check_ranks.specs.CarriedClauses.{KeepsCarried, PairDelivered, StandsBefore, carried_order}
 use Rattle.nm_check_ranks.specs.declared.clauses.CarriedClause.{CarriedClause}
 use Rattle.nm_check_ranks.specs.RestClauses.{KeepsRest, rest_order}
 use Rattle.nm_check_ranks.specs.declared.rest.clauses.RestClause.{RestClause}
@@ -33,6 +34,11 @@ pub record BreaksOwn (shape : Sizes) (lines : List Line) (ranks : List Ended) (c
   pub first :
       IsSomeAnd (slice_get ranks i)
       (λ rank. IsFirstBroken (KeepsOwn shape (commands_of i lines) rank.at rank.events) own_order c)
+
+-- a rank breaks a rule of its own run first there
+abbrev pub IsBreachOf : Sizes → List Line → List Ended → ℕ → Breach → Type 0
+IsBreachOf shape lines ranks rank b =
+    IsSomeAnd (slice_get ranks rank) (λ e. IsBreach shape (commands_of rank lines) e.at e.events b)
 
 -- All ranks run their own commands, the messages of the pairs before this one are delivered, and of
 -- its rules this is the first that is broken.

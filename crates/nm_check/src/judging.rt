@@ -1,48 +1,28 @@
 //! The judge of a record.
 
-ghost use Rattle.std.specs.Prelude.{◌≡◌, ◌<◌, IfOk, List, MatchOption, length};
+ghost use Rattle.std.specs.Prelude.{◌≡◌, ◌<◌, IfOk, List, is_none, length};
+ghost use Rattle.std.specs.List.{list_all};
 ghost use Rattle.nm_types.specs.declared.scripts.Line as script_line;
-ghost use Rattle.nm_types.specs.Sizes.{Sizes};
-ghost use Rattle.nm_history.specs.Quiescence.{EachPair, EachRank};
+ghost use Rattle.nm_history.specs.Quiescence.{EachRank};
 ghost use Rattle.nm_history.specs.Run.{IsRunOf};
-ghost use Rattle.nm_report.specs.Ends.{ends_of, packets_of};
+ghost use Rattle.nm_report.specs.Cells.{AllCellsFree};
+ghost use Rattle.nm_report.specs.Ends.{are_done, ends_of, packets_of};
 ghost use Rattle.nm_report.specs.Lawful.{IsRunIn};
+ghost use Rattle.nm_lookups.specs.Deciding.{Decides};
 ghost use Rattle.nm_check.specs.declared.verdicts.Verdict.TheVariants.{Holds};
 ghost use Rattle.nm_check.specs.Ranked.{IsTabled, verdict_of as verdict_of_lem};
 ghost use Rattle.nm_check.specs.Verdicts.{Judges, RunsItsOwn};
-ghost use Rattle.nm_check_ranks.specs.CarriedClauses.{PairDelivered};
-ghost use Rattle.nm_check_ranks.specs.Marked.{BreaksPair};
 ghost use Rattle.nm_check_ranks.specs.Tabled.{EachTabled};
 
-use crate::ends::{are_home, is_marked};
 use crate::ranking::{Ranked, judge_ranks};
 use crate::verdicts::Verdict;
 use nm_check_rank::paired::tables::Tables;
 use nm_check_ranks::between::{BrokenPair, first_pair};
-use nm_check_ranks::marking::marks_of;
+use nm_check_ranks::firsts::marks_of;
 use nm_check_ranks::rest::resting::{RestBreak, first_of_rest};
 use nm_report::{RankAccount, RunRecord};
 use nm_types::{Line, Memory, Script};
 use std::alloc::Global;
-
-/// The first pair of ranks between which a rule is broken, where all run their own commands.
-fn judge_pairs(
-    alloc: Global,
-    lines: &[Line],
-    ranks: &[RankAccount],
-    tables: &[Tables],
-) -> Result<Option<BrokenPair>, Memory>
-    requires few { length ranks.now < 256 }
-    requires runs { (shape : Sizes) × EachRank (RunsItsOwn shape lines.now) (ends_of ranks.now) }
-    requires tabled { EachTabled lines.now (ends_of ranks.now) tables.now }
-    ensures { IfOk result (λ found. MatchOption found
-        (EachPair (PairDelivered lines.now) (ends_of ranks.now))
-        (λ pair. BreaksPair lines.now (ends_of ranks.now) pair.from pair.broken.to
-        pair.broken.first)) }
-{
-    let marks = marks_of(alloc, lines, ranks, tables)?;
-    Ok(first_pair(&marks))
-}
 
 /// What breaks first where all ranks run their own commands, and where.
 #[derive(Clone, Copy)]
@@ -60,9 +40,9 @@ fn verdict_of(found: Tabled) -> Verdict
 {
     match found {
         Tabled::Carried { pair } => Verdict::Carried {
-            clause: pair.broken.first.clause,
+            clause: pair.first.clause,
             from: pair.from,
-            to: pair.broken.to,
+            to: pair.to,
         },
         Tabled::Rest { first } => Verdict::Rest {
             clause: first.clause(),
@@ -71,6 +51,28 @@ fn verdict_of(found: Tabled) -> Verdict
         Tabled::Done => Verdict::Done,
         Tabled::Holds => Verdict::Holds,
     }
+}
+
+/// Whether the account has all cells of the run, each on its owner's free queue.
+fn are_home(run: &RunRecord) -> bool
+    ensures { Decides result (AllCellsFree run.now) }
+{
+    let all = u32::from(run.shape.ranks()) * u32::from(run.shape.cells());
+    run.cells.total == all && run.cells.home == run.cells.total
+}
+
+/// Whether every rank is at its end.
+fn are_all_done(ranks: &[RankAccount]) -> bool
+    ensures { result ≡ list_all (λ rank. is_none rank.waits) ranks.now }
+{
+    ranks.iter().all(|rank| rank.waits.is_none())
+}
+
+/// Whether the record is marked as done exactly where every rank is at its end.
+fn is_marked(run: &RunRecord) -> bool
+    ensures { Decides result (run.now.done ≡ are_done (ends_of run.now.ranks)) }
+{
+    run.done == are_all_done(run.ranks.as_slice())
 }
 
 /// What breaks in a record whose ranks make a run.
@@ -103,7 +105,8 @@ pub(crate) fn judge_tabled(
 {
     let lines = script.lines.as_slice();
     let ranks = run.ranks.as_slice();
-    if let Some(pair) = judge_pairs(alloc, lines, ranks, tables)? {
+    let marks = marks_of(alloc, lines, ranks, tables)?;
+    if let Some(pair) = first_pair(&marks) {
         return Ok(Tabled::Carried { pair });
     }
     if let Some(first) = first_of_rest(lines, ranks, run.pairs.as_slice(), tables) {

@@ -18,7 +18,6 @@
 #![tactic(auto)]
 
 pub mod breaks;
-mod ends;
 mod judging;
 mod ranking;
 pub mod texts;

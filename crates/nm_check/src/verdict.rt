@@ -22,7 +22,6 @@
 
 mod answers;
 mod called;
-mod counts;
 mod dues;
 mod events;
 pub mod laws;

@@ -12,9 +12,34 @@
 //! # What is only tested
 //! Nothing.
 
-mod lines;
-mod ranges;
-mod traces;
+ghost use Rattle.std.specs.Prelude.{◌≡◌, ◌+◌, ◌-◌, ◌≤◌, true, ℕ, List, slice_get};
+ghost use Rattle.nm_types.specs.declared.scripts.Line as script_line;
+ghost use Rattle.nm_script.specs.Lines.{lines_of};
+ghost use Rattle.nm_shell.specs.Inputs.{IsInput};
+ghost use Rattle.nm_report.specs.Lawful.{IsRunIn};
+ghost use Rattle.nm_report.specs.Report.{report_text};
+ghost use Rattle.nm_trace.specs.Traces.{IsTraceOf};
+ghost use Rattle.nm_check.specs.Stops.{lines_in};
 
-pub use lines::traces_stand_behind_scripts;
-pub use traces::traces_are_read;
+use crate::written::ranges::{cells_fit, pairs_fit, ranks_fit};
+use nm_report::RunRecord;
+
+mod ranges;
+
+/// A line of a trace, counted from 1, is the one that stands so far behind the lines of the script and
+/// the line `---`. So the two numbers of a line in a verdict name one line.
+pub fn traces_stand_behind_scripts()
+    ensures { (bytes front rest : List ℕ) (line : ℕ) → IsInput bytes front rest → 1 ≤ line →
+        slice_get (lines_of bytes) (lines_in front + line)
+        ≡ slice_get (lines_of rest) (line - 1) }
+{}
+
+/// The trace with the report of a record that is of a run of a script is one that is read.
+pub fn traces_are_read(run: &RunRecord)
+    ensures { (lines : List script_line.Line) → IsRunIn run.now.shape lines run.now →
+        IsTraceOf run.now.shape (report_text true run.now) run.now }
+{
+    ranks_fit(run.ranks.as_slice());
+    pairs_fit(run.pairs.as_slice());
+    cells_fit(run.cells);
+}

@@ -1,5 +1,7 @@
 -- The first rule of the messages between two ranks that is broken.
-use Rattle.std.proofs.Common.{◌+◌, ℕ, List, [], ◌∷◌}
+use Rattle.std.proofs.Common.{◌≡◌, ◌+◌, ℕ, List, ◌∷◌, ◌++◌}
+use Rattle.std.specs.List.{AllByRecursion}
+use Rattle.std.proofs.lemmas.List.Elements.{All-from_recursion}
 use Rattle.nm_types.specs.declared.scripts.Line.{Line}
 use Rattle.nm_types.specs.Commands.{commands_of}
 use Rattle.nm_history.specs.declared.events.Event.{Event}
@@ -8,9 +10,8 @@ use Rattle.nm_history.specs.Growing.{ArrivesNext}
 use Rattle.nm_history.specs.Quiescence.{Ended, history_of}
 use Rattle.nm_history.specs.Sends.{sends}
 use Rattle.nm_history.proofs.EachLemmas.{each_event}
-use Rattle.nm_check_rank.proofs.FirstBrokenLemmas.{first_broken, kept_none, kept_one}
 use Rattle.nm_check_ranks.specs.CarriedBreaks.{BreaksBetweenAt, read_of}
-use Rattle.nm_check_ranks.specs.CarriedClauses.{KeepsCarried}
+use Rattle.nm_check_ranks.specs.CarriedClauses.{KeepsCarried, carried_order}
 use Rattle.nm_check_ranks.specs.Marked.{IsBreak}
 use Rattle.nm_check_ranks.specs.declared.clauses.CarriedClause.{CarriedClause}
 use Rattle.nm_check_ranks.specs.declared.clauses.CarriedClause.TheVariants.{Messages, Bodies, Outs, Withdrawals}
@@ -52,38 +53,16 @@ module _ (lines : List Line) (ranks : List Ended) (i j : ℕ) where
       )
 
   -- the first of the rules, behind those that are kept
-  pub messages_break : (s : Spot) → BreaksBetweenAt lines ranks i j Messages s →
-      IsBreak lines ranks i j (record { clause = Messages; spot = s })
-  messages_break s breaks = record {
-    first = first_broken Keeps [] Messages (Bodies ∷ Outs ∷ Withdrawals ∷ []) (kept_none Keeps)
-        (not_kept Messages s breaks);
-    at = breaks;
-  }
-
-  pub bodies_break : (s : Spot) → Keeps Messages → BreaksBetweenAt lines ranks i j Bodies s →
-      IsBreak lines ranks i j (record { clause = Bodies; spot = s })
-  bodies_break s messages breaks = record {
-    first = first_broken Keeps (Messages ∷ []) Bodies (Outs ∷ Withdrawals ∷ [])
-        (kept_one Keeps Messages [] messages (kept_none Keeps)) (not_kept Bodies s breaks);
-    at = breaks;
-  }
-
-  pub outs_break : (s : Spot) → Keeps Messages → Keeps Bodies → BreaksBetweenAt lines ranks i j Outs s →
-      IsBreak lines ranks i j (record { clause = Outs; spot = s })
-  outs_break s messages bodies breaks = record {
-    first = first_broken Keeps (Messages ∷ Bodies ∷ []) Outs (Withdrawals ∷ [])
-        (kept_one Keeps Messages (Bodies ∷ []) messages (kept_one Keeps Bodies [] bodies (kept_none Keeps)))
-        (not_kept Outs s breaks);
-    at = breaks;
-  }
-
-  pub withdrawals_break : (s : Spot) → Keeps Messages → Keeps Bodies → Keeps Outs →
-      BreaksBetweenAt lines ranks i j Withdrawals s →
-      IsBreak lines ranks i j (record { clause = Withdrawals; spot = s })
-  withdrawals_break s messages bodies outs breaks = record {
-    first = first_broken Keeps (Messages ∷ Bodies ∷ Outs ∷ []) Withdrawals []
-        (kept_one Keeps Messages (Bodies ∷ Outs ∷ []) messages
-        (kept_one Keeps Bodies (Outs ∷ []) bodies (kept_one Keeps Outs [] outs (kept_none Keeps))))
-        (not_kept Withdrawals s breaks);
+  pub first_break : (earlier : List CarriedClause) (c : CarriedClause) (later : List CarriedClause) (spot : Spot) →
+      carried_order ≡ earlier ++ c ∷ later → AllByRecursion Keeps earlier → BreaksBetweenAt lines ranks i j c spot →
+      IsBreak lines ranks i j (record { clause = c; spot = spot })
+  first_break earlier c later spot split kept breaks = record {
+    first = record {
+      earlier = earlier;
+      later = later;
+      split = split;
+      kept = All-from_recursion Keeps earlier kept;
+      broken = not_kept c spot breaks;
+    };
     at = breaks;
   }

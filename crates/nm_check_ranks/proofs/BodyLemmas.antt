@@ -1,12 +1,11 @@
 -- What the answers of a rank show, by the sender of the message.
-use Rattle.std.proofs.Common.{◌≡◌, ℕ, ◌<◌, ◌==◌, Bool, not, cond, Option, Some, None, List, length, get_or, zero-add, refl}
+use Rattle.std.proofs.Common.{◌≡◌, ℕ, ◌<◌, Bool, not, cond, Option, Some, None, List, length, get_or, zero-add, refl}
 use Rattle.std.proofs.Common.{sym, ◌∙◌, ap, subst}
 use Rattle.std.specs.Prelude.{IfSome, IsSomeAnd, is_some, option_and_then}
-use Rattle.std.specs.List.{slice_get}
+use Rattle.std.specs.List.{slice_get, range_with_len}
 use Rattle.std.proofs.lemmas.List.{length-map}
 use Rattle.std.proofs.lemmas.List.FromFn.{get_or-map-range_with_len, length-range_with_len}
 use Rattle.std.proofs.lemmas.Option.{slice_get-get_or}
-use Rattle.std.specs.List.{range_with_len}
 use Rattle.nm_types.specs.Bodies.{bytes_of, generated_byte}
 use Rattle.nm_types.specs.declared.scripts.Body.TheVariants.{Gen}
 use Rattle.nm_types.specs.declared.answers.Answer.{Answer}
@@ -25,7 +24,7 @@ use Rattle.nm_check_rank.specs.declared.paired.dues.Due.TheVariants as due
 use Rattle.nm_check_rank.proofs.DifferLemmas.{differ_not}
 use Rattle.nm_check_ranks.specs.Bytes.{IsFirstOtherByte}
 use Rattle.nm_check_ranks.specs.Marked.{Names}
-use Rattle.nm_check_ranks.proofs.MarkLemmas.{names_one, not_asked, on_itself}
+use Rattle.nm_check_ranks.proofs.MarkLemmas.{names_on}
 
 module _ (lines : List Line) (history : ℕ → List Event) (j : ℕ) (before : List Event) where
   abbrev pub Shows : Happened → ℕ → Type 0
@@ -38,14 +37,8 @@ module _ (lines : List Line) (history : ℕ → List Event) (j : ℕ) (before : 
       Names (λ i. ShowsBytes i (commands_of i lines) (sends (history i) j) body pair)
       (cond r None (Some pair.arrival.env.from))
   shown_names body pair r right =
-      names_one (λ i. ShowsBytes i (commands_of i lines) (sends (history i) j) body pair) pair.arrival.env.from r
-      (λ i apart. not_asked (pair.arrival.env.from == i)
-      (IsSomeAnd (slice_get (sends (history i) j) pair.arrival.n)
-      (λ s. IsSomeAnd (command_at (commands_of i lines) s.line) (λ c. body ≡ sent_bytes c))) apart)
-      (on_itself pair.arrival.env.from
-      (IsSomeAnd (slice_get (sends (history pair.arrival.env.from) j) pair.arrival.n)
-      (λ s. IsSomeAnd (command_at (commands_of pair.arrival.env.from lines) s.line) (λ c. body ≡ sent_bytes c))) r
-      right)
+      names_on pair.arrival.env.from (λ i. IsSomeAnd (slice_get (sends (history i) j) pair.arrival.n)
+      (λ s. IsSomeAnd (command_at (commands_of i lines) s.line) (λ c. body ≡ sent_bytes c))) r right
 
   -- a result with bytes, by the pair that was asked for
   pub got_names : (line source tag : ℕ) (body : List ℕ) (pair : Pair) (named : Option ℕ) →
@@ -64,14 +57,7 @@ module _ (lines : List Line) (history : ℕ → List Event) (j : ℕ) (before : 
       subst (λ (o : Option Pair). Names
       (λ i. IfSome o (ShowsBytes i (commands_of i lines) (sends (history i) j) body)) None) is (λ i. tt)
 
-  -- another answer shows no bytes
-  pub no_bytes_named : (line : ℕ) (a : Answer) →
-      ((source tag : ℕ) (body : List ℕ) → a ≡ answer.Got source tag body → ⊥) →
-      Names (Shows (Ran line a)) None
-  no_bytes_named line (answer.Got source tag body) not = absurd (not source tag body refl)
-  no_bytes_named line a not = λ i. tt
-
-  -- .. nor does another event
+  -- another event shows no bytes
   pub no_answer_named : (what : Happened) → ((line : ℕ) (a : Answer) → what ≡ Ran line a → ⊥) → Names (Shows what) None
   no_answer_named (Ran line a) not = absurd (not line a refl)
   no_answer_named what not = λ i. tt

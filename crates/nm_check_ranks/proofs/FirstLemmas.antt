@@ -6,8 +6,7 @@ use Rattle.nm_types.specs.declared.scripts.Line.{Line}
 use Rattle.nm_types.specs.Commands.{commands_of}
 use Rattle.nm_history.specs.declared.events.Event.{Event}
 use Rattle.nm_history.specs.AtEach.{AtEach}
-use Rattle.nm_history.specs.Delivery.{ArriveInOrder, BodyAt, OutAfterPair, UndoneAfterWithdraw}
-use Rattle.nm_history.specs.Delivery.{WithdrawAfterRecall}
+use Rattle.nm_history.specs.Delivery.{ArriveInOrder, BodyAt, OutAfterPair, UndoneAfterWithdraw, WithdrawAfterRecall}
 use Rattle.nm_history.specs.Quiescence.{Ended, history_of}
 use Rattle.nm_history.specs.RankRun.{Always}
 use Rattle.nm_history.specs.Sends.{arrivals, sends}

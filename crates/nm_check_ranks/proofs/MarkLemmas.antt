@@ -57,7 +57,7 @@ pub at_each_event : (R : ℕ → Happened → Type 0) (h : List Event) → EachE
 unfolding AtEach
 at_each_event R h each = at_each_after R [] h each
 
-decides_itself : (r : Bool) → Decides r (IsTrue r)
+pub decides_itself : (r : Bool) → Decides r (IsTrue r)
 decides_itself true = refl
 decides_itself false = λ same. false≢true same
 
@@ -75,11 +75,15 @@ names_one Keeps a false others here i = by_rank (a == i) refl
     by_rank true same = subst (λ (k : ℕ). Keeps k → ⊥) (same_number a i same) here
     by_rank false apart = others i apart
 
-pub on_itself : (a : ℕ) (P : Type 0) (r : Bool) → Decides r P → Decides r (OnTrue (a == a) P)
-on_itself a P r right = subst (λ (b : Bool). Decides r (OnTrue b P)) (sym (eqb_self a)) right
-
 pub not_asked : (b : Bool) (P : Type 0) → b ≡ false → OnTrue b P
 not_asked b P other = subst (λ (b : Bool). OnTrue b P) (sym other) tt
+
+-- .. which is asked of it alone
+pub names_on : (a : ℕ) (P : ℕ → Type 0) (r : Bool) → Decides r (P a) →
+    Names (λ i. OnTrue (a == i) (P i)) (cond r None (Some a))
+names_on a P r right =
+    names_one (λ i. OnTrue (a == i) (P i)) a r (λ i apart. not_asked (a == i) (P i) apart)
+    (subst (λ (b : Bool). Decides r (OnTrue b (P a))) (sym (eqb_self a)) right)
 
 -- an arrival, by whether it was sent
 pub arrival_names : (j n stamp : ℕ) (history : ℕ → List Event) (before : List Event) (a : Arrival) (r : Bool) →
@@ -88,14 +92,10 @@ pub arrival_names : (j n stamp : ℕ) (history : ℕ → List Event) (before : L
     (λ s. (a.env ≡ envelope a.env.from s) × (s.stamp < stamp))) →
     Names (λ i. ArrivesNext i j (history i) before stamp (happening.Arrive a)) (cond r None (Some a.env.from))
 arrival_names j n stamp history before a r number right =
-    names_one (λ i. ArrivesNext i j (history i) before stamp (happening.Arrive a)) a.env.from r
-    (λ i apart. not_asked (a.env.from == i) (IsSomeAnd (slice_get (sends (history i) j) (length (arrivals before i)))
-    (λ s. (a.env ≡ envelope i s) × (s.stamp < stamp))) apart)
-    (on_itself a.env.from (IsSomeAnd (slice_get (sends (history a.env.from) j) (length (arrivals before a.env.from)))
-    (λ s. (a.env ≡ envelope a.env.from s) × (s.stamp < stamp))) r
-    (subst (λ (k : ℕ). Decides r
-    (IsSomeAnd (slice_get (sends (history a.env.from) j) k)
-    (λ s. (a.env ≡ envelope a.env.from s) × (s.stamp < stamp)))) number.1 right))
+    names_on a.env.from (λ i. IsSomeAnd (slice_get (sends (history i) j) (length (arrivals before i)))
+    (λ s. (a.env ≡ envelope i s) × (s.stamp < stamp))) r
+    (subst (λ (k : ℕ). Decides r (IsSomeAnd (slice_get (sends (history a.env.from) j) k)
+    (λ s. (a.env ≡ envelope a.env.from s) × (s.stamp < stamp)))) number.1 right)
 
 pub no_arrival_names : (j stamp : ℕ) (history : ℕ → List Event) (before : List Event) (what : Happened) →
     ((a : Arrival) → what ≡ happening.Arrive a → ⊥) →
@@ -108,10 +108,8 @@ pub withdrawal_names : (j stamp : ℕ) (history : ℕ → List Event) (from n : 
     r ≡ happened (is_recall j n) (earlier_than stamp (history from)) →
     Names (λ i. WithdrawAfterRecall i j (history i) stamp (happening.Withdraw from n done)) (cond r None (Some from))
 withdrawal_names j stamp history from n done r is =
-    names_one (λ i. WithdrawAfterRecall i j (history i) stamp (happening.Withdraw from n done)) from r
-    (λ i apart. not_asked (from == i) (IsTrue (happened (is_recall j n) (earlier_than stamp (history i)))) apart)
-    (on_itself from (IsTrue (happened (is_recall j n) (earlier_than stamp (history from)))) r
-    (subst (λ (b : Bool). Decides r (IsTrue b)) is (decides_itself r)))
+    names_on from (λ i. IsTrue (happened (is_recall j n) (earlier_than stamp (history i)))) r
+    (subst (λ (b : Bool). Decides r (IsTrue b)) is (decides_itself r))
 
 pub no_withdrawal_names : (j stamp : ℕ) (history : ℕ → List Event) (what : Happened) →
     ((from n : ℕ) (done : Bool) → what ≡ happening.Withdraw from n done → ⊥) →
@@ -124,10 +122,8 @@ pub answer_names : (i stamp : ℕ) (history : ℕ → List Event) (to n : ℕ) (
     r ≡ happened (is_withdraw i n done) (earlier_than stamp (history to)) →
     Names (λ j. UndoneAfterWithdraw i j (history j) stamp (happening.Undone to n done)) (cond r None (Some to))
 answer_names i stamp history to n done r is =
-    names_one (λ j. UndoneAfterWithdraw i j (history j) stamp (happening.Undone to n done)) to r
-    (λ j apart. not_asked (to == j) (IsTrue (happened (is_withdraw i n done) (earlier_than stamp (history j)))) apart)
-    (on_itself to (IsTrue (happened (is_withdraw i n done) (earlier_than stamp (history to)))) r
-    (subst (λ (b : Bool). Decides r (IsTrue b)) is (decides_itself r)))
+    names_on to (λ j. IsTrue (happened (is_withdraw i n done) (earlier_than stamp (history j)))) r
+    (subst (λ (b : Bool). Decides r (IsTrue b)) is (decides_itself r))
 
 pub no_answer_names : (i stamp : ℕ) (history : ℕ → List Event) (what : Happened) →
     ((to n : ℕ) (done : Bool) → what ≡ happening.Undone to n done → ⊥) →

@@ -1,6 +1,6 @@
 -- What holds of each send to each rank, by the events of the sender.
 use Rattle.std.proofs.Common.{◌≡◌, ℕ, ◌==◌, ◌&&◌, Bool, true, false, not, cond, Option, Some, None, List, [], ◌∷◌}
-use Rattle.std.proofs.Common.{refl, subst}
+use Rattle.std.proofs.Common.{refl, sym, subst}
 use Rattle.std.specs.Prelude.{IfSome, IsTrue, filter_map}
 use Rattle.std.specs.Bool.{OnTrue}
 use Rattle.std.specs.List.{AllByRecursion, cons_option, filter, slice_get}
@@ -14,7 +14,8 @@ use Rattle.nm_history.specs.Quiescence.{EachRank, Ended, is_kept_back, is_over}
 use Rattle.nm_history.specs.Sends.{Sent, is_ask, sends, sent_of}
 use Rattle.nm_history.proofs.OnceLemmas.{eqb_self}
 use Rattle.nm_lookups.specs.Deciding.{Decides}
-use Rattle.nm_check_ranks.specs.Over.{AskedIsOver, SendKeeps}
+use Rattle.nm_check_ranks.specs.declared.rest.firsts.EventRule.TheVariants.{Asked}
+use Rattle.nm_check_ranks.specs.RestBreaks.{KeepsSend, SendKeeps}
 use Rattle.nm_types.proofs.NumberLemmas.{same_number}
 
 module _ (P : ℕ → List Event → Sent → Type 0) (ranks : List Ended) where
@@ -105,21 +106,20 @@ no_send P ranks stamp (Send to n tag ctx len how line) not = absurd (not to n ta
 no_send P ranks stamp what not = tt
 
 -- a message that was sent by asking is over or kept back, by what was looked up
-pub asked_decided : (i : ℕ) (hi : List Event) (j : ℕ) (hj : List Event) (s : Sent)
-    (r asked taken claimed over kept : Bool) →
-    asked ≡ is_ask s.how → taken ≡ is_taken hj i s.n → claimed ≡ happened (is_claim i s.n) hj →
-    over ≡ is_over i j hi hj s.n →
-    kept ≡ is_kept_back i j hi hj s.n →
-    Decides r (OnTrue (asked && taken) (IsTrue over) × OnTrue (asked && (claimed && not taken)) (IsTrue kept)) →
-    Decides r (AskedIsOver i hi j hj s)
-asked_decided i hi j hj s r asked taken claimed over kept a t c o k right =
-    subst (λ (x : Bool). Decides r (OnTrue (x && is_taken hj i s.n) (IsTrue (is_over i j hi hj s.n))
-    × OnTrue (x && (happened (is_claim i s.n) hj && not (is_taken hj i s.n))) (IsTrue (is_kept_back i j hi hj s.n)))) a
-    (subst (λ (x : Bool). Decides r (OnTrue (asked && x) (IsTrue (is_over i j hi hj s.n))
-    × OnTrue (asked && (happened (is_claim i s.n) hj && not x)) (IsTrue (is_kept_back i j hi hj s.n)))) t
-    (subst (λ (x : Bool). Decides r (OnTrue (asked && taken) (IsTrue (is_over i j hi hj s.n))
-    × OnTrue (asked && (x && not taken)) (IsTrue (is_kept_back i j hi hj s.n)))) c
-    (subst (λ (x : Bool). Decides r (OnTrue (asked && taken) (IsTrue x)
-    × OnTrue (asked && (claimed && not taken)) (IsTrue (is_kept_back i j hi hj s.n)))) o
-    (subst (λ (x : Bool). Decides r (OnTrue (asked && taken) (IsTrue over) × OnTrue (asked && (claimed && not taken))
-    (IsTrue x))) k right))))
+pub asked_decided : (i : ℕ) (hi : List Event) (j : ℕ) (hj : List Event) (n : ℕ) (how : How)
+    (r taken claimed over kept : Bool) →
+    is_ask how ≡ true → taken ≡ is_taken hj i n → claimed ≡ happened (is_claim i n) hj → over ≡ is_over i j hi hj n →
+    kept ≡ is_kept_back i j hi hj n →
+    Decides r (OnTrue taken (IsTrue over) × OnTrue (claimed && not taken) (IsTrue kept)) →
+    Decides r (KeepsSend Asked i hi j hj n how)
+asked_decided i hi j hj n how r taken claimed over kept a t c o k right =
+    subst (λ (x : Bool). Decides r (OnTrue (x && is_taken hj i n) (IsTrue (is_over i j hi hj n))
+    × OnTrue (x && (happened (is_claim i n) hj && not (is_taken hj i n))) (IsTrue (is_kept_back i j hi hj n)))) (sym a)
+    (subst (λ (x : Bool). Decides r (OnTrue x (IsTrue (is_over i j hi hj n))
+    × OnTrue (happened (is_claim i n) hj && not x) (IsTrue (is_kept_back i j hi hj n)))) t
+    (subst (λ (x : Bool). Decides r (OnTrue taken (IsTrue (is_over i j hi hj n))
+    × OnTrue (x && not taken) (IsTrue (is_kept_back i j hi hj n)))) c
+    (subst (λ (x : Bool). Decides r (OnTrue taken (IsTrue x)
+    × OnTrue (claimed && not taken) (IsTrue (is_kept_back i j hi hj n)))) o
+    (subst (λ (x : Bool). Decides r (OnTrue taken (IsTrue over) × OnTrue (claimed && not taken) (IsTrue x))) k
+    right))))

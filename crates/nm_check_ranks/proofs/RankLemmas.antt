@@ -43,9 +43,6 @@ module _ (R : ℕ → Ended → Type 0) (ranks : List Ended) where
       by_rank None before = tt
       by_rank (Some rank) before = before
 
-  pub one_breaks : (i : ℕ) → (IfSome (slice_get ranks i) (R i) → ⊥) → EachRank R ranks → ⊥
-  one_breaks i broken each = broken (each i)
-
 module _ (R : ℕ → Ended → Type 0) (ranks : List RankAccount) where
   -- the same for ranks with their accounts
   pub next_rank : (i : ℕ) (a : RankAccount) → i < length ranks → a ≡ get_or ranks i a → UpTo R (ends_of ranks) i →
@@ -62,7 +59,3 @@ module _ (R : ℕ → Ended → Type 0) (ranks : List RankAccount) where
   pub of_rank : (i : ℕ) (a : RankAccount) → i < length ranks → a ≡ get_or ranks i a → EachRank R (ends_of ranks) →
       R i (end_of_account a)
   of_rank i a inside is each = subst (λ (o : Option Ended). IfSome o (R i)) (end_at ranks i a inside is) (each i)
-
-  pub rank_breaks : (i : ℕ) (a : RankAccount) → i < length ranks → a ≡ get_or ranks i a →
-      (R i (end_of_account a) → ⊥) → EachRank R (ends_of ranks) → ⊥
-  rank_breaks i a inside is broken each = broken (of_rank i a inside is each)

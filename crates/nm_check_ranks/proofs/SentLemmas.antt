@@ -5,6 +5,7 @@ use Rattle.std.proofs.Common.{append_assoc, append-nil}
 use Rattle.std.specs.Prelude.{IsSomeAnd, filter_map, nat_lt, position}
 use Rattle.std.specs.List.{cons_option, filter, list_any, slice_get}
 use Rattle.std.specs.Bool.{OnTrue}
+use Rattle.std.proofs.lemmas.Bool.{ltb-false, ltb-true}
 use Rattle.std.proofs.lemmas.Bool.Decides.{nat_tests}
 use Rattle.std.proofs.lemmas.List.Elements.{filter_map-append, filter-append}
 use Rattle.std.proofs.lemmas.List.Quantifiers.{position-Some}
@@ -24,7 +25,7 @@ use Rattle.nm_lookups.specs.Deciding.{Decides}
 use Rattle.nm_history.proofs.AtEachLemmas.{AtEach-split}
 use Rattle.nm_history.proofs.OnceLemmas.{arrivals-push}
 use Rattle.nm_check_rank.proofs.CountLemmas.{sends_count, sends_same}
-use Rattle.nm_types.proofs.NumberLemmas.{same_number}
+use Rattle.nm_types.proofs.NumberLemmas.{differ, same_number}
 use Rattle.nm_types.proofs.TruthLemmas.{not_left, and_left, and_right}
 use Rattle.nm_types.proofs.ListLemmas.{split_at, get_behind as behind}
 
@@ -221,15 +222,6 @@ module _ (i j : ℕ) (hi : List Event) where
   unfolding AtEach
   each_next hj right = each_arrives [] hj right
 
-apart : (m n : ℕ) → (m == n) ≡ false → m ≡ n → ⊥
-apart m n other same = let equal : (m == n) ≡ true = grind (arith, nat_tests) in cc
-
-not_low : (m n : ℕ) → nat_lt m n ≡ false → m < n → ⊥
-not_low m n other low = let less : nat_lt m n ≡ true = grind (arith, nat_tests) in cc
-
-is_low : (m n : ℕ) → nat_lt m n ≡ true → m < n
-is_low m n low = grind (arith, nat_tests)
-
 -- an envelope is that of a send with a smaller stamp
 pub sent_as : (env : Envelope) (tag ctx len : ℕ) (how : How) (s stamp : ℕ) (same_how r : Bool) →
     Decides same_how (env.how ≡ how) →
@@ -248,12 +240,15 @@ sent_as env tag ctx len how s stamp same_how r right is =
         let tags : env.tag ≡ tag = same_number env.tag tag a in
         let ctxs : env.ctx ≡ ctx = same_number env.ctx ctx b in
         let lens : env.len ≡ len = same_number env.len len c in
-        (λ i. record { from = env.from; tag = tags i; ctx = ctxs i; len = lens i; how = d i }, is_low s stamp e)
-    by_parts false x y z w a b c d e = λ right. apart env.tag tag a (ap (λ (v : Envelope). v.tag) right.0)
-    by_parts true false y z w a b c d e = λ right. apart env.ctx ctx b (ap (λ (v : Envelope). v.ctx) right.0)
-    by_parts true true false z w a b c d e = λ right. apart env.len len c (ap (λ (v : Envelope). v.len) right.0)
+        (λ i. record { from = env.from; tag = tags i; ctx = ctxs i; len = lens i; how = d i }, ltb-true s stamp e)
+    by_parts false x y z w a b c d e = λ right. differ env.tag tag a (sym (ap (λ (v : Envelope). v.tag) right.0))
+    by_parts true false y z w a b c d e = λ right. differ env.ctx ctx b (sym (ap (λ (v : Envelope). v.ctx) right.0))
+    by_parts true true false z w a b c d e = λ right. differ env.len len c (sym (ap (λ (v : Envelope). v.len) right.0))
     by_parts true true true false w a b c d e = λ right. d (ap (λ (v : Envelope). v.how) right.0)
-    by_parts true true true true false a b c d e = λ right. not_low s stamp e right.1
+    by_parts true true true true false a b c d e = λ right.
+        let high = ltb-false s stamp e in
+        let low = right.1 in
+        omega (arith, high, low)
 
 -- an event that is no send is none of an envelope
 pub no_send_of : (stamp : ℕ) (what : Happened) (P : Sent → Type 0) →

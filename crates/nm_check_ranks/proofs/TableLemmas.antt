@@ -1,11 +1,9 @@
 -- The tables of each rank.
 use Rattle.std.proofs.Common.{◌≡◌, ℕ, ◌<◌, ◌≤◌, Option, Some, None, List, [], length, get_or, sym, ap, subst, arith}
-use Rattle.std.specs.Prelude.{IfSome, IsSomeAnd}
+use Rattle.std.specs.Prelude.{IfSome, IsSomeAnd, Bool}
 use Rattle.std.specs.List.{slice_get}
 use Rattle.std.specs.Option.{option_map_or}
 use Rattle.std.proofs.lemmas.List.{length-map}
-use Rattle.std.proofs.lemmas.Option.{MatchOption-from_none, slice_get_past}
-use Rattle.std.specs.Prelude.{Bool}
 use Rattle.nm_types.specs.declared.scripts.Line.{Line}
 use Rattle.nm_types.proofs.ListLemmas.{get_some}
 use Rattle.nm_history.specs.declared.events.Event.{Event}
@@ -15,10 +13,11 @@ use Rattle.nm_report.specs.Ends.{end_of_account, ends_of}
 use Rattle.nm_report.proofs.EndLemmas.{end_at}
 use Rattle.nm_lookups.specs.Deciding.{Decides}
 use Rattle.nm_check_rank.specs.Tabled.{AreRankTables}
+use Rattle.nm_check_ranks.specs.Marked.{AreLooked, IsOwn, KeepsLocal}
 use Rattle.nm_check_ranks.specs.Tabled.{AreTabled}
 use Rattle.nm_check_ranks.specs.declared.marks.Marks.{Marks}
 use Rattle.nm_check_rank.specs.declared.paired.tables.Tables.{Tables}
-use Rattle.nm_check_ranks.proofs.RankLemmas.{no_end}
+use Rattle.nm_check_ranks.proofs.RankLemmas.{no_end, of_rank}
 
 -- there are as many tables as ranks
 pub table_inside : (ranks : List RankAccount) (tables : List Tables) (i : ℕ) → AreTabled (ends_of ranks) tables →
@@ -43,22 +42,25 @@ pub history_at : (ranks : List RankAccount) (i : ℕ) (a : RankAccount) → i < 
 history_at ranks i a inside is = ap (λ (o : Option Ended). option_map_or (λ rank. rank.events) o [])
     (end_at ranks i a inside is)
 
+-- its numbers and stamps, and its tables
+pub own_at : (lines : List Line) (ranks : List RankAccount) (tables : List Tables) (i : ℕ) (a : RankAccount)
+    (t : Tables) → AreLooked lines (ends_of ranks) tables → i < length ranks → a ≡ get_or ranks i a →
+    t ≡ get_or tables i t → IsOwn lines (ends_of ranks) i a.history.events t
+own_at lines ranks tables i a t looked inside is its =
+    let keeps = of_rank KeepsLocal ranks i a inside is looked.lawful in
+    let same : length (ends_of ranks) ≡ length ranks = length-map ranks end_of_account in
+    record {
+      inside = omega (arith, same, inside);
+      history = history_at ranks i a inside is;
+      many = keeps.ranks;
+      numbers = keeps.numbers;
+      stamps = keeps.stamps;
+      tabled = tables_at ranks tables i a t (lines, looked.tabled) inside is its;
+    }
+
 -- there is none behind the last
 pub no_history : (ranks : List RankAccount) (i : ℕ) → length ranks ≤ i → history_of (ends_of ranks) i ≡ []
 no_history ranks i over = ap (λ (o : Option Ended). option_map_or (λ rank. rank.events) o []) (no_end ranks i over)
-
--- what is decided for the rank that there is
-pub decided_at : {X : Type 0} (r : Bool) (A Q : X → Type 0) (o : Option X) → IsSomeAnd o A →
-    ((x : X) → A x → Decides r (Q x)) → Decides r (IfSome o Q)
-decided_at r A Q None there f = absurd there
-decided_at r A Q (Some x) there f = f x there
-
--- nothing is asked of a rank behind the last
-pub none_asked : (ranks : List Ended) (tables : List Tables) (i : ℕ) (Q : Ended → Type 0) → AreTabled ranks tables →
-    length tables ≤ i → IfSome (slice_get ranks i) Q
-none_asked ranks tables i Q tabled over =
-    let many : length tables ≡ length ranks = tabled.1.as_many in
-    MatchOption-from_none (slice_get ranks i) Q (slice_get_past ranks i (omega (arith, many, over)))
 
 -- what is so of the history of the rank that there is
 pub some_history : (ranks : List Ended) (i : ℕ) (Q : List Event → Type 0) → Q (history_of ranks i) →
@@ -75,6 +77,14 @@ its_history ranks i Q inside here =
     let own = get_some ranks i inside in
     subst (λ (o : Option Ended). IsSomeAnd o (λ rank. Q rank.events)) (sym own.1)
     (subst Q (ap (λ (o : Option Ended). option_map_or (λ rank. rank.events) o []) own.1) here)
+
+pub history_decided : (ranks : List Ended) (i : ℕ) (r : Bool) (Q : List Event → Type 0) → i < length ranks →
+    Decides r (Q (history_of ranks i)) → Decides r (IfSome (slice_get ranks i) (λ rank. Q rank.events))
+history_decided ranks i r Q inside here =
+    let own = get_some ranks i inside in
+    subst (λ (o : Option Ended). Decides r (IfSome o (λ rank. Q rank.events))) (sym own.1)
+    (subst (λ (h : List Event). Decides r (Q h)) (ap (λ (o : Option Ended). option_map_or (λ rank. rank.events) o [])
+    own.1) here)
 
 -- no marks: what stands for those of a rank that there is not
 abbrev pub blank : Marks

@@ -8,15 +8,18 @@ use Rattle.nm_history.specs.declared.events.Event.{Event}
 use Rattle.nm_history.specs.AtEach.{AtEach}
 use Rattle.nm_history.specs.Quiescence.{EachPair, EachRank, Ended, history_of}
 use Rattle.nm_history.specs.RankRun.{Always, NumberAt, StampAt}
+use Rattle.nm_history.specs.Sends.{Sent, sent_of}
 use Rattle.nm_check_rank.specs.Breaks.{BreaksFirstAt}
 use Rattle.nm_check_rank.specs.FirstBroken.{IsFirstBroken}
+use Rattle.nm_check_rank.specs.Tabled.{AreRankTables}
+use Rattle.nm_check_rank.specs.declared.paired.tables.Tables.{Tables}
 use Rattle.nm_check_ranks.specs.CarriedBreaks.{BreaksBetweenAt, PartAt}
-use Rattle.nm_check_ranks.specs.CarriedClauses.{KeepsCarried, PairDelivered, StandsBefore}
-use Rattle.nm_check_ranks.specs.CarriedClauses.{carried_order}
+use Rattle.nm_check_ranks.specs.CarriedClauses.{KeepsCarried, PairDelivered, StandsBefore, carried_order}
 use Rattle.nm_check_ranks.specs.declared.between.Break.{Break}
 use Rattle.nm_check_ranks.specs.declared.firsts.Part.{Part}
 use Rattle.nm_check_ranks.specs.declared.firsts.Part.TheVariants as part
 use Rattle.nm_check_ranks.specs.declared.marks.Marks.{Marks}
+use Rattle.nm_check_ranks.specs.Tabled.{EachTabled}
 
 -- it is this rank
 abbrev pub is_rank : Option ℕ → ℕ → Bool
@@ -43,6 +46,24 @@ pub record KeepsLocal (i : ℕ) (rank : Ended) : Type 0 where
   pub ranks : ℕ
   pub numbers : Always (NumberAt ranks) rank.events
   pub stamps : AtEach (λ before e. StampAt before e.stamp) rank.events
+
+-- .. of all ranks, of which these are the tables
+pub record AreLooked (lines : List Line) (ranks : List Ended) (tables : List Tables) : Type 0 where
+  pub lawful : EachRank KeepsLocal ranks
+  pub tabled : EachTabled lines ranks tables
+
+-- the history of rank i, and its tables
+pub record IsOwn (lines : List Line) (ranks : List Ended) (i : ℕ) (h : List Event) (own : Tables) : Type 0 where
+  pub inside : i < length ranks
+  pub history : history_of ranks i ≡ h
+  pub many : ℕ
+  pub numbers : Always (NumberAt many) h
+  pub stamps : AtEach (λ before e. StampAt before e.stamp) h
+  pub tabled : AreRankTables i lines h own
+
+-- the event with which message n was sent, if it was
+abbrev pub IsSendIn : List Sent → ℕ → Option Event → Type 0
+IsSendIn ss n found = MatchOption found (slice_get ss n ≡ None) (λ e. slice_get ss n ≡ sent_of e.stamp e.what)
 
 -- the places for a part of the rules
 abbrev pub places_of : Part → Marks → List (Option ℕ)

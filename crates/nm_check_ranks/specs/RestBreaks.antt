@@ -1,5 +1,7 @@
 -- The first event at which a rule of rest breaks that is asked of each event: of each send and each recall.
-use Rattle.std.specs.Prelude.{◌≡◌, ℕ, ◌<◌, None, IsSomeAnd, List, slice_get}
+use Rattle.std.specs.Prelude.{◌≡◌, ℕ, ◌<◌, ◌&&◌, not, None, IfSome, IsSomeAnd, IsTrue, List, slice_get}
+use Rattle.std.specs.Bool.{OnTrue}
+use Rattle.nm_types.specs.declared.messages.How.{How}
 use Rattle.nm_history.specs.declared.events.Event.{Event}
 use Rattle.nm_history.specs.declared.events.Happened.{Happened}
 use Rattle.nm_history.specs.AtEach.{AtEach}
@@ -7,13 +9,15 @@ use Rattle.nm_types.specs.declared.scripts.Line.{Line}
 use Rattle.nm_types.specs.Commands.{Numbered, commands_of}
 use Rattle.nm_history.specs.Answers.{can_go_on}
 use Rattle.nm_history.specs.Delivery.{ArriveInOrder}
-use Rattle.nm_history.specs.Quiescence.{EachPair, EachRank, Ended, IsAnswered, IsStopped, Packets}
-use Rattle.nm_history.specs.Sends.{arrivals, sends}
+use Rattle.nm_history.specs.Quiescence.{EachPair, EachRank, Ended, IsAnswered, IsStopped, Packets, is_kept_back, is_over}
+use Rattle.nm_history.specs.Sends.{Sent, arrivals, is_ask, sends, sent_of}
+use Rattle.nm_history.specs.Completion.{is_taken}
+use Rattle.nm_history.specs.Happens.{happened, is_arrival}
+use Rattle.nm_history.specs.Matching.{is_claimed, matched_pairs}
 use Rattle.nm_check_rank.specs.Breaks.{BreaksFirstAt}
 use Rattle.nm_check_rank.specs.FirstBroken.{IsFirstBroken}
 use Rattle.nm_check_ranks.specs.declared.firsts.Spot.{Spot}
 use Rattle.nm_check_ranks.specs.Marked.{KeepsLocal}
-use Rattle.nm_check_ranks.specs.Over.{AskedIsOver, EagerIsOver, HasCome, SendKeeps}
 use Rattle.nm_check_ranks.specs.declared.rest.clauses.RestClause.{RestClause}
 use Rattle.nm_check_ranks.specs.declared.rest.clauses.RestClause.TheVariants as rest
 use Rattle.nm_check_ranks.specs.declared.rest.firsts.EventRule.{EventRule}
@@ -24,12 +28,25 @@ use Rattle.nm_check_ranks.specs.declared.rest.resting.RestBreak.{RestBreak}
 use Rattle.nm_check_ranks.specs.declared.rest.resting.RestBreak.TheVariants as kind
 use Rattle.nm_check_ranks.specs.RestClauses.{KeepsRest, rest_order}
 
+-- what happened is no send to one of the ranks, or one that keeps this rule with its receiver
+abbrev pub SendKeeps : (ℕ → List Event → Sent → Type 0) → List Ended → ℕ → Happened → Type 0
+SendKeeps P ranks stamp what =
+    IfSome (sent_of stamp what) (λ s. IfSome (slice_get ranks s.to) (λ rank. P s.to rank.events s))
+
+-- what the send of message n of rank i to rank j keeps of a rule of rest: it has come, it is over where it is eager,
+-- and where it was sent by asking it is over if it is paired, and kept back if it is claimed and not received
+abbrev pub KeepsSend : EventRule → ℕ → List Event → ℕ → List Event → ℕ → How → Type 0
+KeepsSend rule.Arrived i hi j hj n how = IsTrue (happened (is_arrival i n) hj)
+KeepsSend rule.Eager i hi j hj n how = OnTrue (not (is_ask how)) (IsTrue (is_over i j hi hj n))
+KeepsSend rule.Asked i hi j hj n how =
+    OnTrue (is_ask how && is_taken hj i n) (IsTrue (is_over i j hi hj n))
+    × OnTrue (is_ask how && is_claimed hj (matched_pairs hj) i n) (IsTrue (is_kept_back i j hi hj n))
+KeepsSend rule.Recalls i hi j hj n how = Unit {0}
+
 -- what an event of rank x keeps of such a rule, by all that the rank did and all that the other ones did
 abbrev pub RestAt : EventRule → List Ended → ℕ → List Event → ℕ → Happened → Type 0
-RestAt rule.Arrived ranks x h stamp what = SendKeeps (HasCome x) ranks stamp what
-RestAt rule.Eager ranks x h stamp what = SendKeeps (EagerIsOver x h) ranks stamp what
-RestAt rule.Asked ranks x h stamp what = SendKeeps (AskedIsOver x h) ranks stamp what
 RestAt rule.Recalls ranks x h stamp what = IsAnswered h what
+RestAt r ranks x h stamp what = SendKeeps (λ j hj s. KeepsSend r x h j hj s.n s.how) ranks stamp what
 
 -- the events of rank x keep the rule, of which these are the first ones
 abbrev pub KeepRestAt : EventRule → List Ended → ℕ → List Event → List Event → Type 0

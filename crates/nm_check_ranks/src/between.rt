@@ -1,6 +1,6 @@
 //! The first rule of the messages between two ranks that is broken, and where.
 
-ghost use Rattle.std.specs.Prelude.{◌≤◌, List, MatchOption, length};
+ghost use Rattle.std.specs.Prelude.{◌≡◌, ◌≤◌, List, MatchOption, length};
 ghost use Rattle.nm_types.specs.declared.scripts.Line as script_line;
 ghost use Rattle.nm_history.specs.Quiescence.{EachPair, EachRank, Ended, history_of};
 ghost use Rattle.nm_check_ranks.specs.CarriedClauses.{PairDelivered};
@@ -43,34 +43,29 @@ fn first_between(i: u8, j: u8, sender: &Marks, receiver: &Marks) -> Option<Break
     None
 }
 
-/// A rule of the messages to a rank that is broken.
+/// A pair of ranks between which a rule is broken, and the first such rule.
 #[derive(Clone, Copy)]
-pub struct Broken {
+pub struct BrokenPair {
+    pub from: u8,
     pub to: u8,
     pub first: Break,
 }
 
 /// The first rank to which the messages of rank i break a rule, with the first such rule.
-fn first_from(i: u8, sender: &Marks, marks: &[Marks]) -> Option<Broken>
+fn first_from(i: u8, sender: &Marks, marks: &[Marks]) -> Option<BrokenPair>
     requires { length marks.now ≤ 256 }
     ensures { (lines : List script_line.Line) (ranks : List Ended) → AreMarks lines ranks i sender.now →
         EachMarked lines ranks marks.now → MatchOption result
         (EachRank (λ j rank. PairDelivered lines i j (history_of ranks i) rank.events) ranks)
-        (λ broken. BreaksTo lines ranks i broken.to broken.first) }
+        (λ pair. (pair.from ≡ i) × BreaksTo lines ranks i pair.to pair.first) }
 {
     for (j, receiver) in marks.iter().enumerate() {
-        if let Some(first) = first_between(i, j as u8, sender, receiver) {
-            return Some(Broken { to: j as u8, first });
+        let to = j as u8;
+        if let Some(first) = first_between(i, to, sender, receiver) {
+            return Some(BrokenPair { from: i, to, first });
         }
     }
     None
-}
-
-/// A pair of ranks between which a rule is broken.
-#[derive(Clone, Copy)]
-pub struct BrokenPair {
-    pub from: u8,
-    pub broken: Broken,
 }
 
 /// The first pair of ranks, by sender and then receiver, between which a rule is broken, with the
@@ -80,14 +75,11 @@ pub fn first_pair(marks: &[Marks]) -> Option<BrokenPair>
     ensures { (lines : List script_line.Line) (ranks : List Ended) →
         EachMarked lines ranks marks.now →
         MatchOption result (EachPair (PairDelivered lines) ranks)
-        (λ pair. BreaksPair lines ranks pair.from pair.broken.to pair.broken.first) }
+        (λ pair. BreaksPair lines ranks pair.from pair.to pair.first) }
 {
     for (i, sender) in marks.iter().enumerate() {
-        if let Some(broken) = first_from(i as u8, sender, marks) {
-            return Some(BrokenPair {
-                from: i as u8,
-                broken,
-            });
+        if let Some(pair) = first_from(i as u8, sender, marks) {
+            return Some(pair);
         }
     }
     None

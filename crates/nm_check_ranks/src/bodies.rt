@@ -7,22 +7,20 @@ ghost use Rattle.nm_types.specs.declared.scripts.Body.TheVariants.{Gen};
 ghost use Rattle.nm_history.specs.declared.events.Event as event;
 ghost use Rattle.nm_history.specs.declared.events.Happened.TheVariants.{Ran};
 ghost use Rattle.nm_history.specs.Delivery.{BodyAt};
-ghost use Rattle.nm_history.specs.Quiescence.{EachRank, history_of};
+ghost use Rattle.nm_history.specs.Quiescence.{history_of};
 ghost use Rattle.nm_history.specs.Sends.{sends, sent_bytes, sent_of};
 ghost use Rattle.nm_report.specs.Ends.{ends_of};
 ghost use Rattle.nm_lookups.specs.Deciding.{Decides};
 ghost use Rattle.nm_check_rank.specs.Tabled.{AreRankTables};
 ghost use Rattle.nm_check_ranks.specs.Bytes.{IsFirstOtherByte};
-ghost use Rattle.nm_check_ranks.specs.Marked.{KeepsLocal, Names};
-ghost use Rattle.nm_check_ranks.specs.Tabled.{AreTabled};
+ghost use Rattle.nm_check_ranks.specs.Marked.{AreLooked, Names};
 
+use crate::looked::{Looked, sent_at};
 use crate::marks::named_unless;
 use nm_check_rank::paired::dues::Due;
 use nm_check_rank::paired::tables::Tables;
 use nm_history::{Event, Happened};
 use nm_lookups::asked::commands::command_of_line;
-use nm_lookups::firsts::Message;
-use nm_report::RankAccount;
 use nm_types::{Answer, Body, Command, Line};
 
 /// The byte at place k of a generated body.
@@ -127,49 +125,16 @@ fn is_send_with(i: u8, lines: &[Line], e: &Event, bytes: &[u8]) -> bool
     }
 }
 
-/// Whether the event at a place is a send of these bytes.
-fn is_sent_at(i: u8, lines: &[Line], events: &[Event], place: usize, bytes: &[u8]) -> bool
-    ensures { (e : event.Event) → slice_get events.now place ≡ Some e →
-        Decides result (IsSomeAnd (sent_of e.stamp e.what)
-        (λ s. IsSomeAnd (command_at (commands_of i lines.now) s.line)
-        (λ c. bytes.now ≡ sent_bytes c))) }
-{
-    if place >= events.len() {
-        return false;
-    }
-    is_send_with(i, lines, &events[place], bytes)
-}
-
 /// Whether these are the bytes of message n of rank i to rank j.
-fn were_sent(
-    i: u8,
-    j: u8,
-    n: u64,
-    bytes: &[u8],
-    lines: &[Line],
-    ranks: &[RankAccount],
-    tables: &[Tables],
-) -> bool
-    requires lawful { EachRank KeepsLocal (ends_of ranks.now) }
-    requires tabled { AreTabled (ends_of ranks.now) tables.now }
-    ensures { Decides result (IsSomeAnd (slice_get (sends (history_of (ends_of ranks.now) i) j) n)
-        (λ s. IsSomeAnd (command_at (commands_of i lines.now) s.line)
+fn were_sent(i: u8, j: u8, n: u64, bytes: &[u8], of: &Looked) -> bool
+    requires { AreLooked of.now.lines.now (ends_of of.now.ranks.now) of.now.tables.now }
+    ensures { Decides result
+        (IsSomeAnd (slice_get (sends (history_of (ends_of of.now.ranks.now) i) j) n)
+        (λ s. IsSomeAnd (command_at (commands_of i of.now.lines.now) s.line)
         (λ c. bytes.now ≡ sent_bytes c))) }
 {
-    let k = i as usize;
-    let count = ranks.len();
-    if k >= count {
-        return false;
-    }
-    let events = ranks[k].history.as_slice();
-    match tables[k]
-        .places
-        .outgoing
-        .gone
-        .sends
-        .get(&Message { rank: j, n })
-    {
-        Some(place) => is_sent_at(i, lines, events, *place, bytes),
+    match sent_at(of, i, j, n) {
+        Some(e) => is_send_with(i, of.lines, e, bytes),
         None => false,
     }
 }
@@ -181,54 +146,40 @@ fn sender_of_answer(
     line: u64,
     answer: &Answer,
     own: &Tables,
-    lines: &[Line],
-    ranks: &[RankAccount],
-    tables: &[Tables],
+    of: &Looked,
 ) -> Option<u8>
-    requires lawful { EachRank KeepsLocal (ends_of ranks.now) }
-    requires tabled { AreTabled (ends_of ranks.now) tables.now }
-    ensures { (h : List event.Event) (e : event.Event) → AreRankTables j lines.now h own.now →
+    requires { AreLooked of.now.lines.now (ends_of of.now.ranks.now) of.now.tables.now }
+    ensures { (h : List event.Event) (e : event.Event) →
+        AreRankTables j of.now.lines.now h own.now →
         slice_get h k ≡ Some e → e.what ≡ Ran line answer.now →
-        Names (λ i. BodyAt i (commands_of i lines.now) (sends (history_of (ends_of ranks.now) i) j)
-        (commands_of j lines.now) (take k h) (Ran line answer.now)) result }
+        Names (λ i. BodyAt i (commands_of i of.now.lines.now)
+        (sends (history_of (ends_of of.now.ranks.now) i) j)
+        (commands_of j of.now.lines.now) (take k h) (Ran line answer.now)) result }
 {
     let Answer::Got { body, .. } = answer else {
         return None;
     };
-    match own.pair_asked(j, lines, k, line) {
+    match own.pair_asked(j, of.lines, k, line) {
         Some(pair) => {
             let from = pair.arrival.env.from;
             let bytes = body.as_slice();
-            named_unless(
-                were_sent(from, j, pair.arrival.n, bytes, lines, ranks, tables),
-                from,
-            )
+            named_unless(were_sent(from, j, pair.arrival.n, bytes, of), from)
         }
         None => None,
     }
 }
 
 /// The sender whose message the event at a place of rank j does not show as it was sent.
-pub(crate) fn sender_not_shown(
-    j: u8,
-    k: usize,
-    e: &Event,
-    own: &Tables,
-    lines: &[Line],
-    ranks: &[RankAccount],
-    tables: &[Tables],
-) -> Option<u8>
-    requires lawful { EachRank KeepsLocal (ends_of ranks.now) }
-    requires tabled { AreTabled (ends_of ranks.now) tables.now }
-    ensures { (h : List event.Event) → AreRankTables j lines.now h own.now →
+pub(crate) fn sender_not_shown(j: u8, k: usize, e: &Event, own: &Tables, of: &Looked) -> Option<u8>
+    requires { AreLooked of.now.lines.now (ends_of of.now.ranks.now) of.now.tables.now }
+    ensures { (h : List event.Event) → AreRankTables j of.now.lines.now h own.now →
         slice_get h k ≡ Some e.now →
-        Names (λ i. BodyAt i (commands_of i lines.now) (sends (history_of (ends_of ranks.now) i) j)
-        (commands_of j lines.now) (take k h) e.now.what) result }
+        Names (λ i. BodyAt i (commands_of i of.now.lines.now)
+        (sends (history_of (ends_of of.now.ranks.now) i) j)
+        (commands_of j of.now.lines.now) (take k h) e.now.what) result }
 {
     match &e.what {
-        Happened::Ran { line, answer } => {
-            sender_of_answer(j, k, *line, answer, own, lines, ranks, tables)
-        }
+        Happened::Ran { line, answer } => sender_of_answer(j, k, *line, answer, own, of),
         _ => None,
     }
 }

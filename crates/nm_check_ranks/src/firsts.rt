@@ -1,19 +1,22 @@
 //! Where a rule of the messages between two ranks breaks first.
 
-ghost use Rattle.std.specs.Prelude.{◌≡◌, ◌<◌, ℕ, List, None, Some, slice_get, slice_index_or, take};
+ghost use Rattle.std.specs.Prelude.{◌≡◌, ◌<◌, ℕ, IfOk, List, None, Some, length, slice_get, slice_index_or};
+ghost use Rattle.std.specs.Prelude.{take};
 ghost use Rattle.nm_types.specs.declared.scripts.Line as script_line;
 ghost use Rattle.nm_history.specs.declared.events.Event as event;
-ghost use Rattle.nm_history.specs.Quiescence.{EachRank, Ended};
-ghost use Rattle.nm_history.specs.RankRun.{Always, NumberAt};
+ghost use Rattle.nm_history.specs.Quiescence.{EachRank, Ended, history_of};
+ghost use Rattle.nm_history.specs.RankRun.{NumberAt};
 ghost use Rattle.nm_report.specs.Ends.{ends_of};
 ghost use Rattle.nm_check_rank.specs.Tabled.{AreRankTables};
 ghost use Rattle.nm_check_ranks.specs.CarriedBreaks as spec;
 ghost use Rattle.nm_check_ranks.specs.CarriedBreaks.{FirstAt, IsFirstBetween, PartAt};
 ghost use Rattle.nm_check_ranks.specs.declared.clauses.CarriedClause.TheVariants as carried;
-ghost use Rattle.nm_check_ranks.specs.Marked.{AreFirsts, AreMarks, KeepsLocal, Names, is_rank, noted, places_of};
-ghost use Rattle.nm_check_ranks.specs.Tabled.{AreTabled};
+ghost use Rattle.nm_check_ranks.specs.Marked.{AreFirsts, AreLooked, AreMarks, EachMarked, IsOwn, KeepsLocal};
+ghost use Rattle.nm_check_ranks.specs.Marked.{Names, is_rank, noted, places_of};
+ghost use Rattle.nm_check_ranks.specs.Tabled.{EachTabled};
 
 use crate::bodies::sender_not_shown;
+use crate::looked::Looked;
 use crate::marks::{
     Marks, NAMES, receiver_not_asked, receiver_not_telling, sender_not_followed,
     sender_not_recalling,
@@ -21,7 +24,8 @@ use crate::marks::{
 use nm_check_rank::paired::tables::Tables;
 use nm_history::Event;
 use nm_report::RankAccount;
-use nm_types::Line;
+use nm_types::{Line, Memory};
+use std::alloc::Global;
 
 /// What an event may break of the rules between its rank and another one.
 #[derive(Clone, Copy)]
@@ -46,28 +50,19 @@ pub struct Spot {
 }
 
 /// The rank with which the event at a place of rank x breaks a part of the rules.
-fn broken_with(
-    part: Part,
-    x: u8,
-    k: usize,
-    e: &Event,
-    own: &Tables,
-    lines: &[Line],
-    ranks: &[RankAccount],
-    tables: &[Tables],
-) -> Option<u8>
-    requires lawful { EachRank KeepsLocal (ends_of ranks.now) }
-    requires tabled { AreTabled (ends_of ranks.now) tables.now }
-    ensures { (n : ℕ) (h : List event.Event) → AreRankTables x lines.now h own.now →
+fn broken_with(part: Part, x: u8, k: usize, e: &Event, own: &Tables, of: &Looked) -> Option<u8>
+    requires { AreLooked of.now.lines.now (ends_of of.now.ranks.now) of.now.tables.now }
+    ensures { (n : ℕ) (h : List event.Event) → AreRankTables x of.now.lines.now h own.now →
         slice_get h k ≡ Some e.now → NumberAt n (take k h) e.now.what →
-        Names (λ y. PartAt part lines.now (ends_of ranks.now) x y (take k h) e.now) result }
+        Names (λ y. PartAt part of.now.lines.now (ends_of of.now.ranks.now) x y
+        (take k h) e.now) result }
 {
     match part {
-        Part::Arrivals => sender_not_followed(x, e, ranks, tables),
-        Part::Bodies => sender_not_shown(x, k, e, own, lines, ranks, tables),
-        Part::Outs => receiver_not_asked(x, k, e, &own.places, ranks, tables),
-        Part::Withdrawals => sender_not_recalling(x, e, ranks, tables),
-        Part::Answers => receiver_not_telling(x, e, ranks, tables),
+        Part::Arrivals => sender_not_followed(x, e, of),
+        Part::Bodies => sender_not_shown(x, k, e, own, of),
+        Part::Outs => receiver_not_asked(x, k, e, &own.places, of),
+        Part::Withdrawals => sender_not_recalling(x, e, of),
+        Part::Answers => receiver_not_telling(x, e, of),
     }
 }
 
@@ -91,22 +86,59 @@ pub(crate) fn first_places(
     x: u8,
     events: &[Event],
     own: &Tables,
-    lines: &[Line],
-    ranks: &[RankAccount],
-    tables: &[Tables],
+    of: &Looked,
 ) -> [Option<usize>; NAMES]
-    requires numbered { (n : ℕ) × Always (NumberAt n) events.now }
-    requires own { AreRankTables x lines.now events.now own.now }
-    requires lawful { EachRank KeepsLocal (ends_of ranks.now) }
-    requires tabled { AreTabled (ends_of ranks.now) tables.now }
-    ensures { AreFirsts (PartAt part lines.now (ends_of ranks.now) x) events.now result }
+    requires own { IsOwn of.now.lines.now (ends_of of.now.ranks.now) x events.now own.now }
+    requires looked { AreLooked of.now.lines.now (ends_of of.now.ranks.now) of.now.tables.now }
+    ensures { AreFirsts (PartAt part of.now.lines.now (ends_of of.now.ranks.now) x)
+        (history_of (ends_of of.now.ranks.now) x) result }
 {
     let mut firsts = [None; NAMES];
     for (k, e) in events.iter().enumerate() {
-        let named = broken_with(part, x, k, e, own, lines, ranks, tables);
+        let named = broken_with(part, x, k, e, own, of);
         note(&mut firsts, named, k);
     }
     firsts
+}
+
+/// Where the history of rank x first breaks each rule, with each other rank.
+fn marks_at(x: u8, events: &[Event], own: &Tables, of: &Looked) -> Marks
+    requires own { IsOwn of.now.lines.now (ends_of of.now.ranks.now) x events.now own.now }
+    requires looked { AreLooked of.now.lines.now (ends_of of.now.ranks.now) of.now.tables.now }
+    ensures { AreMarks of.now.lines.now (ends_of of.now.ranks.now) x result }
+{
+    Marks {
+        arrivals: first_places(Part::Arrivals, x, events, own, of),
+        bodies: first_places(Part::Bodies, x, events, own, of),
+        outs: first_places(Part::Outs, x, events, own, of),
+        withdrawals: first_places(Part::Withdrawals, x, events, own, of),
+        answers: first_places(Part::Answers, x, events, own, of),
+    }
+}
+
+/// Where each rank first breaks each rule of the messages between two ranks, with each other one.
+pub fn marks_of(
+    alloc: Global,
+    lines: &[Line],
+    ranks: &[RankAccount],
+    tables: &[Tables],
+) -> Result<Vec<Marks>, Memory>
+    requires few { length ranks.now < 256 }
+    requires lawful { EachRank KeepsLocal (ends_of ranks.now) }
+    requires tabled { EachTabled lines.now (ends_of ranks.now) tables.now }
+    ensures { IfOk result (λ marks. EachMarked lines.now (ends_of ranks.now) marks.items) }
+{
+    let of = Looked {
+        lines,
+        ranks,
+        tables,
+    };
+    let mut marks = Vec::new(alloc);
+    for (x, rank) in ranks.iter().enumerate() {
+        let events = rank.history.as_slice();
+        marks.push(marks_at(x as u8, events, &tables[x], &of))?;
+    }
+    Ok(marks)
 }
 
 /// The place at which a rank first breaks a part of the rules with rank y.

@@ -8,7 +8,7 @@
 //! each history for each rule finds where it first breaks it, with each other rank (`specs/Marked.antt`).
 //! # What is proved
 //! - Of arrivals, bodies, messages that leave, withdrawals and their answers these places are exact, for
-//!   each rank (`marking`, by `firsts`, `marks` and `bodies`).
+//!   each rank (`firsts`, by `marks` and `bodies`).
 //! - The first pair of ranks between which a rule is broken, by sender and then receiver, is named with the
 //!   first such rule, and the event at which it breaks first, as one reads the events of rank after rank
 //!   (`between`, by `specs/CarriedBreaks.antt`).
@@ -22,6 +22,6 @@ pub mod between;
 pub mod bodies;
 pub mod clauses;
 pub mod firsts;
-pub mod marking;
+pub mod looked;
 pub mod marks;
 pub mod rest;

@@ -8,7 +8,7 @@ ghost use Rattle.nm_check.specs.Miscounts.{AreCounted, IsFirstCounted};
 ghost use Rattle.nm_check.specs.Places.{events_in};
 
 use nm_check_rank::paired::tables::Tables;
-use nm_check_ranks::rest::miscounts::{counts_due, first_miscount};
+use nm_check_ranks::rest::counts::{counts_due, first_miscount};
 use nm_report::{PairCount, RankAccount};
 use nm_types::Memory;
 use std::alloc::Global;

@@ -9,9 +9,8 @@ ghost use Rattle.nm_check_ranks.specs.declared.rest.resting.RestBreak.TheVariant
 ghost use Rattle.nm_check.specs.Judgements as spec;
 ghost use Rattle.nm_check.specs.Judgements.{IsJudgement, judged_as};
 ghost use Rattle.nm_check.specs.declared.breaks.judgements.Judgement.TheVariants as judgement;
-ghost use Rattle.nm_check.specs.OwnFirsts.{IsBreachOf};
+ghost use Rattle.nm_check.specs.Verdicts.{IsBreachOf, BreaksOwn, Judges};
 ghost use Rattle.nm_check.specs.Places.{events_in};
-ghost use Rattle.nm_check.specs.Verdicts.{BreaksOwn, Judges};
 ghost use Rattle.nm_check.specs.declared.judging.Tabled.TheVariants.{Carried as FoundCarried, Rest as FoundRest};
 ghost use Rattle.nm_check.specs.declared.verdicts.Verdict.TheVariants as verdict;
 ghost use Rattle.nm_check.specs.Ranked.{IsTabled};
@@ -153,12 +152,12 @@ fn carried_judgement(
 {
     let ranks = run.ranks.as_slice();
     let from = pair.from;
-    let to = pair.broken.to;
-    let event = told_at(ranks, pair.broken.first.spot);
+    let to = pair.to;
+    let event = told_at(ranks, pair.first.spot);
     let other = other_event(lines, ranks, tables, from, to, event.spot);
     let against = against_of(lines, ranks, event, other);
     Judgement::Carried {
-        clause: pair.broken.first.clause,
+        clause: pair.first.clause,
         from,
         to,
         event,
@@ -218,28 +217,6 @@ fn counts_judgement(
     }
 }
 
-/// Where the ranks break a rule of rest first.
-fn rest_judgement(
-    alloc: Global,
-    lines: &[Line],
-    run: &RunRecord,
-    tables: &[Tables],
-    first: RestBreak,
-) -> Result<Judgement, Memory>
-    requires found { IsTabled lines.now run.now (FoundRest first) }
-    requires few { length run.now.ranks < 256 }
-    requires short { events_in (ends_of run.now.ranks) + length run.now.pairs ≤ 67108864 }
-    requires tabled { EachTabled lines.now (ends_of run.now.ranks) tables.now }
-    ensures { IfOk result
-        (λ judgement. (count : ℕ) → IsJudgement count lines.now run.now judgement) }
-{
-    match first {
-        RestBreak::Event { rule, spot } => Ok(left_judgement(lines, run, rule, spot)),
-        RestBreak::Standing { rank } => Ok(standing_judgement(lines, run, tables, rank)),
-        RestBreak::Counts => counts_judgement(alloc, lines, run, tables),
-    }
-}
-
 /// The cells break their rule.
 fn home_judgement(run: &RunRecord, count: u32) -> Judgement
     ensures { result ≡ judgement.Home (count - 1) (spec.count_of run.now) }
@@ -267,7 +244,11 @@ fn tabled_judgement(
 {
     match found {
         Tabled::Carried { pair } => Ok(carried_judgement(lines, run, tables, pair)),
-        Tabled::Rest { first } => rest_judgement(alloc, lines, run, tables, first),
+        Tabled::Rest { first } => match first {
+            RestBreak::Event { rule, spot } => Ok(left_judgement(lines, run, rule, spot)),
+            RestBreak::Standing { rank } => Ok(standing_judgement(lines, run, tables, rank)),
+            RestBreak::Counts => counts_judgement(alloc, lines, run, tables),
+        },
         Tabled::Home => Ok(home_judgement(run, count)),
         Tabled::Done => Ok(Judgement::Done { line: count }),
         Tabled::Holds => Ok(Judgement::Holds),

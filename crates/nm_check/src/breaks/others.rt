@@ -7,7 +7,6 @@ ghost use Rattle.nm_types.specs.declared.answers.Answer as given_answer;
 ghost use Rattle.nm_report.specs.Ends.{ends_of};
 ghost use Rattle.nm_history.specs.declared.events.Event as event;
 ghost use Rattle.nm_history.specs.declared.events.Happened.TheVariants.{Ran};
-ghost use Rattle.nm_history.specs.Happens.{is_send as is_send_lem};
 ghost use Rattle.nm_history.specs.Quiescence.{history_of};
 ghost use Rattle.nm_check_ranks.specs.Tabled.{AreTabled, EachTabled};
 ghost use Rattle.nm_lookups.specs.Firsts.{is_named as is_named_lem};
@@ -17,7 +16,7 @@ ghost use Rattle.nm_check.specs.Others.{is_mate as is_mate_lem, is_withdrawal as
 ghost use Rattle.nm_check.specs.Others.{pair_shown};
 ghost use Rattle.nm_check.specs.Places.{events_in};
 
-use crate::breaks::places::{EventLine, events_of, told_at};
+use crate::breaks::places::{EventLine, event_at, events_of, told_at};
 use nm_check_rank::paired::tables::Tables;
 use nm_check_ranks::firsts::Spot;
 use nm_history::plain::Pair;
@@ -84,28 +83,12 @@ fn mate_at(events: &[Event], x: u8, what: &Happened) -> Option<usize>
     events.iter().position(|e| is_mate(x, what, &e.what))
 }
 
-/// The first place of these events at which message n was sent to rank x.
-fn send_at(events: &[Event], x: u8, n: u64) -> Option<usize>
-    ensures { result ≡ position (λ e. is_send_lem x n e.what) events.now }
-{
-    events.iter().position(|e| is_of::<Sends>(x, n, &e.what))
-}
-
 /// The first event of rank y that what happened at rank x is held against.
 fn mate_of(ranks: &[RankAccount], x: u8, what: &Happened, y: u8) -> Option<EventLine>
     requires { events_in (ends_of ranks.now) ≤ 67108864 }
     ensures { result ≡ spec.first_held (ends_of ranks.now) y (is_mate_lem x what.now) }
 {
     let at = mate_at(events_of(ranks, y), x, what);
-    held_at(ranks, y, at)
-}
-
-/// The send of message n of rank y to rank x.
-fn send_of(ranks: &[RankAccount], x: u8, n: u64, y: u8) -> Option<EventLine>
-    requires { events_in (ends_of ranks.now) ≤ 67108864 }
-    ensures { result ≡ spec.first_held (ends_of ranks.now) y (is_send_lem x n) }
-{
-    let at = send_at(events_of(ranks, y), x, n);
     held_at(ranks, y, at)
 }
 
@@ -127,7 +110,10 @@ fn sent_of(ranks: &[RankAccount], x: u8, pair: Option<Pair>) -> Option<EventLine
     ensures { result ≡ spec.sent_held (ends_of ranks.now) x pair }
 {
     match pair {
-        Some(pair) => send_of(ranks, x, pair.arrival.n, pair.arrival.env.from),
+        Some(pair) => {
+            let came = Happened::Arrive { a: pair.arrival };
+            mate_of(ranks, x, &came, pair.arrival.env.from)
+        }
         None => None,
     }
 }
@@ -202,11 +188,11 @@ pub(crate) fn other_event(
     requires tabled { EachTabled lines.now (ends_of ranks.now) tables.now }
     ensures { IsOtherEvent lines.now (ends_of ranks.now) i j spot result }
 {
-    let events = events_of(ranks, spot.rank);
-    let at = spot.at;
-    if at >= events.len() {
-        return None;
+    match event_at(ranks, spot) {
+        Some(e) => {
+            let y = other_rank(i, j, spot.rank);
+            held_against(lines, ranks, tables, spot.rank, spot.at, &e.what, y)
+        }
+        None => None,
     }
-    let y = other_rank(i, j, spot.rank);
-    held_against(lines, ranks, tables, spot.rank, at, &events[at].what, y)
 }

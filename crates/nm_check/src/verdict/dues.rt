@@ -1,12 +1,14 @@
-//! What was called for, and what was found.
+//! What was called for, and what was found: of an event, and of a count of packets.
 
 ghost use Rattle.std.specs.Prelude.{◌≡◌, IfOk, codes, if◌then◌else◌, string_bytes};
+ghost use Rattle.nm_check.specs.VerdictCounts as counts;
 ghost use Rattle.nm_check.specs.VerdictDues as spec;
 
 use crate::verdict::called::{claim_words, many_words, mismatch_words, named_words, of_words};
 use nm_check_rank::paired::dues::Due;
 use nm_check_rank::paired::objections::Objection;
 use nm_check_rank::paired::told::Told;
+use nm_report::PairCount;
 use std::alloc::{AllocError, Global};
 
 /// What is said before a stamp that was called for.
@@ -39,21 +41,14 @@ fn told_word(told: Told) -> &'static str
     }
 }
 
-/// The sender, the tag and the length of a message.
-fn message_words(alloc: Global, from: u8, tag: u16, len: u64) -> Result<String, AllocError>
-    ensures { IfOk result (λ text. string_bytes text ≡ spec.message_words from tag len) }
-{
-    format!(in alloc; " {} {} {}", from, tag, len)
-}
-
 /// The message that an answer shows.
 fn shown_words(alloc: Global, told: Told) -> Result<String, AllocError>
     ensures { IfOk result (λ text. string_bytes text ≡ spec.shown_words told) }
 {
     match told {
-        Told::Got { from, tag, len } => message_words(alloc, from, tag, len),
-        Told::Cut { from, tag, len } => message_words(alloc, from, tag, u64::from(len)),
-        Told::Seen { from, tag, len } => message_words(alloc, from, tag, u64::from(len)),
+        Told::Got { from, tag, len } => format!(in alloc; " {} {} {}", from, tag, len),
+        Told::Cut { from, tag, len } => format!(in alloc; " {} {} {}", from, tag, len),
+        Told::Seen { from, tag, len } => format!(in alloc; " {} {} {}", from, tag, len),
         _ => format!(in alloc; ""),
     }
 }
@@ -206,5 +201,57 @@ pub fn due_words(alloc: Global, due: Option<Due>) -> Result<String, AllocError>
     match due {
         Some(due) => some_words(alloc, due),
         None => format!(in alloc; ""),
+    }
+}
+
+/// A count as a trace has it.
+fn pair_text(alloc: Global, pair: PairCount) -> Result<String, AllocError>
+    ensures { IfOk result (λ text. string_bytes text ≡ counts.pair_text pair) }
+{
+    format!(in alloc; "`pair {} {} {}`", pair.from, pair.to, pair.packets)
+}
+
+/// A count that stands where another one is called for, or none.
+fn found_words(
+    alloc: Global,
+    called: Option<PairCount>,
+    found: PairCount,
+) -> Result<String, AllocError>
+    ensures { IfOk result (λ text. string_bytes text ≡ counts.found_words called found) }
+{
+    let found = pair_text(alloc, found)?;
+    match called {
+        Some(called) => {
+            let called = pair_text(alloc, called)?;
+            format!(in alloc; "it is to be {}, and is {}", called, found)
+        }
+        None => format!(in alloc; "no more counts are called for, and it is {}", found),
+    }
+}
+
+/// A count that is called for where none stands.
+fn missing_words(alloc: Global, called: Option<PairCount>) -> Result<String, AllocError>
+    ensures { IfOk result (λ text. string_bytes text ≡ counts.missing_words called) }
+{
+    match called {
+        Some(called) => {
+            let called = pair_text(alloc, called)?;
+            format!(in alloc; "{} is to stand before it", called)
+        }
+        None => format!(in alloc; ""),
+    }
+}
+
+/// The count that is called for, and the one that stands there.
+pub(crate) fn counts_words(
+    alloc: Global,
+    called: Option<PairCount>,
+    found: Option<PairCount>,
+) -> Result<String, AllocError>
+    ensures { IfOk result (λ text. string_bytes text ≡ counts.counts_words called found) }
+{
+    match found {
+        Some(found) => found_words(alloc, called, found),
+        None => missing_words(alloc, called),
     }
 }

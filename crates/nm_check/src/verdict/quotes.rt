@@ -32,13 +32,11 @@ pub(crate) fn place_line(judgement: Judgement) -> Option<u32>
 {
     match judgement {
         Judgement::Own { event, .. } => event_line(event),
-        Judgement::Carried { event, .. } => Some(event.line),
-        Judgement::Left { event, .. } => Some(event.line),
+        Judgement::Carried { event, .. } | Judgement::Left { event, .. } => Some(event.line),
         Judgement::Counted { line, .. } => Some(line),
         Judgement::Home { line, .. } => Some(line),
         Judgement::Done { line } => Some(line),
-        Judgement::Holds => None,
-        Judgement::Standing { .. } => None,
+        Judgement::Holds | Judgement::Standing { .. } => None,
     }
 }
 
@@ -51,13 +49,7 @@ fn quoted_line(judgement: Judgement) -> Option<u32>
             Some(_) => Some(line),
             None => None,
         },
-        Judgement::Holds
-        | Judgement::Own { .. }
-        | Judgement::Carried { .. }
-        | Judgement::Left { .. }
-        | Judgement::Standing { .. }
-        | Judgement::Home { .. }
-        | Judgement::Done { .. } => place_line(judgement),
+        _ => place_line(judgement),
     }
 }
 
@@ -67,13 +59,7 @@ fn other_line(judgement: Judgement) -> Option<u32>
 {
     match judgement {
         Judgement::Carried { other, .. } => event_line(other),
-        Judgement::Holds
-        | Judgement::Own { .. }
-        | Judgement::Left { .. }
-        | Judgement::Standing { .. }
-        | Judgement::Counted { .. }
-        | Judgement::Home { .. }
-        | Judgement::Done { .. } => None,
+        _ => None,
     }
 }
 

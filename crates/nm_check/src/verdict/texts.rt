@@ -11,8 +11,7 @@ ghost use Rattle.nm_check.specs.VerdictTexts.{quote_words};
 use crate::breaks::cells::CellCount;
 use crate::breaks::counts::Miscount;
 use crate::breaks::{EventLine, Found, Judgement, Stop};
-use crate::verdict::counts::counts_words;
-use crate::verdict::dues::{due_words, some_words};
+use crate::verdict::dues::{counts_words, due_words, some_words};
 use crate::verdict::events::event_words;
 use crate::verdict::quotes::{Quotes, event_line, place_line};
 use crate::verdict::sentences::{

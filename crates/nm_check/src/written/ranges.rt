@@ -40,9 +40,7 @@ fn bytes_fit(bytes: &[u8])
 fn seen_fits(seen: Seen)
     ensures { AnswerIn (told.Seen seen) }
 {
-    let _from = seen.from;
-    let _tag = seen.tag;
-    let _len = seen.len;
+    let _read = (seen.from, seen.tag, seen.len);
 }
 
 fn answer_fits(answer: &Answer, line: u64)
@@ -52,14 +50,11 @@ fn answer_fits(answer: &Answer, line: u64)
     let _line = line;
     match answer {
         Answer::Got { from, tag, body } => {
-            let _from = *from;
-            let _tag = *tag;
+            let _read = (*from, *tag);
             bytes_fit(body.as_slice());
         }
         Answer::Cut { from, tag, len } => {
-            let _from = *from;
-            let _tag = *tag;
-            let _len = *len;
+            let _read = (*from, *tag, *len);
         }
         Answer::Seen(seen) => seen_fits(*seen),
         _ => {}
@@ -70,22 +65,15 @@ fn post_fits(post: Post, line: u64)
     ensures post { PostIn post }
     ensures line { line < 2 ^ 64 }
 {
-    let _line = line;
-    let _number = post.number;
+    let _read = (line, post.number, post.ctx, post.cap);
     peer_fits(post.from);
     pick_fits(post.tag);
-    let _ctx = post.ctx;
-    let _cap = post.cap;
 }
 
 fn arrival_fits(a: Arrival)
     ensures { ArrivalIn a }
 {
-    let _from = a.env.from;
-    let _n = a.n;
-    let _tag = a.env.tag;
-    let _ctx = a.env.ctx;
-    let _len = a.env.len;
+    let _read = (a.env.from, a.n, a.env.tag, a.env.ctx, a.env.len);
 }
 
 fn what_fits(what: &Happened)

@@ -1,25 +1,27 @@
-//! Whether the counts of packets are those that the histories call for.
+//! Whether the counts of packets are those that the histories call for, and the first that is not.
 
-ghost use Rattle.std.specs.Prelude.{◌≡◌, ◌+◌, ◌*◌, ◌<◌, ◌≤◌, ◌++◌, ◌∷◌, ℕ, if◌then◌else◌, List};
-ghost use Rattle.std.specs.Prelude.{count_by, length, IfSome, MatchOption};
+ghost use Rattle.std.specs.Prelude.{◌≡◌, ◌+◌, ◌*◌, ◌<◌, ◌≤◌, ◌^◌, ◌++◌, ◌∷◌, ℕ, if◌then◌else◌, IfOk};
+ghost use Rattle.std.specs.Prelude.{List, Some, count_by, length, slice_get, slice_index, IfSome, MatchOption};
+ghost use Rattle.std.specs.Prelude.{OnOk};
 ghost use Rattle.nm_types.specs.declared.scripts.Line as script_line;
-ghost use Rattle.nm_history.specs.Matching.{matched_pairs};
 ghost use Rattle.nm_history.specs.Outgoing.{further_packets, is_clear, packets_of_events, packets_to};
-ghost use Rattle.nm_history.specs.Quiescence.{Packets, packets_of as packets_due};
+ghost use Rattle.nm_history.specs.Quiescence.{EachRank, Packets, packets_of as packets_due};
 ghost use Rattle.nm_history.specs.Sends.{is_ask};
 ghost use Rattle.nm_history.specs.Outgoing.{packets_of_event};
 ghost use Rattle.nm_report.specs.Ends.{ends_of, packets_of};
 ghost use Rattle.nm_lookups.specs.Deciding.{Decides};
+ghost use Rattle.nm_check_rank.specs.Differ.{DifferFirstAt};
+ghost use Rattle.nm_check_rank.specs.Tabled.{AreRankTables};
 ghost use Rattle.nm_check_ranks.specs.Tabled.{AreTabled};
-ghost use Rattle.nm_check_ranks.specs.Counting.{AreDue, at_most, counted_pair, load_to};
-ghost use Rattle.nm_check_ranks.specs.Counting.{row_from};
+ghost use Rattle.nm_check_ranks.specs.Counting.{AreDue, at_most, counted_pair, load_to, row_from};
 
 use crate::marks::NAMES;
 use nm_check_rank::paired::tables::Tables;
 use nm_history::plain::Pair;
 use nm_history::{Event, Happened};
 use nm_report::{PairCount, RankAccount};
-use nm_types::How;
+use nm_types::{How, Memory};
+use std::alloc::{AllocError, Global};
 
 /// Packets to a rank.
 #[derive(Clone, Copy)]
@@ -109,7 +111,7 @@ fn with_pairs(mut counts: [u128; NAMES], pairs: &[Pair]) -> [u128; NAMES]
 }
 
 /// Whether a count is of these ranks, and so many.
-pub(crate) fn is_pair(pair: &PairCount, from: u8, to: u8, count: u128) -> bool
+fn is_pair(pair: &PairCount, from: u8, to: u8, count: u128) -> bool
     ensures { (n : ℕ) → count ≡ at_most n →
         Decides result (counted_pair pair.now ≡ record { from = from; to = to; count = n }) }
 {
@@ -156,13 +158,16 @@ fn behind_row<'a>(
     Some(left)
 }
 
-/// How many packets to each rank a history calls for.
-pub(crate) fn counts_of(events: &[Event], pairs: &[Pair]) -> [u128; NAMES]
-    ensures exact { pairs.now ≡ matched_pairs events.now → AreDue result (packets_to events.now) }
-    ensures few { pairs.now ≡ matched_pairs events.now → (to : ℕ) →
-        packets_to events.now to ≤ length events.now * 4294967296 }
+/// How many packets to each rank the history of a rank calls for, by its tables.
+fn counts_of(account: &RankAccount, own: &Tables) -> [u128; NAMES]
+    requires { (i : ℕ) × (lines : List script_line.Line)
+        × AreRankTables i lines account.now.history.events own.now }
+    ensures exact { AreDue result (packets_to account.now.history.events) }
+    ensures few { (to : ℕ) → packets_to account.now.history.events to
+        ≤ length account.now.history.events * 4294967296 }
 {
-    with_pairs(counts_of_events(events), pairs)
+    let events = account.history.as_slice();
+    with_pairs(counts_of_events(events), own.pairing.pairs())
 }
 
 /// Whether the counts of packets are those that the histories of the ranks call for.
@@ -175,12 +180,84 @@ pub(crate) fn are_counted(pairs: &[PairCount], ranks: &[RankAccount], tables: &[
     let many = ranks.len() as u8;
     let mut left = pairs;
     for (i, rank) in ranks.iter().enumerate() {
-        let events = rank.history.as_slice();
-        let counts = counts_of(events, tables[i].pairing.pairs());
+        let counts = counts_of(rank, &tables[i]);
         match behind_row(left, i as u8, &counts, many) {
             Some(others) => left = others,
             None => return false,
         }
     }
     left.is_empty()
+}
+
+/// Puts the counts of a sender for this many ranks at the end, but for those that are 0.
+fn push_row(
+    due: &mut Vec<PairCount>,
+    from: u8,
+    counts: &[u128; NAMES],
+    ranks: u8,
+) -> Result<(), AllocError>
+    requires { (to : ℕ) → to < 256 → slice_index counts.now to < 2 ^ 64 }
+    ensures { (packets : ℕ → ℕ) → AreDue counts.now packets → ((to : ℕ) → packets to < 2 ^ 64) →
+        OnOk result (packets_of due.new.items
+        ≡ packets_of due.old.items ++ row_from from packets 0 ranks) }
+{
+    for to in 0..ranks {
+        let count = counts[to as usize];
+        if count > 0 {
+            let packets = count as u64;
+            due.push(PairCount { from, to, packets })?;
+        }
+    }
+    Ok(())
+}
+
+/// The counts of packets that the histories of the ranks call for.
+///
+/// # Errors
+/// Want of memory.
+pub fn counts_due(
+    alloc: Global,
+    ranks: &[RankAccount],
+    tables: &[Tables],
+) -> Result<Vec<PairCount>, Memory>
+    requires few { length ranks.now < 256 }
+    requires short { EachRank (λ i rank. length rank.events ≤ 67108864) (ends_of ranks.now) }
+    requires tabled { AreTabled (ends_of ranks.now) tables.now }
+    ensures { (lines : List script_line.Line) →
+        IfOk result (λ due. packets_of due.items ≡ packets_due lines (ends_of ranks.now)) }
+{
+    let many = ranks.len() as u8;
+    let mut due = Vec::new(alloc);
+    for (i, rank) in ranks.iter().enumerate() {
+        let counts = counts_of(rank, &tables[i]);
+        push_row(&mut due, i as u8, &counts, many)?;
+    }
+    Ok(due)
+}
+
+/// Whether a count is the one that is due at a place.
+fn is_due_at(pair: &PairCount, due: &[PairCount], at: usize) -> bool
+    ensures { Decides result (slice_get (packets_of due.now) at ≡ Some (counted_pair pair.now)) }
+{
+    match due.get(at) {
+        Some(other) => is_pair(other, pair.from, pair.to, u128::from(pair.packets)),
+        None => false,
+    }
+}
+
+/// The first place at which the counts are not those that are due.
+pub fn first_miscount(pairs: &[PairCount], due: &[PairCount]) -> Option<usize>
+    ensures { MatchOption result (packets_of pairs.now ≡ packets_of due.now)
+        (DifferFirstAt (packets_of pairs.now) (packets_of due.now)) }
+{
+    for (k, pair) in pairs.iter().enumerate() {
+        if !is_due_at(pair, due, k) {
+            return Some(k);
+        }
+    }
+    if pairs.len() < due.len() {
+        Some(pairs.len())
+    } else {
+        None
+    }
 }

@@ -3,24 +3,22 @@
 ghost use Rattle.std.specs.Prelude.{◌≡◌, ◌<◌, ℕ, List, MatchOption, length};
 ghost use Rattle.nm_types.specs.declared.scripts.Line as script_line;
 ghost use Rattle.nm_history.specs.declared.events.Event as event;
-ghost use Rattle.nm_history.specs.Quiescence.{Ended, Packets};
+ghost use Rattle.nm_history.specs.Quiescence.{Packets};
 ghost use Rattle.nm_report.specs.Ends.{ends_of};
 ghost use Rattle.nm_lookups.specs.Deciding.{Decides};
 ghost use Rattle.nm_lookups.specs.Placed.{ArePlaces};
 ghost use Rattle.nm_check_rank.specs.Breaks.{BreaksFirstAt};
-ghost use Rattle.nm_check_ranks.specs.Tabled.{AreTabled};
+ghost use Rattle.nm_check_ranks.specs.Marked.{AreLooked};
+ghost use Rattle.nm_check_ranks.specs.Tabled.{EachTabled};
 ghost use Rattle.nm_check_ranks.specs.RestBreaks.{AreInOrder, BreaksRestAt, KeepRestAt};
 ghost use Rattle.nm_check_ranks.specs.RestBreaks.{RestAt, rest_clause};
-ghost use Rattle.nm_check_ranks.specs.declared.rest.firsts.EventRule.TheVariants as event_rule;
 ghost use Rattle.nm_check_ranks.specs.RestClauses.{KeepsRest};
 
 use crate::firsts::Spot;
-use crate::rest::arrived::is_answered;
-use crate::rest::over::{has_come, is_asked_over, is_eager_over};
-use nm_check_rank::paired::tables::Tables;
+use crate::looked::Looked;
+use crate::rest::over::{is_answered, keeps_send};
 use nm_history::{Event, Happened};
 use nm_lookups::places::Places;
-use nm_report::RankAccount;
 
 /// A rule of rest that is asked of each event.
 #[derive(Clone, Copy)]
@@ -43,16 +41,16 @@ fn keeps_rule(
     end: usize,
     what: &Happened,
     own: &Places,
-    tables: &[Tables],
+    of: &Looked,
 ) -> bool
-    ensures { (ranks : List Ended) (stamp : ℕ) (h : List event.Event) → AreTabled ranks tables.now →
-        ArePlaces h own.now → length h ≡ end →
-        Decides result (RestAt rule ranks i h stamp what.now) }
+    requires { AreLooked of.now.lines.now (ends_of of.now.ranks.now) of.now.tables.now }
+    ensures { (stamp : ℕ) (h : List event.Event) → ArePlaces h own.now → length h ≡ end →
+        Decides result (RestAt rule (ends_of of.now.ranks.now) i h stamp what.now) }
 {
     match rule {
-        EventRule::Arrived => has_come(i, what, tables),
-        EventRule::Eager => is_eager_over(i, what, own, tables),
-        EventRule::Asked => is_asked_over(i, what, own, tables),
+        EventRule::Arrived => keeps_send(EventRule::Arrived, i, what, own, of),
+        EventRule::Eager => keeps_send(EventRule::Eager, i, what, own, of),
+        EventRule::Asked => keeps_send(EventRule::Asked, i, what, own, of),
         EventRule::Recalls => is_answered(own, end, what),
     }
 }
@@ -63,16 +61,17 @@ fn first_of_rank(
     i: u8,
     events: &[Event],
     own: &Places,
-    tables: &[Tables],
+    of: &Looked,
 ) -> Option<usize>
-    requires { ArePlaces events.now own.now }
-    ensures { (ranks : List Ended) → AreTabled ranks tables.now → MatchOption result
-        (KeepRestAt rule ranks i events.now events.now)
-        (BreaksFirstAt (KeepRestAt rule ranks i events.now) events.now) }
+    requires places { ArePlaces events.now own.now }
+    requires looked { AreLooked of.now.lines.now (ends_of of.now.ranks.now) of.now.tables.now }
+    ensures { MatchOption result
+        (KeepRestAt rule (ends_of of.now.ranks.now) i events.now events.now)
+        (BreaksFirstAt (KeepRestAt rule (ends_of of.now.ranks.now) i events.now) events.now) }
 {
     let end = events.len();
     for (k, e) in events.iter().enumerate() {
-        if !keeps_rule(rule, i, end, &e.what, own, tables) {
+        if !keeps_rule(rule, i, end, &e.what, own, of) {
             return Some(k);
         }
     }
@@ -80,21 +79,19 @@ fn first_of_rank(
 }
 
 /// The first event that breaks the rule, rank by rank.
-pub(crate) fn first_rest_at(
-    rule: EventRule,
-    ranks: &[RankAccount],
-    tables: &[Tables],
-) -> Option<Spot>
-    requires few { length ranks.now < 256 }
-    requires ordered { rule ≡ event_rule.Arrived → AreInOrder (ends_of ranks.now) }
-    requires tabled { AreTabled (ends_of ranks.now) tables.now }
+pub(crate) fn first_rest_at(rule: EventRule, of: &Looked) -> Option<Spot>
+    requires few { length of.now.ranks.now < 256 }
+    requires ordered { AreInOrder (ends_of of.now.ranks.now) }
+    requires tabled { EachTabled of.now.lines.now (ends_of of.now.ranks.now) of.now.tables.now }
     ensures { (lines : List script_line.Line) (packets : List Packets) → MatchOption result
-        (KeepsRest lines (ends_of ranks.now) packets (rest_clause rule))
-        (BreaksRestAt rule (ends_of ranks.now)) }
+        (KeepsRest lines (ends_of of.now.ranks.now) packets (rest_clause rule))
+        (BreaksRestAt rule (ends_of of.now.ranks.now)) }
 {
+    let ranks = of.ranks;
+    let tables = of.tables;
     for (i, rank) in ranks.iter().enumerate() {
         let events = rank.history.as_slice();
-        if let Some(at) = first_of_rank(rule, i as u8, events, &tables[i].places, tables) {
+        if let Some(at) = first_of_rank(rule, i as u8, events, &tables[i].places, of) {
             return Some(Spot { rank: i as u8, at });
         }
     }

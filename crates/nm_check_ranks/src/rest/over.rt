@@ -1,21 +1,29 @@
-//! Whether messages are over: eager ones, and those sent by asking that are paired.
+//! Whether messages have come and are over: eager ones, and those sent by asking that are paired; and recalls
+//! are answered.
 
-ghost use Rattle.std.specs.Prelude.{◌≡◌, ◌&&◌, ℕ, not, List, IsTrue};
+ghost use Rattle.std.specs.Prelude.{◌≡◌, ◌&&◌, ◌||◌, ℕ, not, IfSome, List, IsTrue, length, slice_get};
 ghost use Rattle.std.specs.Bool.{OnTrue};
+ghost use Rattle.nm_types.specs.declared.scripts.Line as script_line;
 ghost use Rattle.nm_history.specs.declared.events.Event as event;
-ghost use Rattle.nm_history.specs.Quiescence.{Ended};
-ghost use Rattle.nm_history.specs.Quiescence.{is_kept_back, is_over};
+ghost use Rattle.nm_history.specs.Happens.{happened, is_arrival};
+ghost use Rattle.nm_history.specs.Quiescence.{IsAnswered, is_kept_back, is_over};
+ghost use Rattle.nm_report.specs.Ends.{ends_of};
 ghost use Rattle.nm_lookups.specs.Deciding.{Decides};
 ghost use Rattle.nm_lookups.specs.Placed.{ArePlaces};
-ghost use Rattle.nm_check_ranks.specs.Over.{AskedIsOver, EagerIsOver, HasCome, SendKeeps};
-ghost use Rattle.nm_check_ranks.specs.Tabled.{AreTabled};
+ghost use Rattle.nm_check_rank.specs.Tabled.{AreRankTables};
+ghost use Rattle.nm_check_ranks.specs.Marked.{AreLooked};
+ghost use Rattle.nm_check_ranks.specs.RestBreaks.{KeepsSend, SendKeeps};
+ghost use Rattle.nm_check_ranks.specs.declared.rest.firsts.EventRule.TheVariants as rule;
 
+use crate::looked::{Looked, own_of};
+use crate::rest::firsts::EventRule;
 use nm_check_rank::hows::{is_asked, is_eager};
 use nm_check_rank::paired::tables::Tables;
 use nm_history::Happened;
-use nm_lookups::firsts::{is_ever, is_ever_taken};
-use nm_lookups::kinds::{Arrivals, Claims, Outs, Wholes};
+use nm_lookups::firsts::{is_before, is_ever, is_ever_taken};
+use nm_lookups::kinds::{Arrivals, Claims, Late, Outs, Undone, Wholes};
 use nm_lookups::places::Places;
+use nm_types::How;
 
 fn both(a: bool, b: bool) -> bool
     ensures { result ≡ (a && b) }
@@ -49,89 +57,113 @@ fn is_message_kept_back(i: u8, j: u8, n: u64, sent: &Places, got: &Places) -> bo
     neither(out, whole)
 }
 
-fn is_so(holds: bool) -> bool
-    ensures { Decides result (IsTrue holds) }
-{
-    holds
-}
-
 fn is_implied(asked: bool, holds: bool) -> bool
     ensures { Decides result (OnTrue asked (IsTrue holds)) }
 {
     !asked || holds
 }
 
-fn are_implied(asked: bool, taken: bool, claimed: bool, over: bool, kept: bool) -> bool
-    ensures { Decides result (OnTrue (asked && taken) (IsTrue over)
-        × OnTrue (asked && (claimed && not taken)) (IsTrue kept)) }
+fn are_implied(taken: bool, claimed: bool, over: bool, kept: bool) -> bool
+    ensures { Decides result (OnTrue taken (IsTrue over)
+        × OnTrue (claimed && not taken) (IsTrue kept)) }
 {
-    if !asked {
-        return true;
-    }
     if taken { over } else { !claimed || kept }
 }
 
-/// Whether what happened at rank i is no send to one of the ranks, or its message has come.
-pub(crate) fn has_come(i: u8, what: &Happened, tables: &[Tables]) -> bool
-    ensures { (ranks : List Ended) (stamp : ℕ) → AreTabled ranks tables.now →
-        Decides result (SendKeeps (HasCome i) ranks stamp what.now) }
+/// Whether a message of rank i has come to the rank with these tables.
+fn has_come(i: u8, n: u64, got: &Places) -> bool
+    ensures { (hj : List event.Event) → ArePlaces hj got.now →
+        Decides result (IsTrue (happened (is_arrival i n) hj)) }
+{
+    is_ever::<Arrivals>(&got.incoming.came.arrivals, i, n)
+}
+
+/// Whether an eager message of rank i to rank j is over.
+fn is_eager_over(i: u8, j: u8, n: u64, how: How, sent: &Places, got: &Places) -> bool
+    ensures { (hi hj : List event.Event) → ArePlaces hi sent.now → ArePlaces hj got.now →
+        Decides result (KeepsSend rule.Eager i hi j hj n how) }
+{
+    let over = is_message_over(i, j, n, sent, got);
+    is_implied(is_eager(how), over)
+}
+
+/// Whether a message of rank i to rank j that was sent by asking is over where it is paired, and kept
+/// back where it is claimed and not received.
+fn is_asked_over(i: u8, j: u8, n: u64, how: How, sent: &Places, got: &Tables) -> bool
+    ensures { (hi hj : List event.Event) (lines : List script_line.Line) → ArePlaces hi sent.now →
+        AreRankTables j lines hj got.now → Decides result (KeepsSend rule.Asked i hi j hj n how) }
+{
+    if !is_asked(how) {
+        return true;
+    }
+    let taken = is_ever_taken(got.pairing.taken(), i, n);
+    let claimed = is_ever::<Claims>(&got.places.incoming.settled.claims, i, n);
+    let over = is_message_over(i, j, n, sent, &got.places);
+    let kept = is_message_kept_back(i, j, n, sent, &got.places);
+    are_implied(taken, claimed, over, kept)
+}
+
+/// Whether the send of message n of rank i to the rank with these tables keeps the rule.
+fn is_kept(rule: EventRule, i: u8, j: u8, n: u64, how: How, sent: &Places, got: &Tables) -> bool
+    ensures { (hi hj : List event.Event) (lines : List script_line.Line) → ArePlaces hi sent.now →
+        AreRankTables j lines hj got.now → Decides result (KeepsSend rule i hi j hj n how) }
+{
+    match rule {
+        EventRule::Arrived => has_come(i, n, &got.places),
+        EventRule::Eager => is_eager_over(i, j, n, how, sent, &got.places),
+        EventRule::Asked => is_asked_over(i, j, n, how, sent, got),
+        EventRule::Recalls => true,
+    }
+}
+
+/// .. to rank j, if there is such a rank.
+fn is_kept_to(rule: EventRule, i: u8, j: u8, n: u64, how: How, sent: &Places, of: &Looked) -> bool
+    requires { AreLooked of.now.lines.now (ends_of of.now.ranks.now) of.now.tables.now }
+    ensures { (hi : List event.Event) → ArePlaces hi sent.now → Decides result
+        (IfSome (slice_get (ends_of of.now.ranks.now) j)
+        (λ rank. KeepsSend rule i hi j rank.events n how)) }
+{
+    match own_of(of, j) {
+        Some((_events, own)) => is_kept(rule, i, j, n, how, sent, own),
+        None => true,
+    }
+}
+
+/// Whether what happened at rank i is no send, or one that keeps the rule.
+pub(crate) fn keeps_send(
+    rule: EventRule,
+    i: u8,
+    what: &Happened,
+    sent: &Places,
+    of: &Looked,
+) -> bool
+    requires { AreLooked of.now.lines.now (ends_of of.now.ranks.now) of.now.tables.now }
+    ensures { (stamp : ℕ) (hi : List event.Event) → ArePlaces hi sent.now → Decides result
+        (SendKeeps (λ j hj s. KeepsSend rule i hi j hj s.n s.how) (ends_of of.now.ranks.now)
+        stamp what.now) }
 {
     match what {
-        Happened::Send { to, n, .. } => {
-            let j = *to as usize;
-            let count = tables.len();
-            if j >= count {
-                return true;
-            }
-            let came = is_ever::<Arrivals>(&tables[j].places.incoming.came.arrivals, i, *n);
-            is_so(came)
-        }
+        Happened::Send { to, n, how, .. } => is_kept_to(rule, i, *to, *n, *how, sent, of),
         _ => true,
     }
 }
 
-/// Whether what happened at rank i is no eager send to one of the ranks, or its message is over.
-pub(crate) fn is_eager_over(i: u8, what: &Happened, sent: &Places, tables: &[Tables]) -> bool
-    ensures { (ranks : List Ended) (stamp : ℕ) (hi : List event.Event) →
-        AreTabled ranks tables.now →
-        ArePlaces hi sent.now →
-        Decides result (SendKeeps (EagerIsOver i hi) ranks stamp what.now) }
+fn is_either(undone: bool, late: bool) -> bool
+    ensures { Decides result (IsTrue (undone || late)) }
 {
-    match what {
-        Happened::Send { to, n, how, .. } => {
-            let j = *to as usize;
-            let count = tables.len();
-            if j >= count {
-                return true;
-            }
-            let over = is_message_over(i, *to, *n, sent, &tables[j].places);
-            is_implied(is_eager(*how), over)
-        }
-        _ => true,
-    }
+    undone || late
 }
 
-/// Whether what happened at rank i is no send by asking to one of the ranks, or its message is over
-/// where it is paired, and kept back where it is claimed and not received.
-pub(crate) fn is_asked_over(i: u8, what: &Happened, sent: &Places, tables: &[Tables]) -> bool
-    ensures { (ranks : List Ended) (stamp : ℕ) (hi : List event.Event) →
-        AreTabled ranks tables.now →
-        ArePlaces hi sent.now →
-        Decides result (SendKeeps (AskedIsOver i hi) ranks stamp what.now) }
+/// Whether what happened is no recall, or one that was answered by this place.
+pub(crate) fn is_answered(places: &Places, end: usize, what: &Happened) -> bool
+    ensures { (h : List event.Event) → ArePlaces h places.now → length h ≡ end →
+        Decides result (IsAnswered h what.now) }
 {
     match what {
-        Happened::Send { to, n, how, .. } => {
-            let j = *to as usize;
-            let count = tables.len();
-            if j >= count {
-                return true;
-            }
-            let got = &tables[j];
-            let taken = is_ever_taken(got.pairing.taken(), i, *n);
-            let claimed = is_ever::<Claims>(&got.places.incoming.settled.claims, i, *n);
-            let over = is_message_over(i, *to, *n, sent, &got.places);
-            let kept = is_message_kept_back(i, *to, *n, sent, &got.places);
-            are_implied(is_asked(*how), taken, claimed, over, kept)
+        Happened::Recall { to, n } => {
+            let undone = is_before::<Undone>(&places.outgoing.recalled.undone, *to, *n, end);
+            let late = is_before::<Late>(&places.outgoing.recalled.late, *to, *n, end);
+            is_either(undone, late)
         }
         _ => true,
     }

@@ -1,17 +1,13 @@
 //! The first rule of rest that is broken, and where.
 
-ghost use Rattle.std.specs.Prelude.{◌≡◌, ◌<◌, List, MatchOption, length};
-ghost use Rattle.nm_types.specs.declared.scripts.Line as script_line;
-ghost use Rattle.nm_history.specs.Quiescence.{AreQuiescent, Packets};
+ghost use Rattle.std.specs.Prelude.{◌≡◌, ◌<◌, MatchOption, length};
+ghost use Rattle.nm_history.specs.Quiescence.{AreQuiescent};
 ghost use Rattle.nm_report.specs.Ends.{ends_of, packets_of};
-ghost use Rattle.nm_check_ranks.specs.declared.rest.clauses.RestClause.TheVariants as rest;
-ghost use Rattle.nm_check_ranks.specs.declared.rest.firsts.EventRule.TheVariants as rule;
-ghost use Rattle.nm_check_ranks.specs.RestBreaks.{AreInOrder, BreaksRestAt, IsRestBreak, clause_of, rest_clause};
-ghost use Rattle.nm_check_ranks.specs.RestClauses.{KeepsRest};
-ghost use Rattle.nm_check_ranks.specs.Tabled.{AreTabled, EachTabled};
+ghost use Rattle.nm_check_ranks.specs.RestBreaks.{AreInOrder, IsRestBreak, clause_of, rest_clause};
+ghost use Rattle.nm_check_ranks.specs.Tabled.{EachTabled};
 
 use crate::firsts::Spot;
-use crate::rest::arrived::has_all_arrived;
+use crate::looked::Looked;
 use crate::rest::clauses::RestClause;
 use crate::rest::counts::are_counted;
 use crate::rest::firsts::{EventRule, first_rest_at};
@@ -56,22 +52,6 @@ impl RestBreak {
     }
 }
 
-/// The first send whose message has not come.
-fn first_missing(ranks: &[RankAccount], tables: &[Tables]) -> Option<Spot>
-    requires few { length ranks.now < 256 }
-    requires ordered { AreInOrder (ends_of ranks.now) }
-    requires tabled { AreTabled (ends_of ranks.now) tables.now }
-    ensures { (lines : List script_line.Line) (packets : List Packets) → MatchOption result
-        (KeepsRest lines (ends_of ranks.now) packets rest.Arrived)
-        (λ spot. BreaksRestAt rule.Arrived (ends_of ranks.now) spot
-        × (¬ KeepsRest lines (ends_of ranks.now) packets rest.Arrived)) }
-{
-    if has_all_arrived(tables) {
-        return None;
-    }
-    first_rest_at(EventRule::Arrived, ranks, tables)
-}
-
 /// The first rule of rest that is broken, and where.
 pub fn first_of_rest(
     lines: &[Line],
@@ -85,19 +65,24 @@ pub fn first_of_rest(
     ensures { MatchOption result (AreQuiescent lines.now (ends_of ranks.now) (packets_of pairs.now))
         (IsRestBreak lines.now (ends_of ranks.now) (packets_of pairs.now)) }
 {
-    if let Some(spot) = first_missing(ranks, tables) {
+    let of = Looked {
+        lines,
+        ranks,
+        tables,
+    };
+    if let Some(spot) = first_rest_at(EventRule::Arrived, &of) {
         let rule = EventRule::Arrived;
         return Some(RestBreak::Event { rule, spot });
     }
-    if let Some(spot) = first_rest_at(EventRule::Eager, ranks, tables) {
+    if let Some(spot) = first_rest_at(EventRule::Eager, &of) {
         let rule = EventRule::Eager;
         return Some(RestBreak::Event { rule, spot });
     }
-    if let Some(spot) = first_rest_at(EventRule::Asked, ranks, tables) {
+    if let Some(spot) = first_rest_at(EventRule::Asked, &of) {
         let rule = EventRule::Asked;
         return Some(RestBreak::Event { rule, spot });
     }
-    if let Some(spot) = first_rest_at(EventRule::Recalls, ranks, tables) {
+    if let Some(spot) = first_rest_at(EventRule::Recalls, &of) {
         let rule = EventRule::Recalls;
         return Some(RestBreak::Event { rule, spot });
     }

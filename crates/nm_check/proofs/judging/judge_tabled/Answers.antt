@@ -3,30 +3,34 @@ use Rattle.std.proofs.lemmas.List.{length-map}
 use Rattle.nm_history.specs.Quiescence.{AreQuiescent, EachPair}
 use Rattle.nm_report.specs.Ends.{end_of_account, ends_of, packets_of}
 use Rattle.nm_check_ranks.specs.CarriedClauses.{PairDelivered}
-use Rattle.nm_check_ranks.specs.Marked.{BreaksPair}
+use Rattle.nm_check_ranks.specs.Marked.{BreaksPair, EachMarked}
 use Rattle.nm_check_ranks.specs.RestBreaks.{IsRestBreak}
 use Rattle.nm_check.proofs.SpotLemmas.{are_local, are_ordered}
 use Rattle.nm_check.proofs.judging.judge_tabled.Goals as goal
 
-pub judge_pairs-requires : goal.judge_pairs-requires
-judge_pairs-requires c =
+pub marks_of-requires : goal.marks_of-requires
+marks_of-requires c =
     rw (c.as_slice-lines.ensures, c.as_slice-ranks.ensures) (record {
       few = c.requires.few;
-      runs = (c.args.run.now.shape, c.requires.runs);
+      lawful = are_local c.args.run.now.shape c.args.script.now.lines (ends_of c.args.run.now.ranks) c.requires.runs;
       tabled = c.requires.tabled;
     })
 
 pub returns-in-Some : goal.returns-in-Some
 returns-in-Some c =
-    let pair : BreaksPair c.args.script.now.lines (ends_of c.args.run.now.ranks) c.in-Some.pair.from
-    c.in-Some.pair.broken.to c.in-Some.pair.broken.first =
-    rw (c.as_slice-lines.ensures, c.as_slice-ranks.ensures) at (rw c.in-Some.is at c.in_ok-pair.ensures) in
+    let marked : EachMarked c.args.script.now.lines (ends_of c.args.run.now.ranks) c.deref.result.now =
+    rw c.deref.ensures.value (rw (c.as_slice-lines.ensures, c.as_slice-ranks.ensures) at c.in_ok-marks.ensures) in
+    let pair : BreaksPair c.args.script.now.lines (ends_of c.args.run.now.ranks) c.in-Some.pair.from c.in-Some.pair.to
+    c.in-Some.pair.first =
+    c.in-Some.ensures c.args.script.now.lines (ends_of c.args.run.now.ranks) marked in
     record { judged = record { runs = c.requires.runs; earlier = pair.earlier; first = pair.first }; at = pair.at }
 
 pub first_of_rest-requires : goal.first_of_rest-requires
 first_of_rest-requires c =
+    let marked : EachMarked c.args.script.now.lines (ends_of c.args.run.now.ranks) c.deref.result.now =
+    rw c.deref.ensures.value (rw (c.as_slice-lines.ensures, c.as_slice-ranks.ensures) at c.in_ok-marks.ensures) in
     let delivered : EachPair (PairDelivered c.args.script.now.lines) (ends_of c.args.run.now.ranks) =
-    rw (c.as_slice-lines.ensures, c.as_slice-ranks.ensures) at (rw c.in_default.is at c.in_ok-pair.ensures) in
+    c.in_default.ensures c.args.script.now.lines (ends_of c.args.run.now.ranks) marked in
     rw (c.as_slice-lines.ensures, c.as_slice-ranks.ensures) (record {
       few = c.requires.few;
       ordered = (
@@ -38,8 +42,10 @@ first_of_rest-requires c =
 
 pub returns-in-Some-first_of_rest : goal.returns-in-Some-first_of_rest
 returns-in-Some-first_of_rest c =
+    let marked : EachMarked c.args.script.now.lines (ends_of c.args.run.now.ranks) c.deref.result.now =
+    rw c.deref.ensures.value (rw (c.as_slice-lines.ensures, c.as_slice-ranks.ensures) at c.in_ok-marks.ensures) in
     let delivered : EachPair (PairDelivered c.args.script.now.lines) (ends_of c.args.run.now.ranks) =
-    rw (c.as_slice-lines.ensures, c.as_slice-ranks.ensures) at (rw c.in_default.is at c.in_ok-pair.ensures) in
+    c.in_default.ensures c.args.script.now.lines (ends_of c.args.run.now.ranks) marked in
     let rest : IsRestBreak c.args.script.now.lines (ends_of c.args.run.now.ranks) (packets_of c.args.run.now.pairs)
     c.in-Some-first_of_rest.first =
     rw (c.as_slice-lines.ensures, c.as_slice-ranks.ensures, c.as_slice.ensures) at c.in-Some-first_of_rest.ensures in
@@ -47,10 +53,12 @@ returns-in-Some-first_of_rest c =
 
 pub returns : goal.returns
 returns c =
+    let marked : EachMarked c.args.script.now.lines (ends_of c.args.run.now.ranks) c.deref.result.now =
+    rw c.deref.ensures.value (rw (c.as_slice-lines.ensures, c.as_slice-ranks.ensures) at c.in_ok-marks.ensures) in
     let many : length (ends_of c.args.run.now.ranks) ≡ c.args.run.now.shape.ranks =
     length-map c.args.run.now.ranks end_of_account ∙ c.requires.whole in
     let delivered : EachPair (PairDelivered c.args.script.now.lines) (ends_of c.args.run.now.ranks) =
-    rw (c.as_slice-lines.ensures, c.as_slice-ranks.ensures) at (rw c.in_default.is at c.in_ok-pair.ensures) in
+    c.in_default.ensures c.args.script.now.lines (ends_of c.args.run.now.ranks) marked in
     let quiescent : AreQuiescent c.args.script.now.lines (ends_of c.args.run.now.ranks)
     (packets_of c.args.run.now.pairs) =
     rw (c.as_slice-lines.ensures, c.as_slice-ranks.ensures, c.as_slice.ensures) at

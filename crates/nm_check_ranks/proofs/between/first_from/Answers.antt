@@ -1,4 +1,4 @@
-use Rattle.std.proofs.Common.{◌≡◌, ◌≤◌, arith, get_or, length}
+use Rattle.std.proofs.Common.{◌≡◌, ◌≤◌, arith, get_or, length, refl}
 use Rattle.std.proofs.lemmas.List.{get_or_default}
 use Rattle.nm_history.specs.Quiescence.{history_of}
 use Rattle.nm_check_ranks.specs.CarriedClauses.{PairDelivered}
@@ -21,16 +21,18 @@ loop-j-preserved c = λ lines ranks its marked.
 
 pub returns-in-Some : goal.returns-in-Some
 returns-in-Some c = λ lines ranks its marked.
-    let many : length c.args.marks.now ≡ length ranks = marked.as_many in
-    record {
-      earlier = below (λ j rank. PairDelivered lines c.args.i j (history_of ranks c.args.i) rank.events) ranks
-          c.loop-j.j (c.loop-j.invariant lines ranks its marked);
-      inside = omega (arith, many, c.loop-j-test.true);
-      its = c.in-Some.ensures lines ranks its
-          (marked.each c.loop-j.j (get_or c.args.marks.now c.loop-j.j blank) c.loop-j-test.true
-          (get_or_default c.args.marks.now c.loop-j.j blank (get_or c.args.marks.now c.loop-j.j blank)
-          c.loop-j-test.true));
-    }
+    let many : length c.args.marks.now ≡ length ranks = marked.as_many in (
+      refl,
+      record {
+        earlier = below (λ j rank. PairDelivered lines c.args.i j (history_of ranks c.args.i) rank.events) ranks
+            c.loop-j.j (c.loop-j.invariant lines ranks its marked);
+        inside = omega (arith, many, c.loop-j-test.true);
+        its = c.in-Some.ensures lines ranks its
+            (marked.each c.loop-j.j (get_or c.args.marks.now c.loop-j.j blank) c.loop-j-test.true
+            (get_or_default c.args.marks.now c.loop-j.j blank (get_or c.args.marks.now c.loop-j.j blank)
+            c.loop-j-test.true));
+      },
+    )
 
 pub returns : goal.returns
 returns c = λ lines ranks its marked.

@@ -1,7 +1,8 @@
-use Rattle.std.proofs.Common.{get_or, ◌≡◌, ◌≤◌, length, arith}
+use Rattle.std.proofs.Common.{get_or, ◌≡◌, ◌≤◌, ℕ, length, sym, subst, arith}
 use Rattle.std.proofs.lemmas.List.{get_or_default}
 use Rattle.nm_history.specs.Quiescence.{EachRank}
 use Rattle.nm_check_ranks.specs.CarriedClauses.{PairDelivered}
+use Rattle.nm_check_ranks.specs.Marked.{BreaksPair}
 use Rattle.nm_check_ranks.proofs.PairLemmas.{breaks_pair}
 use Rattle.nm_check_ranks.proofs.RankLemmas.{all, next, none_yet}
 use Rattle.nm_check_ranks.proofs.TableLemmas.{blank, some_history}
@@ -24,12 +25,14 @@ loop-i-preserved c = λ lines ranks marked.
 pub returns-in-Some : goal.returns-in-Some
 returns-in-Some c = λ lines ranks marked.
     let many : length c.args.marks.now ≡ length ranks = marked.as_many in
-    breaks_pair lines ranks c.loop-i.i c.in-Some.broken.to c.in-Some.broken.first
-    (omega (arith, many, c.loop-i-test.true)) (c.loop-i.invariant lines ranks marked)
-    (c.in-Some.ensures lines ranks
+    let pair = c.in-Some.pair in
+    let its = c.in-Some.ensures lines ranks
     (marked.each c.loop-i.i (get_or c.args.marks.now c.loop-i.i blank) c.loop-i-test.true
     (get_or_default c.args.marks.now c.loop-i.i blank (get_or c.args.marks.now c.loop-i.i blank)
-    c.loop-i-test.true)) marked)
+    c.loop-i-test.true)) marked in
+    subst (λ (i : ℕ). BreaksPair lines ranks i pair.to pair.first) (sym its.0)
+    (breaks_pair lines ranks c.loop-i.i pair.to pair.first (omega (arith, many, c.loop-i-test.true))
+    (c.loop-i.invariant lines ranks marked) its.1)
 
 pub returns : goal.returns
 returns c = λ lines ranks marked.

@@ -9,5 +9,5 @@ returns-in-Ran c = λ h own here. rw c.in-Ran.is (c.sender_of_answer.ensures h c
 
 pub returns-in_default : goal.returns-in_default
 returns-in_default c = λ h own here.
-    no_answer_named c.args.lines.now (history_of (ends_of c.args.ranks.now)) c.args.j
+    no_answer_named c.args.of.now.lines.now (history_of (ends_of c.args.of.now.ranks.now)) c.args.j
     (take c.args.k h) c.args.e.now.what c.in_default.not-Ran

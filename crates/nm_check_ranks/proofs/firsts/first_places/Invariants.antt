@@ -8,4 +8,4 @@ use Rattle.nm_check_ranks.proofs.firsts.first_places.Given as goal
 abbrev pub invariant-loop-k : goal.invariant-loop-k
 invariant-loop-k l =
     (y : ℕ) → y < 256 →
-    SoFar (PartAt l.part l.lines (ends_of l.ranks) l.x y) l.events l.k (get_or l.firsts y None)
+    SoFar (PartAt l.part l.of.lines.now (ends_of l.of.ranks.now) l.x y) l.events l.k (get_or l.firsts y None)

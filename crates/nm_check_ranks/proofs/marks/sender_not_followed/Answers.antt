@@ -10,11 +10,11 @@ use Rattle.nm_check_ranks.proofs.marks.sender_not_followed.Goals as goal
 pub returns-in-Arrive : goal.returns-in-Arrive
 returns-in-Arrive c = λ n before number. rw c.in-Arrive.is
     (subst (λ (o : Option ℕ). Names
-    (λ i. ArrivesNext i c.args.j ((history_of (ends_of c.args.ranks.now)) i) before c.args.e.now.stamp
+    (λ i. ArrivesNext i c.args.j (history_of (ends_of c.args.of.now.ranks.now) i) before c.args.e.now.stamp
     (happening.Arrive c.in-Arrive.a)) o) (sym c.named_unless.ensures)
-    (arrival_names c.args.j n c.args.e.now.stamp (history_of (ends_of c.args.ranks.now)) before c.in-Arrive.a
+    (arrival_names c.args.j n c.args.e.now.stamp (history_of (ends_of c.args.of.now.ranks.now)) before c.in-Arrive.a
     c.was_sent.result (rw c.in-Arrive.is at number) c.was_sent.ensures))
 
 pub returns-in_default : goal.returns-in_default
 returns-in_default c = λ n before number. no_arrival_names c.args.j c.args.e.now.stamp
-    (history_of (ends_of c.args.ranks.now)) before c.args.e.now.what c.in_default.not-Arrive
+    (history_of (ends_of c.args.of.now.ranks.now)) before c.args.e.now.what c.in_default.not-Arrive

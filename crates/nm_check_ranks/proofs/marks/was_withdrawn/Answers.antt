@@ -1,60 +1,20 @@
-use Rattle.std.proofs.Common.{◌≡◌, false, List, refl, ap, get_or}
+use Rattle.std.proofs.Common.{List, [], Option, sym, ◌∙◌, ap}
+use Rattle.std.specs.Option.{option_map_or}
 use Rattle.nm_history.specs.declared.events.Event.{Event}
 use Rattle.nm_history.specs.Delivery.{earlier_than}
 use Rattle.nm_history.specs.Happens.{happened, is_withdraw}
-use Rattle.nm_report.specs.declared.accounts.RankAccount.{RankAccount}
-use Rattle.nm_check_rank.specs.declared.paired.tables.Tables.{Tables}
-use Rattle.nm_check_ranks.proofs.TableLemmas.{table_inside, tables_at}
-use Rattle.nm_check_ranks.proofs.WasLemmas.{of_history, of_none, rank_keeps}
+use Rattle.nm_history.specs.Quiescence.{Ended}
 use Rattle.nm_check_ranks.proofs.marks.was_withdrawn.Goals as goal
 
-pub returns-then-k-count : goal.returns-then-k-count
-returns-then-k-count c =
-    of_none c.args.ranks.now c.args.j
-    (λ (h : List Event). false ≡ happened (is_withdraw c.args.i c.args.n c.args.done) (earlier_than c.args.stamp h))
-    c.if-k-count.true refl
+pub is_withdrawn-requires : goal.is_withdrawn-requires
+is_withdrawn-requires c = record { rising = c.in-Some.ensures.stamps; places = c.in-Some.ensures.tabled.places }
 
-pub bounds-tables-k : goal.bounds-tables-k
-bounds-tables-k c = table_inside c.args.ranks.now c.args.tables.now c.args.j c.requires.tabled c.if-k-count.false
+pub returns-in-Some : goal.returns-in-Some
+returns-in-Some c =
+    c.is_withdrawn.ensures ∙ ap (λ (h : List Event). happened (is_withdraw c.args.i c.args.n c.args.done)
+    (earlier_than c.args.stamp h)) (sym c.in-Some.ensures.history)
 
-pub is_earlier-requires : goal.is_earlier-requires
-is_earlier-requires c = rw c.as_slice-events.ensures (record {
-  rising = (rank_keeps c.args.ranks.now c.args.j (get_or c.args.ranks.now c.args.j c.index-ranks-k.result)
-      c.if-k-count.false (ap (λ (x : RankAccount). get_or c.args.ranks.now c.args.j x) c.index-ranks-k.is)
-      c.requires.lawful).stamps;
-  firsts = (tables_at c.args.ranks.now c.args.tables.now c.args.j
-      (get_or c.args.ranks.now c.args.j c.index-ranks-k.result)
-      (get_or c.args.tables.now c.args.j c.index-tables-k.result) c.requires.tabled c.if-k-count.false
-      (ap (λ (x : RankAccount). get_or c.args.ranks.now c.args.j x) c.index-ranks-k.is)
-      (ap (λ (x : Tables). get_or c.args.tables.now c.args.j x)
-      c.index-tables-k.is)).places.incoming.settled.withdrawn;
-})
-
-pub is_earlier-requires-else-done : goal.is_earlier-requires-else-done
-is_earlier-requires-else-done c = rw c.as_slice-events.ensures (record {
-  rising = (rank_keeps c.args.ranks.now c.args.j (get_or c.args.ranks.now c.args.j c.index-ranks-k.result)
-      c.if-k-count.false (ap (λ (x : RankAccount). get_or c.args.ranks.now c.args.j x) c.index-ranks-k.is)
-      c.requires.lawful).stamps;
-  firsts = (tables_at c.args.ranks.now c.args.tables.now c.args.j
-      (get_or c.args.ranks.now c.args.j c.index-ranks-k.result)
-      (get_or c.args.tables.now c.args.j c.index-tables-k.result) c.requires.tabled c.if-k-count.false
-      (ap (λ (x : RankAccount). get_or c.args.ranks.now c.args.j x) c.index-ranks-k.is)
-      (ap (λ (x : Tables). get_or c.args.tables.now c.args.j x)
-      c.index-tables-k.is)).places.incoming.settled.refused;
-})
-
-pub returns-then-done : goal.returns-then-done
-returns-then-done c =
-    of_history c.args.ranks.now c.args.j (get_or c.args.ranks.now c.args.j c.index-ranks-k.result) c.if-k-count.false
-    (ap (λ (x : RankAccount). get_or c.args.ranks.now c.args.j x) c.index-ranks-k.is)
-    (λ (h : List Event). c.is_earlier.result ≡ happened (is_withdraw c.args.i c.args.n c.args.done)
-    (earlier_than c.args.stamp h))
-    c.as_slice-events.result.now c.as_slice-events.ensures (rw c.if-done.true c.is_earlier.ensures)
-
-pub returns-else-done : goal.returns-else-done
-returns-else-done c =
-    of_history c.args.ranks.now c.args.j (get_or c.args.ranks.now c.args.j c.index-ranks-k.result) c.if-k-count.false
-    (ap (λ (x : RankAccount). get_or c.args.ranks.now c.args.j x) c.index-ranks-k.is)
-    (λ (h : List Event). c.is_earlier-else-done.result ≡ happened (is_withdraw c.args.i c.args.n c.args.done)
-    (earlier_than c.args.stamp h))
-    c.as_slice-events.result.now c.as_slice-events.ensures (rw c.if-done.false c.is_earlier-else-done.ensures)
+pub returns-in-None : goal.returns-in-None
+returns-in-None c =
+    ap (λ (o : Option Ended). happened (is_withdraw c.args.i c.args.n c.args.done)
+    (earlier_than c.args.stamp (option_map_or (λ rank. rank.events) o []))) (sym c.in-None.ensures)

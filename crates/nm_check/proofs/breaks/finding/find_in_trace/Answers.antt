@@ -1,16 +1,20 @@
-use Rattle.std.proofs.Common.{◌≡◌, ◌<◌, ◌^◌, refl, subst, arith, rules}
+use Rattle.std.proofs.Common.{◌≡◌, ◌<◌, ◌^◌, refl, ap, subst, arith, rules}
 use Rattle.nm_types.specs.Sizes.{Sizes}
 use Rattle.nm_trace.specs.Traces.{IsTraceOf}
 use Rattle.nm_check.specs.Found.{sizes}
 use Rattle.nm_check.specs.Judgements.{IsJudgement}
 use Rattle.nm_check.specs.Stops.{lines_in}
-use Rattle.nm_check.proofs.EventLemmas.{few_lines}
 use Rattle.nm_check.proofs.HeldLemmas.{all_stand}
+use Rattle.nm_check.proofs.LastLemmas.{few_lines}
 use Rattle.nm_check.proofs.breaks.finding.find_in_trace.Goals as goal
 
 pub judged-requires-clause-short : goal.judged-requires-clause-short
 judged-requires-clause-short c =
-    let few = few_lines _ c.args.rest.now _ c.in-Ok.ensures.taken in
+    let sized : c.unwrap-shape.result ≡ sizes c.args.cells c.args.eager c.args.script.now.ranks = search rules in
+    let low : c.args.script.now.ranks < 256 = search rules in
+    let same : c.unwrap-shape.result.ranks ≡ c.args.script.now.ranks = ap (λ (s : Sizes). s.ranks) sized in
+    let few = few_lines c.unwrap-shape.result c.args.rest.now c.in-Ok.run' c.in-Ok.ensures.taken
+    (omega (arith, same, low)) in
     let short = c.requires.short in
     omega (arith, few, short)
 

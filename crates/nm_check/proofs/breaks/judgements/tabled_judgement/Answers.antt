@@ -9,9 +9,21 @@ carried_judgement-requires c = record {
   tabled = c.requires.tabled;
 }
 
-pub rest_judgement-requires : goal.rest_judgement-requires
-rest_judgement-requires c = record {
-  found = rw c.in-Rest.is at c.requires.found;
+pub left_judgement-requires : goal.left_judgement-requires
+left_judgement-requires c = record {
+  found = rw c.in-Event.is at (rw c.in-Rest.is at c.requires.found);
+  short = omega (arith, c.requires.short);
+}
+
+pub standing_judgement-requires : goal.standing_judgement-requires
+standing_judgement-requires c = record {
+  found = rw c.in-Standing.is at (rw c.in-Rest.is at c.requires.found);
+  tabled = c.requires.tabled;
+}
+
+pub counts_judgement-requires : goal.counts_judgement-requires
+counts_judgement-requires c = record {
+  judged = (rw c.in-Counts.is at (rw c.in-Rest.is at c.requires.found)).judged;
   few = c.requires.few;
   short = c.requires.short;
   tabled = c.requires.tabled;
@@ -20,9 +32,15 @@ rest_judgement-requires c = record {
 pub returns-in-Carried : goal.returns-in-Carried
 returns-in-Carried c = c.carried_judgement.ensures c.args.count
 
-pub returns-in-Rest : goal.returns-in-Rest
-returns-in-Rest c =
-    IfOk-weaker c.rest_judgement.result _ _ (λ judgement each. each c.args.count) c.rest_judgement.ensures
+pub returns-in-Event : goal.returns-in-Event
+returns-in-Event c = c.left_judgement.ensures c.args.count
+
+pub returns-in-Standing : goal.returns-in-Standing
+returns-in-Standing c = c.standing_judgement.ensures c.args.count
+
+pub returns-in-Counts : goal.returns-in-Counts
+returns-in-Counts c =
+    IfOk-weaker c.counts_judgement.result _ _ (λ judgement each. each c.args.count) c.counts_judgement.ensures
 
 pub returns-in-Home : goal.returns-in-Home
 returns-in-Home c =

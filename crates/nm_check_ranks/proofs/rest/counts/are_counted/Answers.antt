@@ -1,13 +1,9 @@
-use Rattle.std.proofs.Common.{◌≡◌, ◌++◌, ◌≤◌, List, get_or, length, sym, ◌∙◌, ap, subst, arith}
+use Rattle.std.proofs.Common.{◌≡◌, ◌++◌, ◌≤◌, List, length, subst, arith}
 use Rattle.std.specs.List.{range_with_len}
 use Rattle.std.proofs.lemmas.List.{length-map, take_all}
-use Rattle.nm_history.specs.declared.events.Event.{Event}
-use Rattle.nm_history.specs.Matching.{matched_pairs}
 use Rattle.nm_history.specs.Outgoing.{packets_to}
 use Rattle.nm_history.specs.Quiescence.{Ended, packets_by_rank}
 use Rattle.nm_report.specs.Ends.{end_of_account, ends_of, packets_of}
-use Rattle.nm_check_ranks.specs.Counting.{AreDue}
-use Rattle.nm_check_rank.specs.declared.paired.tables.Tables.{Tables}
 use Rattle.nm_check_ranks.proofs.TableLemmas.{table_inside, tables_at}
 use Rattle.nm_check_ranks.proofs.CountingLemmas.{all_decided, rank_breaks, rank_more}
 use Rattle.nm_check_ranks.proofs.rest.counts.are_counted.Goals as goal
@@ -15,40 +11,27 @@ use Rattle.nm_check_ranks.proofs.rest.counts.are_counted.Goals as goal
 pub bounds-tables-i : goal.bounds-tables-i
 bounds-tables-i c = table_inside c.args.ranks.now c.args.tables.now c.loop-i.i c.requires.tabled c.loop-i-test.true
 
+pub counts_of-counts-requires : goal.counts_of-counts-requires
+counts_of-counts-requires c = (
+  c.loop-i.i,
+  c.requires.tabled.0,
+  tables_at c.args.ranks.now c.args.tables.now c.loop-i.i c.index-ranks-i.result c.index-tables-i.result
+      c.requires.tabled c.loop-i-test.true c.index-ranks-i.is c.index-tables-i.is,
+)
+
 -- what is counted is due
 pub loop-i-preserved : goal.loop-i-preserved
 loop-i-preserved c = λ lines.
-    let pairs : c.pairs.result.now ≡ matched_pairs c.index-ranks-i.result.history.events =
-    c.pairs.ensures c.loop-i.i c.requires.tabled.0 c.index-ranks-i.result.history.events
-    (tables_at c.args.ranks.now c.args.tables.now c.loop-i.i c.index-ranks-i.result
-    (get_or c.args.tables.now c.loop-i.i c.index-tables-i.result) c.requires.tabled
-    c.loop-i-test.true c.index-ranks-i.is
-    (ap (λ (t : Tables). get_or c.args.tables.now c.loop-i.i t) c.index-tables-i.is)).tells in
-    let due : AreDue c.counts_of-counts.result (packets_to c.index-ranks-i.result.history.events) =
-    rw c.as_slice-events.ensures at
-    (c.counts_of-counts.ensures.exact
-    (pairs ∙ ap (λ (h : List Event). matched_pairs h) (sym c.as_slice-events.ensures))) in
     rank_more lines c.args.ranks.now c.loop-i.i c.index-ranks-i.result c.loop-i-test.true c.index-ranks-i.is
-    (packets_of c.args.pairs.now)
-    (packets_of c.loop-i.left.now) (packets_of c.in-Some.others.now) (c.loop-i.invariant lines)
-    (c.in-Some.ensures (packets_to c.index-ranks-i.result.history.events) due)
+    (packets_of c.args.pairs.now) (packets_of c.loop-i.left.now) (packets_of c.in-Some.others.now)
+    (c.loop-i.invariant lines)
+    (c.in-Some.ensures (packets_to c.index-ranks-i.result.history.events) c.counts_of-counts.ensures.exact)
 
 pub returns-in-None : goal.returns-in-None
 returns-in-None c = λ lines same.
-    let pairs : c.pairs.result.now ≡ matched_pairs c.index-ranks-i.result.history.events =
-    c.pairs.ensures c.loop-i.i c.requires.tabled.0 c.index-ranks-i.result.history.events
-    (tables_at c.args.ranks.now c.args.tables.now c.loop-i.i c.index-ranks-i.result
-    (get_or c.args.tables.now c.loop-i.i c.index-tables-i.result) c.requires.tabled
-    c.loop-i-test.true c.index-ranks-i.is
-    (ap (λ (t : Tables). get_or c.args.tables.now c.loop-i.i t) c.index-tables-i.is)).tells in
-    let due : AreDue c.counts_of-counts.result (packets_to c.index-ranks-i.result.history.events) =
-    rw c.as_slice-events.ensures at
-    (c.counts_of-counts.ensures.exact
-    (pairs ∙ ap (λ (h : List Event). matched_pairs h) (sym c.as_slice-events.ensures))) in
     rank_breaks lines c.args.ranks.now c.loop-i.i c.index-ranks-i.result c.loop-i-test.true c.index-ranks-i.is
-    (packets_of c.args.pairs.now)
-    (packets_of c.loop-i.left.now) (c.loop-i.invariant lines)
-    (c.in-None.ensures (packets_to c.index-ranks-i.result.history.events) due) same
+    (packets_of c.args.pairs.now) (packets_of c.loop-i.left.now) (c.loop-i.invariant lines)
+    (c.in-None.ensures (packets_to c.index-ranks-i.result.history.events) c.counts_of-counts.ensures.exact) same
 
 pub returns : goal.returns
 returns c = λ lines.

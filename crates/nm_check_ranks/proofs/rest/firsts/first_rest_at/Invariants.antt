@@ -6,4 +6,4 @@ use Rattle.nm_check_ranks.proofs.rest.firsts.first_rest_at.Given as goal
 -- the ranks so far keep the rule
 abbrev pub invariant-loop-i : goal.invariant-loop-i
 invariant-loop-i l =
-    UpTo (λ x rank. KeepRestAt l.rule (ends_of l.ranks) x rank.events rank.events) (ends_of l.ranks) l.i
+    UpTo (λ x rank. KeepRestAt l.rule (ends_of l.of.ranks.now) x rank.events rank.events) (ends_of l.of.ranks.now) l.i
