@@ -36,7 +36,7 @@ use Rattle.nm_explored.specs.Successors.{answer_in, may_begin}
 use Rattle.nm_explored.specs.Lines.{line_in}
 use Rattle.nm_explored.specs.Moves.{IsAct, IsChoiceOf, IsDeedOf, moved_at}
 use Rattle.nm_explored.specs.Chosen.{Acts, Goes, IsSettled, IsSettledBy, LetsAct}
-use Rattle.nm_explored.specs.Ends.{AreAtRest, is_waiting}
+use Rattle.nm_explored.specs.Rests.{AreAtRest, is_waiting}
 use Rattle.nm_explored.specs.Orderly.{HasNoClaim, IsOrderly, came_of}
 use Rattle.nm_explored.proofs.BehindLemmas.{IsKept, arrive_behind, deed_behind, is_plain}
 use Rattle.nm_explored.proofs.CalmLemmas.{calm_next, no_withdrawal}

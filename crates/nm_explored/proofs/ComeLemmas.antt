@@ -42,10 +42,11 @@ use Rattle.nm_explored.specs.Successors.{start_in}
 use Rattle.nm_explored.specs.Moves.{IsAct, IsChoiceOf, IsNextMessage, moved_at}
 use Rattle.nm_explored.specs.Chosen.{Goes}
 use Rattle.nm_explored.specs.Coming.{AreEnoughAt, Choice, Comes, LetsCome, Makes}
-use Rattle.nm_explored.specs.Coming.Choice.{Acting, Arriving}
-use Rattle.nm_explored.specs.Ends.{AreAtRest}
+use Rattle.nm_explored.specs.Coming.Choice.{Acting, Arriving, Parting}
+use Rattle.nm_explored.specs.Rests.{AreAtRest}
 use Rattle.nm_explored.specs.Orderly.{IsOrderly, came_of, is_claiming}
 use Rattle.nm_explored.proofs.AfterLemmas.{act_behind, other_cancelled, receive_behind}
+use Rattle.nm_explored.proofs.ApartLemmas.{parts_are_enough}
 use Rattle.nm_explored.proofs.CalmLemmas.{calm_next, no_withdrawal}
 use Rattle.nm_explored.proofs.BehindLemmas.{IsKept, deed_behind}
 use Rattle.nm_explored.proofs.ChosenLemmas.{acts_are_enough, arrival_later}
@@ -596,6 +597,7 @@ comes_are_enough eager ranks lines i from = record {
 
 pub choices_are_enough : (eager ranks : ℕ) (lines : List Line) (c : Choice) →
     AreEnough (Goes eager ranks lines) (λ s. AreAtRest ranks lines (λ k. slice_get s k)) (AreEnoughAt ranks lines c)
-    (Makes eager lines c)
+    (Makes eager ranks lines c)
 choices_are_enough eager ranks lines (Acting i) = acts_are_enough eager ranks lines i
 choices_are_enough eager ranks lines (Arriving i from) = comes_are_enough eager ranks lines i from
+choices_are_enough eager ranks lines (Parting groups g) = parts_are_enough eager ranks lines groups g

@@ -1,6 +1,6 @@
 -- States whose moves lead to states that are there.
 use Rattle.std.proofs.Common.{◌≡◌, inl, inr, ℕ, ◌+◌, ◌<◌, Some, List, sym, ◌∙◌, ap, subst, arith}
-use Rattle.std.proofs.Common.{Option, get_or, length}
+use Rattle.std.proofs.Common.{Option, get_or, length, refl}
 use Rattle.std.specs.List.{slice_get, slice_set}
 use Rattle.std.proofs.lemmas.List.{map-set}
 use Rattle.std.proofs.lemmas.Option.{get_or_from_slice_get}
@@ -19,10 +19,13 @@ use Rattle.nm_explored.specs.Moves.{IsAct, moved_at}
 use Rattle.nm_search.proofs.ListLemmas.{each_next, has_kept}
 use Rattle.nm_explored.specs.Chosen.{Goes, IsSettled}
 use Rattle.nm_explored.specs.Coming.{AreEnoughAt, AreEnoughTurns, IsNamed, Makes}
-use Rattle.nm_explored.specs.Coming.Choice.{Acting, Arriving}
+use Rattle.nm_explored.specs.Coming.Choice.{Acting, Arriving, Parting}
 use Rattle.nm_explored.specs.Met.{IsMade}
 use Rattle.nm_explored.specs.Stores.{AreExpanded, AreLow, Grows, IsExpanded, IsExplored, IsFirst, IsThere, Leads, Store}
 use Rattle.nm_explored.specs.Stores.{states_in}
+use Rattle.nm_explored.specs.Apart.{group_of}
+use Rattle.nm_explored.specs.Rests.{IsAtRest}
+use Rattle.nm_explored.proofs.ApartLemmas.{met_inside}
 use Rattle.nm_explored.proofs.CalmLemmas.{met_calm}
 use Rattle.nm_explored.proofs.MetLemmas.{low_kept, low_set, state_at, states_kept, turn_same}
 use Rattle.nm_explored.proofs.OrderlyLemmas.{met_orderly}
@@ -53,7 +56,7 @@ leads_there store ids i x y low here lead = (
 module _ (eager ranks : ℕ) (lines : List Line) where
   abbrev AreLed : Store → List Spot → Type 0
   AreLed store state =
-      searches.IsExplored (Goes eager ranks lines) (AreEnoughAt ranks lines) (Makes eager lines) (IsThere store)
+      searches.IsExplored (Goes eager ranks lines) (AreEnoughAt ranks lines) (Makes eager ranks lines) (IsThere store)
       state
 
   led_kept : (a b : Store) → Grows a b → (state : List Spot) → AreLed a state → AreLed b state
@@ -140,7 +143,7 @@ module _ (eager ranks : ℕ) (lines : List Line) where
                 led (record { rank = one.rank; by = move.Act acts.2 }) one.spot one.here (one.all acts.2 act) u
                 (acts.4 ∙ ap (λ (x : Spot). slice_set state one.rank (spot_after x acts.2)) is),
           )
-      by_turns (inr (inr one)) =
+      by_turns (inr (inr (inl one))) =
           inr (
             Arriving one.turn.rank one.is.1,
             record {
@@ -162,6 +165,25 @@ module _ (eager ranks : ℕ) (lines : List Line) where
                 (comes.4 ∙ ap (λ (x : Spot). slice_set state one.turn.rank (arrived_at x comes.2)) spot_is
                 ∙ ap (λ (a : Arrival). slice_set state one.turn.rank (arrived_at one.is.2.spot a)) is
                 ∙ ap (λ (m : Move). slice_set state one.turn.rank (moved_at one.is.2.spot m)) (sym one.is.3)),
+          )
+      by_turns (inr (inr (inr one))) =
+          inr (
+            Parting one.groups (group_of one.groups one.rank),
+            record {
+              apart = one.apart;
+              started = met_started eager ranks lines state (made.sound k ids here).met;
+              inside = met_inside eager ranks lines one.groups one.apart state (made.sound k ids here).met;
+              rank = one.rank;
+              low = one.low;
+              own = refl;
+              moves = λ rest. one.moves
+                  (subst (λ (v : ℕ → Option Spot). IsAtRest ranks lines v one.rank) (λ j i. at i j) rest);
+            },
+            λ u makes.
+                let turn = turn_same eager ranks lines (λ i. slice_get state i) (spot_in old.table ids) makes.0 at
+                makes.3 in
+                led makes.0 makes.3.spot (sym (at makes.0.rank) ∙ makes.3.here)
+                (one.all makes.0.rank makes.1 makes.2 turn.0.spot turn.0.here makes.0.by turn.0.choice) u makes.4,
           )
 
       pub expanded_now : AreEnoughTurns eager ranks lines (spot_in old.table ids) turns →

@@ -1,8 +1,9 @@
 mod AfterLemmas
 pub mod AnswerLemmas
+pub mod ApartLemmas
 mod BackLemmas
 mod BehindLemmas
-mod CalmLemmas
+pub mod CalmLemmas
 pub mod ChoiceLemmas
 mod ChosenLemmas
 mod ComeLemmas
@@ -10,18 +11,18 @@ pub mod ExpandLemmas
 pub mod KeptLemmas
 pub mod LineLemmas
 pub mod MetLemmas
-mod OrderlyLemmas
+pub mod OrderlyLemmas
 pub mod PlacedLemmas
-mod PostLemmas
+pub mod PostLemmas
 pub mod RestedLemmas
 pub mod RestLemmas
 pub mod ResultLemmas
 mod SeenLemmas
-mod SenderLemmas
+pub mod SenderLemmas
 pub mod SendLemmas
 pub mod SetLemmas
 pub mod SinceLemmas
-mod StartedLemmas
+pub mod StartedLemmas
 pub mod StoreLemmas
 pub mod TellLemmas
 pub mod ToldLemmas

@@ -50,14 +50,14 @@ use Rattle.nm_explored.proofs.PostLemmas.{arrived, arrives_at, arrives_free, fou
 use Rattle.nm_explored.proofs.PostLemmas.{none_placed, none_push, pair_for, posted, posts_found, posts_open, turned}
 
 -- what a test counts, with one element more
-count_push : {X : Type 0} (test : X → Bool) (xs : List X) (x : X) →
+pub count_push : {X : Type 0} (test : X → Bool) (xs : List X) (x : X) →
     count_by test (xs ++ x ∷ []) ≡ count_by test xs + length (filter test (x ∷ []))
 count_push {X} test xs x =
     sym (length-filter test (xs ++ x ∷ [])) ∙ ap (λ (ys : List X). length ys) (filter-append test xs (x ∷ []))
     ∙ length-append (filter test xs) (filter test (x ∷ []))
     ∙ ap (λ (n : ℕ). n + length (filter test (x ∷ []))) (length-filter test xs)
 
-none_left : {X : Type 0} (test p : X → Bool) (xs : List X) → list_any test xs ≡ false →
+pub none_left : {X : Type 0} (test p : X → Bool) (xs : List X) → list_any test xs ≡ false →
     list_any test (filter p xs) ≡ false
 none_left test p [] none = refl
 none_left {X} test p (x ∷ xs) none = by_kept (p x) (test x) refl none (none_left test p xs)

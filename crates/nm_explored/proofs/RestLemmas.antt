@@ -49,7 +49,8 @@ use Rattle.nm_explored.specs.Settings.{IsAt}
 use Rattle.nm_explored.proofs.PlacedLemmas.{came_said, found_said, free_said, numbers_in, placed}
 use Rattle.nm_explored.proofs.ResultLemmas.{ends}
 use Rattle.nm_explored.proofs.SendLemmas.{sent_many}
-use Rattle.nm_explored.specs.Ends.{IsAtRest, IsHeldUp, is_waiting, told_in}
+use Rattle.nm_explored.specs.Ends.{told_in}
+use Rattle.nm_explored.specs.Rests.{IsAtRest, IsHeldUp, is_waiting}
 
 some_none : {X : Type 0} (x : X) → Some x ≡ None → ⊥
 some_none x same = no_some x (sym same)

@@ -18,7 +18,8 @@ use Rattle.nm_sure.proofs.Lists.{any_at}
 use Rattle.nm_outcomes.specs.Looks.{is_recall_by, is_send_by}
 use Rattle.nm_outcomes.specs.RankStates.{Spot, free_lem}
 use Rattle.nm_explored.specs.declared.ends.End.{End}
-use Rattle.nm_explored.specs.Ends.{AreAtRest, AreEndsAmong, AreEndsByWay, AreOnlyEnds, IsAtRest, IsToldAtRest}
+use Rattle.nm_explored.specs.Ends.{AreEndsAmong, AreEndsByWay, AreOnlyEnds, IsToldAtRest}
+use Rattle.nm_explored.specs.Rests.{AreAtRest, IsAtRest}
 use Rattle.nm_explored.specs.Ends.{TellsOnly, all_told}
 use Rattle.nm_explored.specs.Met.{AreBack, IsMade, IsWay}
 use Rattle.nm_explored.specs.Stores.{Store, states_in}

@@ -247,7 +247,7 @@ module _ (lines : List Line) (i q : ℕ) where
   names_after [] o is = is
   names_after (d ∷ ds) o is = names_after ds (name_then o d) (name_after o d is)
 
-  of_name : (deeds : List Deed) (line : ℕ) → name_in lines i deeds q ≡ Some line → starts_name lines i q line ≡ true
+  pub of_name : (deeds : List Deed) (line : ℕ) → name_in lines i deeds q ≡ Some line → starts_name lines i q line ≡ true
   of_name deeds line is = subst (λ (o : Option ℕ). IsName o) is (names_after deeds None tt)
 
   -- the live request of a name was started by a deed

@@ -39,7 +39,8 @@ use Rattle.nm_explored.specs.Coming.{AreEnoughAt, Makes}
 use Rattle.nm_explored.specs.declared.ends.End.{End}
 use Rattle.nm_explored.specs.declared.ends.Explored.{Explored}
 use Rattle.nm_explored.specs.declared.ends.Explored.TheVariants.{All, TooMany}
-use Rattle.nm_explored.specs.Ends.{AreAtRest, AreEnds, AreShort, IfAll, TellsAll, all_told, told_at_end, told_in}
+use Rattle.nm_explored.specs.Ends.{AreEnds, AreShort, IfAll, TellsAll, all_told, told_at_end, told_in}
+use Rattle.nm_explored.specs.Rests.{AreAtRest}
 use Rattle.nm_explored.specs.Stores.{IsExplored, IsThere, Store, states_in}
 use Rattle.nm_explored.proofs.ComeLemmas.{choices_are_enough}
 use Rattle.nm_explored.proofs.MetLemmas.{state_at}
@@ -59,11 +60,11 @@ contains {X} xs x y at same =
 -- a state that is there is explored
 there_explored : (eager ranks : ℕ) (lines : List Line) (store : Store) → IsExplored eager ranks lines store →
     (s : List Spot) → IsThere store s →
-    searches.IsExplored (Goes eager ranks lines) (AreEnoughAt ranks lines) (Makes eager lines) (IsThere store) s
+    searches.IsExplored (Goes eager ranks lines) (AreEnoughAt ranks lines) (Makes eager ranks lines) (IsThere store) s
 there_explored eager ranks lines store explored s there =
     let e = explored.expanded there.1.0 there.0 there.1.1 in
-    subst (λ (u : List Spot). searches.IsExplored (Goes eager ranks lines) (AreEnoughAt ranks lines) (Makes eager lines)
-    (IsThere store) u) (sym e.is ∙ there.3) e.leads
+    subst (λ (u : List Spot). searches.IsExplored (Goes eager ranks lines) (AreEnoughAt ranks lines)
+    (Makes eager ranks lines) (IsThere store) u) (sym e.is ∙ there.3) e.leads
 
 -- what is told at a state at rest that is there
 end_told : (ranks : ℕ) (lines : List Line) (store : Store) (ends : List End) → AreEnds ranks lines store ends →
@@ -78,12 +79,15 @@ end_told ranks lines store ends are s there rest =
     same i =
         sym (state_at store.table there.0 there.2 i) ∙ ap (λ (u : List Spot). slice_get u i) there.3
 
--- what a run tells is told at a state at rest that is there
-pub rest_found : StandAtLines → (shape : Sizes) (lines : List Line) → IsScript shape.ranks lines → (store : Store) →
-    IsExplored shape.eager shape.ranks lines store → (run : RunRecord) → IsRunIn shape lines run →
-    (s : List Spot) × IsThere store s × AreAtRest shape.ranks lines (λ i. slice_get s i)
+-- what a run tells is told at a state at rest that is found, where all that is found is explored
+pub rest_among : StandAtLines → (shape : Sizes) (lines : List Line) → IsScript shape.ranks lines →
+    (Found : List Spot → Type 0) → ((s : List Spot) → Found s →
+    searches.IsExplored (Goes shape.eager shape.ranks lines) (AreEnoughAt shape.ranks lines)
+    (Makes shape.eager shape.ranks lines) Found s) → (start : List Spot) → Found start →
+    ((j : ℕ) → j < shape.ranks → slice_get start j ≡ Some first_spot) → (run : RunRecord) → IsRunIn shape lines run →
+    (s : List Spot) × Found s × AreAtRest shape.ranks lines (λ i. slice_get s i)
     × (told_of run ≡ all_told lines (λ i. slice_get s i) shape.ranks)
-rest_found stand shape lines script store explored run is =
+rest_among stand shape lines script Found explored start found_start idle run is =
     let commands = script_commands shape.ranks lines stand script in
     let log = runs_have_logs shape lines (ends_of run.ranks) (packets_of run.pairs) is.lawful in
     let due : (i : ℕ) → AtEach (λ b e. IsDue shape.eager (commands_of i lines) b e.what) (history_in log.0 i) =
@@ -92,14 +96,8 @@ rest_found stand shape lines script store explored run is =
     (events_are_due shape (commands_of i lines)
     (at_of shape lines (ends_of run.ranks) (packets_of run.pairs) is.lawful i) (history_of (ends_of run.ranks) i)
     (commands.stand i) (own_run shape lines (ends_of run.ranks) (packets_of run.pairs) is.lawful i)) in
-    let first = explored.expanded explored.found.0 explored.first explored.found.1 in
-    let start : List Spot = states_in store.table explored.first in
     let path = walk shape lines commands script [] log.0 start tt log.1.steps due
-    (λ j low. (
-      first_spot,
-      state_at store.table explored.first first.low j ∙ explored.idle j low,
-      first_is_spot lines,
-    )) in
+    (λ j low. (first_spot, idle j low, first_is_spot lines)) in
     let v : ℕ → Option Spot = λ i. slice_get path.1 i in
     let ends_are : (i : ℕ) → IsPlaceOf i (commands_of i lines) (history_of (ends_of run.ranks) i)
     (placed lines log.0 i) =
@@ -134,11 +132,21 @@ rest_found stand shape lines script store explored run is =
     run_told shape lines run commands is log.0 log.1 (placed lines log.0) ends_are in
     let found = ends_found (Goes shape.eager shape.ranks lines)
     (λ s. AreAtRest shape.ranks lines (λ i. slice_get s i)) (AreEnoughAt shape.ranks lines)
-    (Makes shape.eager lines)
-    (choices_are_enough shape.eager shape.ranks lines) (IsThere store)
-    (λ s there. there_explored shape.eager shape.ranks lines store explored s there) path.0 start path.1
-    (explored.first, explored.found, first.low, refl) path.2 quiet in
+    (Makes shape.eager shape.ranks lines)
+    (choices_are_enough shape.eager shape.ranks lines) Found explored path.0 start path.1 found_start path.2 quiet in
     (path.1, found, quiet, run_is ∙ sym told)
+
+-- .. at a state that is there
+pub rest_found : StandAtLines → (shape : Sizes) (lines : List Line) → IsScript shape.ranks lines → (store : Store) →
+    IsExplored shape.eager shape.ranks lines store → (run : RunRecord) → IsRunIn shape lines run →
+    (s : List Spot) × IsThere store s × AreAtRest shape.ranks lines (λ i. slice_get s i)
+    × (told_of run ≡ all_told lines (λ i. slice_get s i) shape.ranks)
+rest_found stand shape lines script store explored run is =
+    let first = explored.expanded explored.found.0 explored.first explored.found.1 in
+    rest_among stand shape lines script (IsThere store)
+    (λ s there. there_explored shape.eager shape.ranks lines store explored s there)
+    (states_in store.table explored.first) (explored.first, explored.found, first.low, refl)
+    (λ j low. state_at store.table explored.first first.low j ∙ explored.idle j low) run is
 
 pub tells_all : StandAtLines → (shape : Sizes) (lines : List Line) → IsScript shape.ranks lines → (store : Store) →
     IsExplored shape.eager shape.ranks lines store → (ends : List End) → AreEnds shape.ranks lines store ends →

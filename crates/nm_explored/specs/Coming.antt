@@ -14,6 +14,7 @@ use Rattle.nm_explored.specs.declared.choices.moves.Turn.{Turn}
 use Rattle.nm_explored.specs.Successors.{message_next}
 use Rattle.nm_search.specs.Lists.{Has}
 use Rattle.nm_explored.specs.Moves.{AreMovesOf}
+use Rattle.nm_explored.specs.Apart.{AreMovesOfGroup, LetsPart, Parts}
 use Rattle.nm_explored.specs.Chosen.{Acts, AreActsOfOne, LetsAct}
 use Rattle.nm_explored.specs.Orderly.{HasNoClaim, IsOrderlyAt}
 use Rattle.nm_explored.specs.Started.{AreCalm, AreStarted, HasNoRecall, IsSpared}
@@ -65,21 +66,24 @@ Comes i from s u =
     (spot : Spot) × (slice_get s i ≡ Some spot) × (a : Arrival) × (message_next (λ k. slice_get s k) i from ≡ Some a)
     × (u ≡ slice_set s i (arrived_at spot a))
 
--- which moves are made at a state, and the others wait: those of the next command of a rank, or the arrival
--- of the next message from a rank
+-- which moves are made at a state, and the others wait: those of the next command of a rank, the arrival of the
+-- next message from a rank, or those of a group of ranks
 pub data Choice : Type 0 where
   Acting : (i : ℕ) → Choice
   Arriving : (i from : ℕ) → Choice
+  Parting : (groups : List ℕ) (g : ℕ) → Choice
 
 -- in these states of all ranks they are enough
 abbrev pub AreEnoughAt : ℕ → List Line → Choice → List Spot → Type 0
 AreEnoughAt ranks lines (Acting i) s = LetsAct ranks lines i s
 AreEnoughAt ranks lines (Arriving i from) s = LetsCome ranks lines i from s
+AreEnoughAt ranks lines (Parting groups g) s = LetsPart ranks lines groups g s
 
 -- one of them is made
-abbrev pub Makes : ℕ → List Line → Choice → List Spot → List Spot → Type 0
-Makes eager lines (Acting i) s u = Acts eager lines i s u
-Makes eager lines (Arriving i from) s u = Comes i from s u
+abbrev pub Makes : ℕ → ℕ → List Line → Choice → List Spot → List Spot → Type 0
+Makes eager ranks lines (Acting i) s u = Acts eager lines i s u
+Makes eager ranks lines (Arriving i from) s u = Comes i from s u
+Makes eager ranks lines (Parting groups g) s u = Parts eager ranks lines groups g s u
 
 -- a message that goes to such a receive arrives
 abbrev pub IsNamedTurn : ℕ → List Line → (ℕ → Option Spot) → Turn → Type 0
@@ -94,8 +98,9 @@ pub record HasNamed (ranks : ℕ) (lines : List Line) (v : ℕ → Option Spot) 
   pub has : Has turns turn
 
 -- These moves are enough: all are among them, or all of the next command of one rank, which is settled, or
--- the arrival of a message that goes to a receive which can take no other rank's.
+-- the arrival of a message that goes to a receive which can take no other rank's, or all of a group of ranks.
 abbrev pub AreEnoughTurns : ℕ → ℕ → List Line → (ℕ → Option Spot) → List Turn → Type 0
 AreEnoughTurns eager ranks lines v turns =
     ((i : ℕ) → i < ranks → AreMovesOf eager ranks lines v i turns)
-    ⊎ (AreActsOfOne eager ranks lines v turns ⊎ HasNamed ranks lines v turns)
+    ⊎ (AreActsOfOne eager ranks lines v turns
+    ⊎ (HasNamed ranks lines v turns ⊎ AreMovesOfGroup eager ranks lines v turns))

@@ -1,9 +1,8 @@
 -- The ends of a search, and what the ranks told there.
-use Rattle.std.specs.Prelude.{◌≡◌, ℕ, ◌<◌, Bool, true, false, Contains, Option, Some, None, List, count_by, filter_map}
+use Rattle.std.specs.Prelude.{◌≡◌, ℕ, ◌<◌, Contains, Option, Some, List, count_by, filter_map}
 use Rattle.std.specs.Prelude.{length, map, option_map}
 use Rattle.std.specs.List.{range_with_len, slice_get}
 use Rattle.nm_types.specs.declared.scripts.Command.{Command}
-use Rattle.nm_types.specs.declared.scripts.Command.TheVariants as command
 use Rattle.nm_types.specs.declared.scripts.Line.{Line}
 use Rattle.nm_types.specs.Commands.{command_at, commands_of}
 use Rattle.nm_types.specs.Limits.{sent_len}
@@ -14,37 +13,15 @@ use Rattle.nm_report.specs.Told.{RankTold, told_by, told_of, told_of_rank}
 use Rattle.nm_outcomes.specs.Deeds.{happening}
 use Rattle.nm_outcomes.specs.Looks.{is_answer_by}
 use Rattle.nm_outcomes.specs.RankStates.{Spot}
-use Rattle.nm_explored.specs.Successors.{answer_in, is_withdrawn_next, message_next, spot_in}
+use Rattle.nm_explored.specs.Successors.{spot_in}
 use Rattle.nm_search.specs.Lists.{Has}
 use Rattle.nm_explored.specs.Lines.{line_in}
 use Rattle.nm_explored.specs.declared.ends.End.{End}
 use Rattle.nm_explored.specs.declared.ends.Explored.{Explored}
 use Rattle.nm_explored.specs.declared.ends.Explored.TheVariants.{All, TooMany}
 use Rattle.nm_explored.specs.Met.{AreBack, IsMet, IsWay}
+use Rattle.nm_explored.specs.Rests.{AreAtRest}
 use Rattle.nm_explored.specs.Stores.{Store, states_in}
-
--- a command that can be held up
-abbrev pub is_waiting : Command → Bool
-is_waiting (command.Wait q) = true
-is_waiting (command.Await from tag ctx) = true
-is_waiting _ = false
-
--- the next command of a rank in this state has no answer
-abbrev pub IsHeldUp : List Line → (ℕ → Option Spot) → ℕ → Spot → Type 0
-IsHeldUp lines v i spot =
-    (line : ℕ) (c : Command) → line_in lines i (count_by is_answer_by spot.deeds) ≡ Some line →
-    command_at (commands_of i lines) line ≡ Some c →
-    (is_waiting c ≡ true) × (answer_in v lines i spot line c ≡ None)
-
--- a rank has no move left, and is at its end or held up
-pub record IsAtRest (ranks : ℕ) (lines : List Line) (v : ℕ → Option Spot) (i : ℕ) : Type 0 where
-  pub held : (spot : Spot) → v i ≡ Some spot → IsHeldUp lines v i spot
-  pub messages : (from : ℕ) → from < ranks → message_next v i from ≡ None
-  pub free : (from n : ℕ) → is_withdrawn_next v i from n ≡ false
-
--- no rank has a move left
-abbrev pub AreAtRest : ℕ → List Line → (ℕ → Option Spot) → Type 0
-AreAtRest ranks lines v = (i : ℕ) → i < ranks → IsAtRest ranks lines v i
 
 -- what a rank in this state told
 abbrev pub told_in : List Line → ℕ → Spot → RankTold

@@ -1,3 +1,4 @@
+pub mod Apart
 pub mod Chosen
 pub mod Coming
 pub mod Ends
@@ -5,6 +6,7 @@ pub mod Lines
 pub mod Met
 pub mod Moves
 pub mod Orderly
+pub mod Rests
 pub mod Settings
 pub mod Started
 pub mod Stores

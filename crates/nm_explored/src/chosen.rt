@@ -14,6 +14,7 @@ ghost use Rattle.nm_explored.specs.Successors.{message_next, spot_in};
 ghost use Rattle.nm_search.specs.Lists.{Has};
 ghost use Rattle.nm_explored.specs.Moves.{AreSendsShort, IsAct, IsTurn};
 ghost use Rattle.nm_explored.specs.Chosen.{IsSettled, IsSettledBy};
+ghost use Rattle.nm_explored.specs.Ends.{AreShort};
 ghost use Rattle.nm_explored.specs.Coming.{AreEnoughTurns, IsNamed, IsNamedTurn};
 ghost use Rattle.nm_explored.specs.Coming.{TakesOnlyFrom, TakesSurely, may_send as may_send_lem};
 ghost use Rattle.nm_explored.specs.Orderly.{is_claiming as is_claiming_lem};
@@ -21,8 +22,9 @@ ghost use Rattle.nm_explored.specs.Started.{HasNoRecall, any_of, may_cancel as m
 ghost use Rattle.nm_explored.specs.Started.{may_recall as may_recall_lem, posts_as as posts_as_lem};
 ghost use Rattle.nm_explored.specs.Started.{sends_as as sends_as_lem};
 
+use crate::apart::part;
 use crate::choices::choices::{View, answer, line_at, next_message};
-use crate::choices::moves::{Move, Turn, push_deeds, turns};
+use crate::choices::moves::{Move, Turn, push_deeds};
 use nm_lookups::asked::commands::command_of_line;
 use nm_outcomes::spots::deeds::Receive;
 use nm_outcomes::spots::looks::ran;
@@ -411,8 +413,9 @@ fn only(alloc: Global, turn: Turn) -> Result<Vec<Turn>, Memory>
     Ok(turns)
 }
 
-/// The arrival of a message that goes to a receive which can take no other rank's, or all moves.
+/// The arrival of a message that goes to a receive which can take no other rank's, or all moves of a group.
 fn arrivals(alloc: Global, view: View, ranks: u8) -> Result<Vec<Turn>, Memory>
+    requires { AreShort view.lines.now }
     ensures enough { HasNoRecall view.entry.lines.now → length view.entry.lines.now < 4294967293 →
         IfOk result (λ turns. AreEnoughTurns view.entry.eager ranks view.entry.lines.now
         (spot_in view.entry.table.now view.entry.ids.now) turns.items) }
@@ -423,13 +426,14 @@ fn arrivals(alloc: Global, view: View, ranks: u8) -> Result<Vec<Turn>, Memory>
 {
     match coming(view, ranks) {
         Some(turn) => only(alloc, turn),
-        None => turns(alloc, view, ranks),
+        None => part(alloc, view, ranks),
     }
 }
 
 /// Moves that are enough at a state: those of the next command of one rank, where no other move changes
-/// which they are, or all moves.
+/// which they are, or all moves of a group of ranks that no other rank speaks to.
 pub fn enough(alloc: Global, view: View, ranks: u8) -> Result<Vec<Turn>, Memory>
+    requires { AreShort view.lines.now }
     ensures enough { length view.entry.lines.now < 4294967293 →
         IfOk result (λ turns. AreEnoughTurns view.entry.eager ranks view.entry.lines.now
         (spot_in view.entry.table.now view.entry.ids.now) turns.items) }
@@ -439,12 +443,12 @@ pub fn enough(alloc: Global, view: View, ranks: u8) -> Result<Vec<Turn>, Memory>
         (spot_in view.entry.table.now view.entry.ids.now) t) }
 {
     if has_recall(view.lines) {
-        return turns(alloc, view, ranks);
+        return part(alloc, view, ranks);
     }
     match leader(view, ranks) {
         Some(i) => match view.rank(i) {
             Some(rank) => acts(alloc, view, i, rank),
-            None => turns(alloc, view, ranks),
+            None => part(alloc, view, ranks),
         },
         None => arrivals(alloc, view, ranks),
     }

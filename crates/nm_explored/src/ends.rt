@@ -13,8 +13,10 @@ ghost use Rattle.nm_explored.specs.Successors.{is_withdrawn_next, message_next, 
 ghost use Rattle.nm_search.specs.Lists.{AddsOnly, Has, Extends};
 ghost use Rattle.nm_explored.specs.Ends.{AreEndsAmong, AreEndsByWay, AreOnlyEnds, IsEndAmong};
 ghost use Rattle.nm_explored.specs.Ends.{IsToldAmong, IsToldIn, TellsOnly};
-ghost use Rattle.nm_explored.specs.Ends.{AreAtRest, AreEnds, AreShort, IfAll, IsAtRest, IsHeldUp};
-ghost use Rattle.nm_explored.specs.Ends.{TellsAll, all_told, is_waiting as is_waiting_lem};
+ghost use Rattle.nm_explored.specs.Ends.{AreEnds, AreShort, IfAll};
+ghost use Rattle.nm_explored.specs.Rests.{AreAtRest, IsAtRest, IsHeldUp};
+ghost use Rattle.nm_explored.specs.Ends.{TellsAll, all_told};
+ghost use Rattle.nm_explored.specs.Rests.{is_waiting as is_waiting_lem};
 ghost use Rattle.nm_explored.specs.Ends.{told_at_end, told_in};
 ghost use Rattle.nm_explored.specs.Met.{AreBack, AreTooMany, IfTooMany, IsAll, IsWay};
 ghost use Rattle.nm_explored.specs.Stores.{states_in};
@@ -301,7 +303,7 @@ fn has_no_withdrawal(view: View, i: u8, rank: &Rank) -> bool
 }
 
 /// Whether a rank has no move left, and is at its end or held up.
-fn is_at_rest(view: View, i: u8, ranks: u8) -> bool
+pub fn is_at_rest(view: View, i: u8, ranks: u8) -> bool
     requires { AreShort view.lines.now }
     ensures rests { IsAtRest ranks view.entry.lines.now
         (spot_in view.entry.table.now view.entry.ids.now) i → IsTrue result }

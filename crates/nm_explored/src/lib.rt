@@ -6,8 +6,8 @@
 //! `specs/Stores.antt` has the states that were found, and which of them are expanded. `specs/Ends.antt` says
 //! at which states the ranks are at rest, what they report there, and that ends report all (`TellsAll`).
 //! `specs/Met.antt` says which states moves lead to (`IsMet`), and that they are too many (`AreTooMany`).
-//! `specs/Chosen.antt` and `specs/Coming.antt` say which moves are enough at a state, so that the others may
-//! be postponed (`LetsAct`, `LetsCome`).
+//! `specs/Chosen.antt`, `specs/Coming.antt` and `specs/Apart.antt` say which moves are enough at a state, so
+//! that the others may be postponed (`LetsAct`, `LetsCome`, `LetsPart`).
 //! # What is proved
 //! - The report of each lawful run of a script is that of one of the ends that `explore` finds, unless it
 //!   answers that there are too many states: then moves lead from the first state to more different states
@@ -16,11 +16,13 @@
 //!   moves of one rank whose next command is a send, a receive (of a rank without matched probes and
 //!   receives) or a wait that may end; or the arrival of a message for a receive that names its sender, or
 //!   that no other rank has a send for, if no cancel of its rank names it, and the rank has no matched probe
-//!   and receive. The other moves can be postponed, and lead to the same state.
+//!   and receive; or all moves of a group of ranks that no other rank speaks to. The other moves can be
+//!   postponed, and lead to the same state.
 //! - Each end is at a state that moves lead to, at which no rank has a move left (`TellsOnly`);
 //!   `nm_listed::lawful` says that it is a run's. The moves that go with an end lead there (`AreEndsByWay`).
 #![tactic(auto)]
 
+mod apart;
 pub mod choices;
 mod chosen;
 pub mod ends;

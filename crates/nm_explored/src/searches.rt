@@ -9,6 +9,7 @@ ghost use Rattle.nm_search.specs.Lists.{Has, Extends};
 ghost use Rattle.nm_explored.specs.declared.choices.moves.Turn as the_turn;
 ghost use Rattle.nm_explored.specs.Moves.{AreSendsShort, IsTurn, moved_at};
 ghost use Rattle.nm_explored.specs.Coming.{AreEnoughTurns};
+ghost use Rattle.nm_explored.specs.Ends.{AreShort};
 ghost use Rattle.nm_explored.specs.Met.{AreBack, IsMade};
 ghost use Rattle.nm_explored.specs.Stores.{AreExpanded, Grows, IsExpanded, IsFirst, Leads};
 ghost use Rattle.nm_search.specs.Lists.{StandOnce};
@@ -103,6 +104,7 @@ impl Search {
 
     /// Moves that are enough at the state with a number.
     fn turns_at(&self, alloc: Global, of: Setting, k: usize) -> Result<Vec<Turn>, Memory>
+        requires { AreShort of.lines.now }
         ensures enough { length of.entry.lines.now < 4294967293 → IfOk result (λ turns. (ids : List ℕ) →
             slice_get self.now.states k ≡ Some ids → AreEnoughTurns of.entry.eager of.entry.ranks
             of.entry.lines.now (spot_in self.now.table ids) turns.items) }
@@ -216,6 +218,7 @@ impl Search {
 
     /// Adds the states that enough moves lead to.
     pub fn expand(&mut self, alloc: Global, of: Setting, k: usize) -> Result<(), Memory>
+        requires { AreShort of.lines.now }
         ensures grows { OnOk result (Grows self.old self.new) }
         ensures expanded { length of.entry.lines.now < 4294967293 →
             IsMade of.entry.eager of.entry.ranks of.entry.lines.now self.old → OnOk result ((ids : List ℕ) →
@@ -239,6 +242,7 @@ impl Search {
     /// Finds the states that enough moves lead to, unless they are more than the limit. Answers whether it
     /// found all of these.
     pub fn run(&mut self, alloc: Global, of: Setting, limit: u32) -> Result<bool, Memory>
+        requires { AreShort of.lines.now }
         ensures grows { OnOk result (Grows self.old self.new) }
         ensures all { length of.entry.lines.now < 4294967293 → AreSendsShort of.entry.lines.now →
             IsMade of.entry.eager of.entry.ranks of.entry.lines.now self.old → IfOk result (λ all. IsTrue all →

@@ -3,7 +3,8 @@ use Rattle.std.specs.Prelude.{◌≡◌, ◌⊎◌, ℕ, ◌<◌, false, Option,
 use Rattle.std.specs.List.{list_all, slice_get}
 use Rattle.nm_types.specs.declared.scripts.Line.{Line}
 use Rattle.nm_outcomes.specs.RankStates.{Spot}
-use Rattle.nm_explored.specs.Ends.{AreAtRest, all_told}
+use Rattle.nm_explored.specs.Ends.{all_told}
+use Rattle.nm_explored.specs.Rests.{AreAtRest}
 use Rattle.nm_explored.specs.Stores.{IsExpanded, Store}
 use Rattle.nm_explored.specs.Successors.{spot_in}
 use Rattle.nm_search.specs.Lists.{Has}

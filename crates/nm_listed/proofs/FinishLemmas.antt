@@ -37,7 +37,7 @@ use Rattle.nm_outcomes.specs.Looks.{is_recall_by, is_send_by}
 use Rattle.nm_outcomes.proofs.LogLemmas.{all_delivered, grown_here}
 use Rattle.nm_outcomes.proofs.SentLemmas.{sends_numbered}
 use Rattle.nm_explored.specs.Successors.{arrival_by}
-use Rattle.nm_explored.specs.Ends.{AreAtRest}
+use Rattle.nm_explored.specs.Rests.{AreAtRest}
 use Rattle.nm_explored.specs.Settings.{IsAt}
 use Rattle.nm_explored.proofs.PlacedLemmas.{came_said, numbers_in}
 use Rattle.nm_explored.proofs.SendLemmas.{sent_deed, sent_many}

@@ -77,7 +77,8 @@ use Rattle.nm_explored.specs.Successors.{answer_in, result_in, seen_at, sent_at,
 use Rattle.nm_explored.specs.declared.choices.moves.Turn.{Turn}
 use Rattle.nm_explored.specs.Met.{IsWay}
 use Rattle.nm_explored.proofs.TellLemmas.{script_short}
-use Rattle.nm_explored.specs.Ends.{AreAtRest, all_told, is_waiting, told_in}
+use Rattle.nm_explored.specs.Ends.{all_told, told_in}
+use Rattle.nm_explored.specs.Rests.{AreAtRest, is_waiting}
 use Rattle.nm_explored.specs.Lines.{line_in}
 use Rattle.nm_explored.specs.Settings.{IsAt}
 use Rattle.nm_explored.proofs.PlacedLemmas.{first_said, numbers_in}

@@ -8,7 +8,8 @@ use Rattle.nm_report.specs.Report.{report_text}
 use Rattle.nm_outcomes.specs.RankStates.{Spot}
 use Rattle.nm_explored.specs.declared.choices.moves.Turn.{Turn}
 use Rattle.nm_explored.specs.declared.ends.End.{End}
-use Rattle.nm_explored.specs.Ends.{AreAtRest, AreEndsByWay, all_told, told_at_end}
+use Rattle.nm_explored.specs.Ends.{AreEndsByWay, all_told, told_at_end}
+use Rattle.nm_explored.specs.Rests.{AreAtRest}
 use Rattle.nm_explored.specs.Met.{IsWay}
 use Rattle.nm_listed.specs.Finding.{text_of_told}
 use Rattle.nm_listed.specs.declared.tracing.Traced.{Traced}

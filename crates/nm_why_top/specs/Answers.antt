@@ -13,7 +13,8 @@ use Rattle.nm_outcomes.specs.Outcomes.{AreOutcomes}
 use Rattle.nm_outcomes.specs.RankStates.{Spot}
 use Rattle.nm_explored.specs.declared.choices.moves.Turn.{Turn}
 use Rattle.nm_explored.specs.declared.ends.End.{End}
-use Rattle.nm_explored.specs.Ends.{AreAtRest, all_told, told_at_end}
+use Rattle.nm_explored.specs.Ends.{all_told, told_at_end}
+use Rattle.nm_explored.specs.Rests.{AreAtRest}
 use Rattle.nm_search.specs.Lists.{Has}
 use Rattle.nm_explored.specs.Met.{IsWay}
 use Rattle.nm_outcomes_top.specs.Answers.{IsOutgrowing}

@@ -265,7 +265,7 @@ fn push_moves(
 
 /// Adds the moves of a rank.
 #[tactic(auto, using(nm_search::proofs::ListLemmas::only_all))]
-fn push_rank(view: View, i: u8, ranks: u8, turns: &mut Vec<Turn>) -> Result<(), Memory>
+pub fn push_rank(view: View, i: u8, ranks: u8, turns: &mut Vec<Turn>) -> Result<(), Memory>
     ensures kept { OnOk result (Extends turns.old.items turns.new.items) }
     ensures added { length view.entry.lines.now < 4294967293 →
         OnOk result (AreMovesOf view.entry.eager ranks view.entry.lines.now

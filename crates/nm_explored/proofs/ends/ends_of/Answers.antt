@@ -4,7 +4,8 @@ use Rattle.std.specs.List.{slice_get}
 use Rattle.nm_explored.specs.Successors.{spot_in}
 use Rattle.nm_search.specs.Lists.{Has}
 use Rattle.nm_search.proofs.ListLemmas.{each_next, has_kept, or_more}
-use Rattle.nm_explored.specs.Ends.{AreAtRest, IsEndAmong, IsToldAmong, all_told, told_at_end}
+use Rattle.nm_explored.specs.Ends.{IsEndAmong, IsToldAmong, all_told, told_at_end}
+use Rattle.nm_explored.specs.Rests.{AreAtRest}
 use Rattle.nm_explored.proofs.ends.ends_of.Goals as goal
 
 pub loop-k-preserved : goal.loop-k-preserved

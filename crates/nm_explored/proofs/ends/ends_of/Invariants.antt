@@ -3,7 +3,8 @@ use Rattle.std.proofs.Common.{◌≡◌, ℕ, ◌<◌, Some, List, map}
 use Rattle.std.specs.List.{slice_get}
 use Rattle.nm_explored.specs.Successors.{spot_in}
 use Rattle.nm_search.specs.Lists.{Has}
-use Rattle.nm_explored.specs.Ends.{AreAtRest, AreEndsAmong, AreOnlyEnds, all_told, told_at_end}
+use Rattle.nm_explored.specs.Ends.{AreEndsAmong, AreOnlyEnds, all_told, told_at_end}
+use Rattle.nm_explored.specs.Rests.{AreAtRest}
 use Rattle.nm_explored.proofs.ends.ends_of.Given as goal
 
 abbrev pub invariant-loop-k : goal.invariant-loop-k

@@ -10,6 +10,11 @@ use Rattle.nm_explored.proofs.ExpandLemmas.{explored_by}
 use Rattle.nm_explored.proofs.TellLemmas.{all_weaker, explore_tells, ok_weaker, script_short}
 use Rattle.nm_explored.proofs.ends.explore.Goals as goal
 
+pub run-requires : goal.run-requires
+run-requires c =
+    subst (λ (ls : List Line). AreShort ls) (sym c.as_slice.ensures)
+    (script_short c.args.script.now.ranks c.args.script.now.lines c.args.script.now.limits)
+
 pub all_ends-requires : goal.all_ends-requires
 all_ends-requires c =
     subst (λ (ls : List Line). AreShort ls) (sym c.as_slice.ensures)

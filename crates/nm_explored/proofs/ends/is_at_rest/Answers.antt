@@ -3,7 +3,7 @@ use Rattle.std.proofs.Common.{◌≡◌, true, false, Some, sym, ◌∙◌, subs
 use Rattle.std.proofs.lemmas.Bool.{false≢true}
 use Rattle.nm_types.proofs.OptionLemmas.{same_some}
 use Rattle.nm_outcomes.specs.RankStates.{Spot}
-use Rattle.nm_explored.specs.Ends.{IsHeldUp}
+use Rattle.nm_explored.specs.Rests.{IsHeldUp}
 use Rattle.nm_explored.specs.Successors.{spot_in}
 use Rattle.nm_explored.proofs.RestedLemmas.{nothing_rests}
 use Rattle.nm_explored.proofs.ends.is_at_rest.Goals as goal

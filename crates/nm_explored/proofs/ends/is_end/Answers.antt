@@ -1,7 +1,7 @@
 -- One rank more is at rest.
 use Rattle.std.proofs.Common.{ℕ}
 use Rattle.nm_explored.specs.Successors.{spot_in}
-use Rattle.nm_explored.specs.Ends.{IsAtRest}
+use Rattle.nm_explored.specs.Rests.{IsAtRest}
 use Rattle.nm_search.proofs.ListLemmas.{each_next}
 use Rattle.nm_explored.proofs.ends.is_end.Goals as goal
 

@@ -1,7 +1,7 @@
 -- The first ranks are at rest.
 use Rattle.std.proofs.Common.{ℕ, ◌<◌}
 use Rattle.nm_explored.specs.Successors.{spot_in}
-use Rattle.nm_explored.specs.Ends.{IsAtRest}
+use Rattle.nm_explored.specs.Rests.{IsAtRest}
 use Rattle.nm_explored.proofs.ends.is_end.Given as goal
 
 abbrev pub invariant-loop-i : goal.invariant-loop-i

@@ -6,7 +6,7 @@ use Rattle.nm_types.specs.Commands.{command_at, commands_of}
 use Rattle.nm_types.proofs.OptionLemmas.{no_some, same_some}
 use Rattle.nm_outcomes.specs.declared.spots.deeds.Deed.{Deed}
 use Rattle.nm_outcomes.specs.Looks.{is_answer_by}
-use Rattle.nm_explored.specs.Ends.{is_waiting}
+use Rattle.nm_explored.specs.Rests.{is_waiting}
 use Rattle.nm_explored.specs.Lines.{line_in}
 use Rattle.nm_explored.specs.Successors.{answer_in, spot_in}
 use Rattle.nm_explored.proofs.RestedLemmas.{none_is}

@@ -6,7 +6,8 @@ use Rattle.nm_types.proofs.ListLemmas.{place_below}
 use Rattle.nm_outcomes.specs.RankStates.{Spot}
 use Rattle.nm_explored.specs.Successors.{spot_in}
 use Rattle.nm_search.specs.Lists.{Has}
-use Rattle.nm_explored.specs.Ends.{AreAtRest, IsEndAmong, IsToldAmong, IsToldIn, all_told, told_at_end}
+use Rattle.nm_explored.specs.Ends.{IsEndAmong, IsToldAmong, IsToldIn, all_told, told_at_end}
+use Rattle.nm_explored.specs.Rests.{AreAtRest}
 use Rattle.nm_search.proofs.ListLemmas.{only_weaker}
 use Rattle.nm_explored.specs.Stores.{Store}
 use Rattle.nm_explored.proofs.RestedLemmas.{state_there}
