@@ -40,11 +40,11 @@ own_how how.Ask = refl
 hows : Tells (sameb how_type)
 hows = of_self same_how own_how
 
-messages : Tells message_eq.eq
+pub messages : Tells message_eq.eq
 messages =
     by_parts (λ (m : Message). (m.rank, m.n)) (λ p. record { rank = p.0; n = p.1 }) (λ m. refl) (both numbers numbers)
 
-arrivals : Tells arrival_eq.eq
+pub arrivals : Tells arrival_eq.eq
 arrivals =
     by_parts (λ (a : Arrival). (a.n, (a.env.from, (a.env.tag, (a.env.ctx, (a.env.len, a.env.how))))))
     (λ p. record {
@@ -53,13 +53,13 @@ arrivals =
     })
     (λ a. refl) (both numbers (both numbers (both numbers (both numbers (both numbers hows)))))
 
-pairs : Tells pair_eq.eq
+pub pairs : Tells pair_eq.eq
 pairs =
     by_parts (λ (p : Pair). (p.number, (p.cap, p.arrival)))
     (λ p. record { number = p.0; cap = p.1.0; arrival = p.1.1 }) (λ p. refl)
     (both numbers (both numbers arrivals))
 
-receives : Tells receive_eq.eq
+pub receives : Tells receive_eq.eq
 receives =
     by_parts (λ (r : Receive). (r.number, (r.from, (r.tag, (r.ctx, r.cap)))))
     (λ p. record { number = p.0; from = p.1.0; tag = p.1.1.0; ctx = p.1.1.1.0; cap = p.1.1.1.1 }) (λ r. refl)
@@ -169,7 +169,7 @@ own_deed (deed.Recall a b) = (two_numbers (a, b) (a, b)).1 refl
 own_deed (deed.Claim a b c) = (three_numbers (a, (b, c)) (a, (b, c))).1 refl
 own_deed (deed.Ran l r) = (ends (l, r) (l, r)).1 refl
 
-deeds : Tells deed_eq.eq
+pub deeds : Tells deed_eq.eq
 deeds = of_self same_deed own_deed
 
 -- the test tells which states are equal

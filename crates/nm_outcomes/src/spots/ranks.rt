@@ -138,6 +138,13 @@ impl Rank {
         self.deeds.as_slice()
     }
 
+    /// The open receives, oldest first.
+    pub fn receives(&self) -> &[Receive]
+        ensures { result.now ≡ self.now.receives }
+    {
+        self.receives.as_slice()
+    }
+
     /// The free messages, oldest first.
     pub fn free(&self) -> &[Arrival]
         ensures { result.now ≡ self.now.free }
