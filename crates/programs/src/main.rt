@@ -5,11 +5,13 @@
 //!
 //! With two words, a length and a number of batches, it runs a flood of messages of that length, with no record
 //! (`flood`). With one word, the name of a program, it prints the script and the trace of its run (`transcripts`); with
-//! `stuck`, those of the end of a run that got stuck after a million messages (`stuck`).
+//! `stuck`, those of the end of a run that got stuck after a million messages (`stuck`); with `dice:` and five numbers,
+//! those of ranks that throw dice (`dice`).
 #![tactic(auto)]
 
 ghost use Rattle.std.specs.Prelude.{◌≡◌, ◌<◌, IfOk, length};
 
+mod dice;
 mod ends;
 mod farm;
 mod flood;
@@ -19,6 +21,7 @@ mod rod;
 mod stuck;
 mod transcripts;
 
+use dice::Dice;
 use ends::Rank;
 use farm::{Hand, Role};
 use flood::Flooded;
@@ -148,9 +151,9 @@ fn show_rod<R: Threads + Wait + Sync>(
     alloc: Global,
     keeps: Keeps,
 ) -> Result<(), Fail> {
-    let one = rod_of(threads, alloc, 1, keeps)?;
     let four = rod_of(threads, alloc, 4, keeps)?;
     println!(rt; "rod: {:?}", four.as_slice())?;
+    let one = rod_of(threads, alloc, 1, keeps)?;
     println!(rt;
         "rod: the same by one rank: {}",
         one.as_slice() == four.as_slice()
@@ -167,6 +170,18 @@ fn show_waits(rt: &HostRuntime, ranks: &[Finished<Rank>]) -> Result<(), Fail> {
     Ok(())
 }
 
+// Why a run came to no end.
+fn show_stop(rt: &HostRuntime, stop: &Stop) -> Result<(), Fail> {
+    match stop {
+        Stop::Range {
+            rank,
+            command: Command::Send { to, .. },
+        } => println!(rt; "ends: rank {rank} gave a send to rank {to}, which never ran")?,
+        _ => println!(rt; "ends: {stop:?}")?,
+    }
+    Ok(())
+}
+
 // How a run ends whose rank 0 is at its end at once.
 fn show_end<R: Threads + Wait + Sync>(
     rt: &HostRuntime,
@@ -175,23 +190,11 @@ fn show_end<R: Threads + Wait + Sync>(
     other: Rank,
     keeps: Keeps,
 ) -> Result<(), Fail> {
-    match run(
-        threads,
-        alloc,
-        shape_of(2)?,
-        ends::beside(alloc, other)?,
-        keeps,
-    ) {
-        Err(
-            Stop::Range {
-                rank,
-                command: Command::Send { to, .. },
-            },
-        ) => println!(rt; "ends: rank {rank} gave a send to rank {to}, which never ran")?,
-        Err(stop) => println!(rt; "ends: {stop:?}")?,
-        Ok(ranks) => show_waits(rt, ranks.as_slice())?,
+    let two = shape_of(2)?;
+    match run(threads, alloc, two, ends::beside(alloc, other)?, keeps) {
+        Err(stop) => show_stop(rt, &stop),
+        Ok(ranks) => show_waits(rt, ranks.as_slice()),
     }
-    Ok(())
 }
 
 fn show_flood(rt: &HostRuntime, ranks: &[Finished<Flooded>]) -> Result<(), Fail> {
@@ -211,18 +214,14 @@ fn show<R: Threads + Wait + Sync>(
     alloc: Global,
     keeps: Keeps,
 ) -> Result<(), Fail> {
-    let players = run(
-        threads,
-        alloc,
-        shape_of(2)?,
-        ping_pong::players(alloc)?,
-        keeps,
+    let two = shape_of(2)?;
+    let four = shape_of(4)?;
+    show_ping_pong(
+        rt,
+        &run(threads, alloc, two, ping_pong::players(alloc)?, keeps)?,
     )?;
-    show_ping_pong(rt, players.as_slice())?;
-    let links = summed(threads, alloc, keeps)?;
-    show_ring(rt, links.as_slice())?;
-    let hands = run(threads, alloc, shape_of(4)?, farm::hands(alloc)?, keeps)?;
-    show_farm(rt, hands.as_slice())?;
+    show_ring(rt, &summed(threads, alloc, keeps)?)?;
+    show_farm(rt, &run(threads, alloc, four, farm::hands(alloc)?, keeps)?)?;
     show_rod(rt, threads, alloc, keeps)?;
     show_end(rt, threads, alloc, Rank::Waits, keeps)?;
     show_end(rt, threads, alloc, Rank::Strays, keeps)?;
@@ -241,7 +240,10 @@ fn transcript_of<R: Threads + Wait + Sync>(
         "farm" => transcribe(rt, alloc, shape_of(4)?, farm::hands(alloc)?),
         "rod" => transcribe(rt, alloc, shape_of(4)?, rod::parts(alloc, 4)?),
         "stuck" => transcribe_end(rt, alloc, shape_of(2)?, talkers(alloc, MANY)?),
-        _ => Err(Fail::new("no program has this name")),
+        _ => match Dice::read(name) {
+            Some(dice) => transcribe(rt, alloc, dice.shape, dice.throwers(alloc)?),
+            None => Err(Fail::new("no program has this name")),
+        },
     }
 }
 
