@@ -18,7 +18,7 @@ use Rattle.nm_cells.specs.Ports.{knows, sent_by, taken_by}
 use Rattle.nm_cells.specs.ClosedLists.{entries, ranks_of, sent_list, taken_list}
 use Rattle.nm_port.specs.CarriedPackets.{HasPassed, HasSent, one_more}
 use Rattle.uses.specs.Crossings.{IsFront, Sends, Takes, byte_of}
-use Rattle.uses.specs.declared.port.letters.Letter.{Letter}
+use Rattle.uses.specs.declared.letters.Letter.{Letter}
 
 abbrev pub Seen : Type 0
 Seen = Parcel Letter → ℕ

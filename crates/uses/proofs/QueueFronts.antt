@@ -14,7 +14,7 @@ use Rattle.nm_chain.specs.OwnQueues.{OwnQueue, receive_queue, free_queue}
 use Rattle.nm_chain.proofs.QueueLemmas.{put_append}
 use Rattle.nm_cells.proofs.NumberLemmas.{from_here, from_other}
 use Rattle.uses.specs.QueueCrossings.{Gets, IsFront, Puts, SameLists, bytes_in, bytes_of}
-use Rattle.uses.specs.declared.queue.letters.Letter.{Letter}
+use Rattle.uses.specs.declared.letters.Letter.{Letter}
 
 -- a rank that put nothing put the front of any text
 pub puts_none : (e : Entry Letter) (text : List ℕ) → e.put ≡ [] → e.put_box ≡ [] → Puts e text

@@ -5,7 +5,7 @@ use Rattle.nm_chain.specs.declared.table.table.Entry.{Entry}
 use Rattle.nm_cells.specs.declared.port.Port.{Port}
 use Rattle.nm_cells.specs.Ports.{knows, taken_by}
 use Rattle.nm_port.specs.CarriedPackets.{HasPassed, HasSent}
-use Rattle.uses.specs.declared.port.letters.Letter.{Letter}
+use Rattle.uses.specs.declared.letters.Letter.{Letter}
 
 -- the byte that a parcel carries
 abbrev pub byte_of : Parcel Letter → ℕ

@@ -2,7 +2,7 @@
 use Rattle.std.specs.Prelude.{◌≡◌, ℕ, Some, None, List, [], ◌∷◌, ◌++◌, flat_map, length, take}
 use Rattle.nm_chain.specs.declared.table.table.Entry.{Entry}
 use Rattle.nm_chain.specs.Rule.{Load, from, put_to}
-use Rattle.uses.specs.declared.queue.letters.Letter.{Letter}
+use Rattle.uses.specs.declared.letters.Letter.{Letter}
 
 -- the byte of a cell's parcel, and none of an empty cell
 abbrev pub bytes_of : Load Letter → List ℕ

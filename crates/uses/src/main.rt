@@ -3,7 +3,9 @@
 #![tactic(auto)]
 
 mod copyring;
+mod fabrics;
 mod judge;
+mod letters;
 mod matching;
 mod port;
 mod queue;

@@ -2,7 +2,6 @@
 //! them.
 
 mod crossing;
-mod letters;
 mod sending;
 mod taking;
 

@@ -3,7 +3,6 @@
 
 mod crossing;
 mod first;
-mod letters;
 mod putting;
 mod taking;
 

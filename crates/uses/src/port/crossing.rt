@@ -1,45 +1,21 @@
 //! A text that goes from one rank to another, a byte in each parcel.
 
-ghost use Rattle.std.specs.Prelude.{◌≡◌, ℕ, ◌<◌, List, [], IfOk, OnOk, Some, length, slice_get};
-ghost use Rattle.nm_cells.specs.declared.port.Port.{Port};
+ghost use Rattle.std.specs.Prelude.{◌≡◌, ℕ, ◌<◌, List, [], IfOk, OnOk};
 ghost use Rattle.nm_cells.specs.Ports.{Owns, IsNew, knows};
 ghost use Rattle.nm_port.specs.Polls.{HoldsTheRest};
-ghost use Rattle.uses.specs.declared.port.letters.Letter.{Letter};
 ghost use Rattle.uses.specs.Crossings.{IsFront, Sends, Takes};
 
-use crate::port::letters::Letter;
+use crate::fabrics::two_ranks;
+use crate::letters::Letter;
 use crate::port::sending::send_next;
 use crate::port::taking::take_next;
 use nm_chain::seats::Steps;
 use nm_port::carried::laws::{a_close_carries, a_new_port_carries_nothing};
 use nm_port::{Fabric, Port};
-use nm_types::{Memory, Shape};
+use nm_types::Memory;
 use std::alloc::Global;
 use std::marker::Brand;
 use std::sync::ledger::{Blank, Ledger};
-
-// The ports of two ranks.
-fn both(f: &Fabric<Letter>, mut ports: Vec<Port<Letter>>) -> (Port<Letter>, Port<Letter>)
-    requires count { length ports.items ≡ 2 }
-    requires new { (k : ℕ) (p : Port Letter) → slice_get ports.items k ≡ Some p → IsNew f.now p k }
-    ensures { IsNew f.now result.0 0 × IsNew f.now result.1 1 }
-{
-    let b = ports.remove(1);
-    let a = ports.remove(0);
-    (a, b)
-}
-
-// The fabric of two ranks with eight cells each, and the port of each.
-fn two_ranks(alloc: Global) -> Result<(Fabric<Letter>, Port<Letter>, Port<Letter>), Memory>
-    ensures { IfOk result (λ t. (t.0.ranks ≡ 2) × IsNew t.0 t.1 0 × IsNew t.0 t.2 1) }
-{
-    let Ok(shape) = Shape::new(2, 8, 0) else {
-        unreachable!()
-    };
-    let (fabric, ports) = Fabric::<Letter>::build(alloc, shape)?;
-    let (a, b) = both(&fabric, ports);
-    Ok((fabric, a, b))
-}
 
 // No step: at the start nothing was sent and nothing was taken.
 fn nothing_yet(f: &Fabric<Letter>, a: &Port<Letter>, b: &Port<Letter>, came: &Vec<u8>)

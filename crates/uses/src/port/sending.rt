@@ -1,30 +1,16 @@
 //! The sending rank: a parcel for each byte of a text.
 
-ghost use Rattle.std.specs.Prelude.{◌≡◌, ◌<◌};
-ghost use Rattle.nm_types.specs.declared.limits.TheConstants.{MAX_PACKETS};
+ghost use Rattle.std.specs.Prelude.{◌≡◌};
 ghost use Rattle.nm_cells.specs.Ports.{Owns, knows};
 ghost use Rattle.uses.specs.Crossings.{Sends};
 
-use crate::port::letters::Letter;
+use crate::letters::{Letter, parcel};
 use nm_chain::seats::Steps;
-use nm_chain::table::Parcel;
 use nm_port::carried::laws::a_send_carries;
 use nm_port::{Fabric, Port, send};
 use nm_types::Memory;
 use std::alloc::Global;
 use std::sync::ledger::Ledger;
-
-// A parcel of rank 0 with one byte.
-fn parcel(seq: u64, byte: u8) -> Parcel<Letter>
-    requires { seq < MAX_PACKETS }
-    ensures { (result.from ≡ 0) × (result.seq ≡ seq) × (result.item.byte ≡ byte) }
-{
-    Parcel {
-        from: 0,
-        seq,
-        item: Letter { byte },
-    }
-}
 
 /// Sends the next byte of the text to rank 1, where a box or a cell is free.
 pub fn send_next<L: Ledger>(

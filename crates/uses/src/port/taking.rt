@@ -5,7 +5,7 @@ ghost use Rattle.nm_cells.specs.Ports.{Owns};
 ghost use Rattle.nm_port.specs.Polls.{HoldsTheRest};
 ghost use Rattle.uses.specs.Crossings.{Takes};
 
-use crate::port::letters::Letter;
+use crate::letters::Letter;
 use nm_chain::seats::Steps;
 use nm_port::carried::laws::a_poll_carries;
 use nm_port::{Fabric, Port, poll};

@@ -4,7 +4,7 @@ ghost use Rattle.std.specs.Prelude.{◌≡◌, IfNone, IfSome};
 ghost use Rattle.nm_cells.specs.Ports.{Owns, IsOwn, Takes, own_of, knows};
 ghost use Rattle.uses.specs.QueueCrossings.{SameLists};
 
-use crate::queue::letters::Letter;
+use crate::letters::Letter;
 use nm_cells::{Cell, Fabric, Port, Queue};
 use nm_chain::seats::Steps;
 use nm_queue::dequeue;

@@ -1,31 +1,17 @@
 //! The putting rank: a cell for each byte of a text.
 
-ghost use Rattle.std.specs.Prelude.{◌≡◌, ◌<◌};
-ghost use Rattle.nm_types.specs.declared.limits.TheConstants.{MAX_PACKETS};
+ghost use Rattle.std.specs.Prelude.{◌≡◌};
 ghost use Rattle.nm_cells.specs.Ports.{Owns, knows};
 ghost use Rattle.uses.specs.QueueCrossings.{Puts};
 
+use crate::letters::{Letter, parcel};
 use crate::queue::first::take_first;
-use crate::queue::letters::Letter;
 use nm_cells::{Fabric, Port, Queue, put_in};
 use nm_chain::seats::Steps;
-use nm_chain::table::Parcel;
 use nm_queue::enqueue;
 use nm_types::Memory;
 use std::alloc::Global;
 use std::sync::ledger::Ledger;
-
-// A parcel of rank 0 with one byte.
-fn parcel(seq: u64, byte: u8) -> Parcel<Letter>
-    requires { seq < MAX_PACKETS }
-    ensures { (result.from ≡ 0) × (result.seq ≡ seq) × (result.item.byte ≡ byte) }
-{
-    Parcel {
-        from: 0,
-        seq,
-        item: Letter { byte },
-    }
-}
 
 /// Puts the next byte of the text into the queue of rank 1, where a cell is at home.
 pub fn put_next<L: Ledger>(

@@ -4,8 +4,8 @@ ghost use Rattle.std.specs.Prelude.{◌≡◌, OnOk};
 ghost use Rattle.nm_cells.specs.Ports.{Owns, knows};
 ghost use Rattle.uses.specs.QueueCrossings.{Gets};
 
+use crate::letters::Letter;
 use crate::queue::first::take_first;
-use crate::queue::letters::Letter;
 use nm_cells::{Fabric, Port, Queue, take_out};
 use nm_chain::seats::Steps;
 use nm_queue::enqueue;

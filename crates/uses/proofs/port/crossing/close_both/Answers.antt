@@ -4,7 +4,7 @@ use Rattle.nm_cells.specs.declared.port.Port.{Port}
 use Rattle.nm_cells.specs.ClosedLists.{entries}
 use Rattle.nm_cells.specs.Ports.{knows}
 use Rattle.uses.proofs.Fronts.{crossed}
-use Rattle.uses.specs.declared.port.letters.Letter.{Letter}
+use Rattle.uses.specs.declared.letters.Letter.{Letter}
 use Rattle.uses.proofs.port.crossing.close_both.Goals as goal
 
 pub returns : goal.returns

@@ -3,7 +3,7 @@ use Rattle.std.proofs.Common.{◌<◌, true, length, get_or, ap, ◌∙◌, arit
 use Rattle.nm_chain.specs.Rule.{sent_to}
 use Rattle.nm_chain.specs.declared.table.parcels.Parcel.{Parcel}
 use Rattle.nm_cells.specs.Ports.{knows}
-use Rattle.uses.specs.declared.port.letters.Letter.{Letter}
+use Rattle.uses.specs.declared.letters.Letter.{Letter}
 use Rattle.uses.specs.Crossings.{byte_of}
 use Rattle.uses.proofs.Fronts.{sends_on}
 use Rattle.uses.proofs.port.sending.send_next.Goals as goal

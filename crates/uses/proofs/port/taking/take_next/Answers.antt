@@ -1,7 +1,7 @@
 -- What came of the rank 0 is put behind what came before.
 use Rattle.std.proofs.Common.{◌++◌, ◌∷◌, [], subst, sym, ap, ◌∙◌}
 use Rattle.nm_chain.specs.declared.table.parcels.Parcel.{Parcel}
-use Rattle.uses.specs.declared.port.letters.Letter.{Letter}
+use Rattle.uses.specs.declared.letters.Letter.{Letter}
 use Rattle.uses.specs.Crossings.{Takes}
 use Rattle.uses.proofs.Fronts.{takes_more, takes_none, takes_other}
 use Rattle.uses.proofs.port.taking.take_next.Goals as goal

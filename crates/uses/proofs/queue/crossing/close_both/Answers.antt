@@ -6,7 +6,7 @@ use Rattle.nm_cells.specs.declared.port.Port.{Port}
 use Rattle.nm_cells.specs.ClosedLists.{entries}
 use Rattle.nm_cells.specs.Ports.{knows}
 use Rattle.uses.proofs.QueueFronts.{got_front}
-use Rattle.uses.specs.declared.queue.letters.Letter.{Letter}
+use Rattle.uses.specs.declared.letters.Letter.{Letter}
 use Rattle.uses.proofs.queue.crossing.close_both.Goals as goal
 
 pub returns : goal.returns

@@ -4,7 +4,7 @@ use Rattle.nm_chain.specs.declared.table.table.Entry.{Entry}
 use Rattle.nm_chain.specs.Rule.{from}
 use Rattle.uses.specs.QueueCrossings.{bytes_in}
 use Rattle.uses.proofs.QueueFronts.{puts_none}
-use Rattle.uses.specs.declared.queue.letters.Letter.{Letter}
+use Rattle.uses.specs.declared.letters.Letter.{Letter}
 use Rattle.uses.proofs.queue.crossing.nothing_yet.Goals as goal
 
 pub returns-clause-puts : goal.returns-clause-puts

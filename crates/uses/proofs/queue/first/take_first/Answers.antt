@@ -10,7 +10,7 @@ use Rattle.nm_queue.specs.Moves.{Misses}
 use Rattle.nm_queue.specs.declared.moves.Miss.{Miss}
 use Rattle.nm_queue.specs.declared.moves.Miss.TheVariants.{HeadEmpty, LinkMissing}
 use Rattle.uses.specs.QueueCrossings.{SameLists}
-use Rattle.uses.specs.declared.queue.letters.Letter.{Letter}
+use Rattle.uses.specs.declared.letters.Letter.{Letter}
 use Rattle.uses.proofs.QueueFronts.{lists_missed, lists_late}
 use Rattle.uses.proofs.queue.first.take_first.Goals as goal
 

@@ -9,7 +9,7 @@ use Rattle.nm_chain.specs.OwnQueues.{free_queue}
 use Rattle.nm_cells.specs.LooseCells.{IsAmong}
 use Rattle.nm_cells.specs.Ports.{Takes, holding, knows}
 use Rattle.uses.proofs.QueueFronts.{puts_on, puts_same}
-use Rattle.uses.specs.declared.queue.letters.Letter.{Letter}
+use Rattle.uses.specs.declared.letters.Letter.{Letter}
 use Rattle.uses.proofs.queue.putting.put_next.Goals as goal
 
 pub enqueue-requires-clause-in_hand : goal.enqueue-requires-clause-in_hand

@@ -8,7 +8,7 @@ use Rattle.nm_chain.specs.Plays.{InHand}
 use Rattle.nm_cells.specs.LooseCells.{IsAmong}
 use Rattle.nm_cells.specs.Ports.{holding, knows}
 use Rattle.uses.proofs.QueueFronts.{gets_more, gets_other, gets_same, got_next}
-use Rattle.uses.specs.declared.queue.letters.Letter.{Letter}
+use Rattle.uses.specs.declared.letters.Letter.{Letter}
 use Rattle.uses.proofs.queue.taking.take_next.Goals as goal
 
 pub enqueue-requires-clause-in_hand : goal.enqueue-requires-clause-in_hand

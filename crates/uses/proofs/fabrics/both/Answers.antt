@@ -2,8 +2,8 @@ use Rattle.std.proofs.Common.{◌≡◌, ℕ, zero, suc, ◌<◌, List, [], ◌�
 use Rattle.std.proofs.Common.{sym, refl, ap, ◌∙◌, arith}
 use Rattle.std.specs.Prelude.{remove}
 use Rattle.nm_cells.specs.declared.port.Port.{Port}
-use Rattle.uses.specs.declared.queue.letters.Letter.{Letter}
-use Rattle.uses.proofs.queue.crossing.both.Goals as goal
+use Rattle.uses.specs.declared.letters.Letter.{Letter}
+use Rattle.uses.proofs.fabrics.both.Goals as goal
 
 stands : (xs : List (Port Letter)) (i : ℕ) (x : Port Letter) → i < length xs → x ≡ get_or xs i x
     → slice_get xs i ≡ Some x
