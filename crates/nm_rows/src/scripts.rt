@@ -1,29 +1,8 @@
-//! Texts of scripts: one that is read and written, and that of a small flood.
+//! The text of a small flood.
 
 use nm_script::flood::flood_script;
-use nm_script::{read, write};
-use std::alloc::Global;
+use nm_script::write;
 use std::test::Fail;
-
-const TEXT: &str = "ranks 2\n0: isend 0 1 1 0 xa1\n0: isend 1 1 2 0 xa2\n0: wait 0\n0: wait 1\n\
-    1: irecv 0 0 2 0 8\n1: wait 0\n1: irecv 0 0 1 0 8\n1: wait 0\n";
-
-// The text of the script that the bytes spell.
-fn again(alloc: Global, bytes: &[u8]) -> Result<String, Fail> {
-    let script = read(alloc, bytes)?;
-    Ok(write(alloc, &script)?)
-}
-
-#[test]
-fn a_text_is_read_and_written(rt: HostRuntime) -> Result<(), Fail> {
-    let bytes = TEXT.as_bytes();
-    assert_eq!(rt; again(rt.alloc(), bytes)?.as_str(), TEXT);
-    assert_eq!(rt;
-        again(rt.alloc(), &bytes[..bytes.len() - 1])?.as_str(),
-        TEXT
-    );
-    Ok(())
-}
 
 #[test]
 fn a_flood_has_its_text(rt: HostRuntime) -> Result<(), Fail> {

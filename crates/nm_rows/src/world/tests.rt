@@ -23,11 +23,12 @@ use std::marker::Brand;
 use std::sync::ledger::{Blank, Ledger};
 use std::test::Fail;
 
-// What the turns of two ranks answer: whether each of the sender's moved something, and whether the
-// receiver's did and its probe saw the message that was sent last.
-#[derive(Drop)]
+// Whether each turn of a sender and of a receiver moved something, and the receiver's probe saw the message
+// that was sent last.
+#[derive(Clone, Copy)]
 struct Turns {
-    sent: [bool; 3],
+    sent: bool,
+    received: bool,
     seen: bool,
 }
 
@@ -42,22 +43,23 @@ fn both<T: Drop>(mut list: Vec<T>) -> (T, T)
     (first, second)
 }
 
-// Three turns of the sender. It runs 64 commands, sends 64 packets and runs the last command, and
-// sends the last packet.
-fn three_turns<L: Ledger>(
-    sender: &mut Player<Scripted<'_>>,
+// So many turns of a player. The answer is whether each of them moved something.
+fn make_turns<L: Ledger>(
+    player: &mut Player<Scripted<'_>>,
     f: &Fabric<Packet>,
     r: &Rings,
+    count: u8,
     blank: Blank,
-) -> Result<[bool; 3], Memory>
+) -> Result<bool, Memory>
     requires blank { (blank.name ≡ L.name) × (blank.parts ≡ L.parts) × (0 < L.parts) }
-    requires stands { PlayerInvariant shown gives_lines f.now r.now sender.old }
+    requires stands { PlayerInvariant shown gives_lines f.now r.now player.old }
 {
     let mut steps = Steps::<L>::new(blank);
-    let first = sender.turn(f, r, &OpenGate, &mut steps)?;
-    let second = sender.turn(f, r, &OpenGate, &mut steps)?;
-    let third = sender.turn(f, r, &OpenGate, &mut steps)?;
-    Ok([first, second, third])
+    let mut moved = true;
+    for _turn in 0..count {
+        moved = player.turn(f, r, &OpenGate, &mut steps)? && moved;
+    }
+    Ok(moved)
 }
 
 // Whether the last that happened is that the probe saw the last of 65 messages.
@@ -82,23 +84,9 @@ fn saw_the_last(history: &History) -> bool {
     }
 }
 
-// One turn of the receiver. It takes 64 packets, and polls once more before its probe.
-fn one_turn<L: Ledger>(
-    receiver: &mut Player<Scripted<'_>>,
-    f: &Fabric<Packet>,
-    r: &Rings,
-    blank: Blank,
-) -> Result<bool, Memory>
-    requires blank { (blank.name ≡ L.name) × (blank.parts ≡ L.parts) × (0 < L.parts) }
-    requires stands { PlayerInvariant shown gives_lines f.now r.now receiver.old }
-{
-    let mut steps = Steps::<L>::new(blank);
-    let moved = receiver.turn(f, r, &OpenGate, &mut steps)?;
-    Ok(moved && saw_the_last(receiver.history()))
-}
-
-// The turns of a sender at these ports.
-fn sender_at(
+// So many turns of a player at these ports. The answer is whether each of them moved something, and
+// whether its probe saw the last message.
+fn player_at(
     alloc: Global,
     shape: Shape,
     f: &Fabric<Packet>,
@@ -106,36 +94,20 @@ fn sender_at(
     port: Port<Packet>,
     ring: RingPort,
     script: Scripted<'_>,
-) -> Result<[bool; 3], Memory>
+    count: u8,
+) -> Result<(bool, bool), Memory>
     requires script { BeginsAt shown gives_lines shape.ranks script }
     requires ranks { (f.now.ranks ≡ shape.ranks) × (r.now.ranks ≡ shape.ranks) }
-    requires two { shape.ranks ≡ 2 }
-    requires new { IsNew f.now port 0 × ring_port.IsNew r.now ring 0 }
+    requires new { IsNew f.now port port.rank × ring_port.IsNew r.now ring port.rank }
+    requires in_range { port.rank < shape.ranks }
 {
-    let mut sender = Player::new(alloc, shape, port, ring, script)?;
-    three_turns::<Brand>(&mut sender, f, r, Blank::new(1))
+    let mut player = Player::new(alloc, shape, port, ring, script)?;
+    let moved = make_turns::<Brand>(&mut player, f, r, count, Blank::new(1))?;
+    Ok((moved, saw_the_last(player.history())))
 }
 
-// The turn of a receiver at these ports.
-fn receiver_at(
-    alloc: Global,
-    shape: Shape,
-    f: &Fabric<Packet>,
-    r: &Rings,
-    port: Port<Packet>,
-    ring: RingPort,
-    script: Scripted<'_>,
-) -> Result<bool, Memory>
-    requires script { BeginsAt shown gives_lines shape.ranks script }
-    requires ranks { (f.now.ranks ≡ shape.ranks) × (r.now.ranks ≡ shape.ranks) }
-    requires two { shape.ranks ≡ 2 }
-    requires new { IsNew f.now port 1 × ring_port.IsNew r.now ring 1 }
-{
-    let mut receiver = Player::new(alloc, shape, port, ring, script)?;
-    one_turn::<Brand>(&mut receiver, f, r, Blank::new(1))
-}
-
-// The turns of both ranks at these ports, the sender's before the receiver's.
+// The turns of both ranks at these ports. In three the sender runs 64 commands, sends 64 packets and runs the last
+// command, and sends the last packet; in one the receiver takes 64 packets, and polls once more before its probe.
 fn turns_at(
     alloc: Global,
     shape: Shape,
@@ -157,11 +129,14 @@ fn turns_at(
     let (port, other_port) = both(ports);
     let (ring, other_ring) = both(rings);
     let (script, other_script) = both(scripts);
-    let sent = sender_at(alloc, shape, f, r, port, ring, script);
-    let seen = receiver_at(alloc, shape, f, r, other_port, other_ring, other_script);
+    let first = player_at(alloc, shape, f, r, port, ring, script, 3);
+    let second = player_at(alloc, shape, f, r, other_port, other_ring, other_script, 1);
+    let (sent, _) = first?;
+    let (received, seen) = second?;
     Ok(Turns {
-        sent: sent?,
-        seen: seen?,
+        sent,
+        received,
+        seen,
     })
 }
 
@@ -224,10 +199,8 @@ fn a_probe_sees_the_packet_that_came_last(rt: HostRuntime) -> Result<(), Fail> {
     let script = script_of_sends(rt.alloc())?;
     assert!(rt; script.ranks == 2);
     let turns = turns_on(rt.alloc(), &script)?;
-    assert!(rt;
-        turns.sent == [true; 3],
-        "a turn of the sender moved nothing"
-    );
+    assert!(rt; turns.sent, "a turn of the sender moved nothing");
+    assert!(rt; turns.received, "the receiver moved nothing");
     assert!(rt; turns.seen, "the probe saw another message, or none");
     Ok(())
 }
