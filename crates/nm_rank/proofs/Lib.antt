@@ -1,5 +1,6 @@
 mod AcceptLemmas
 mod AcceptedLemmas
+mod AwaitLemmas
 mod CancelLemmas
 mod ClearLemmas
 mod DrawLemmas

@@ -9,9 +9,10 @@ ghost use Rattle.nm_history.specs.declared.events.Happened.TheVariants as event;
 ghost use Rattle.nm_history.specs.Sends.{Sent};
 ghost use Rattle.nm_history.specs.Clock.{stamped};
 ghost use Rattle.nm_history.specs.Effects.{packet_events, whole_if};
+ghost use Rattle.nm_history.specs.Agreement.{Agrees};
 ghost use Rattle.nm_history.specs.Known.{Known};
 ghost use Rattle.nm_sending.specs.Outboxes.{put_to};
-ghost use Rattle.nm_receiving.specs.StreamViews.{is_called_for as is_called_for_lem, is_done_at_once};
+ghost use Rattle.nm_receiving.specs.StreamViews.{is_done_at_once};
 ghost use Rattle.nm_sending.specs.Departures.{cleared_to};
 ghost use Rattle.nm_sending.specs.Sent.{AreSent, Puts};
 ghost use Rattle.nm_receiving.specs.Made.{all_made};
@@ -19,7 +20,7 @@ ghost use Rattle.nm_receiving.specs.Receipts.{stream_of};
 ghost use Rattle.nm_receiving.specs.Received.{AreReceived};
 ghost use Rattle.nm_rank.specs.Calls.{TakesPacket, TakesPiece, strays_after as strays_after_lem, taken_of};
 ghost use Rattle.nm_rank.specs.Ranks.{IsFresh, count_of};
-ghost use Rattle.nm_rank.specs.Takes.{MayBeAccepted, Accepts, reply_of};
+ghost use Rattle.nm_rank.specs.Takes.{MayBeAccepted, Accepts, is_awaited as is_awaited_lem, reply_of};
 
 use crate::Rank;
 use crate::journal::{Journal, Recorder};
@@ -130,15 +131,15 @@ fn note_packet<H: Recorder>(
     note_events(journal, stream, p, done_at_once);
 }
 
-/// Whether this rank called for a packet: it clears a message that was sent by asking, or answers a
-/// recall.
-fn is_called_for(sending: &Sending, p: &Packet) -> bool
+/// Whether this rank awaits a packet: it clears a message that waits for that, or answers a recall.
+fn is_awaited(sending: &Sending, p: &Packet) -> bool
     requires { p.now.from < length sending.now.outbox.popped }
-    ensures { (h : List Event) → AreSent sending.now h →
-        result ≡ is_called_for_lem h p.now.from p.now.what }
+    ensures { (h : List Event) (known : Known) → AreSent sending.now h → Agrees p.now.from h known
+        → known.cleared ≡ cleared_to sending.now p.now.from
+        → result ≡ is_awaited_lem known h p.now.from p.now.what }
 {
     match p.what {
-        What::Clear { n } => sending.is_asked(p.from, n),
+        What::Clear { n } => sending.is_waiting(p.from, n),
         What::Withdrawn { n, .. } => sending.was_recalled(p.from, n),
         What::Head { .. } | What::More { .. } | What::Ask { .. } | What::Withdraw { .. } => false,
     }
@@ -203,9 +204,9 @@ impl<H: Recorder> Rank<H> {
         ensures taken { OnOk result (TakesPacket p.now self.old self.new) }
         ensures err { OnErr result (self.new ≡ self.old) }
     {
-        let called_for = is_called_for(&self.sending, p);
+        let awaited = is_awaited(&self.sending, p);
         let eager = self.shape.eager();
-        if self.streams[p.from as usize].continues(eager, p, called_for) {
+        if self.streams[p.from as usize].continues(eager, p, awaited) {
             self.take_next(p)?;
         } else {
             self.journal.raise(p.stamp);

@@ -21,7 +21,7 @@ use Rattle.nm_history.specs.Happens.{at}
 use Rattle.nm_rndv.specs.Cuts.{start_of}
 use Rattle.nm_rndv.specs.declared.asked.State.{State}
 use Rattle.nm_rndv.specs.declared.asked.State.TheVariants.{Asked, Cleared, Out, Withdrawn}
-use Rattle.nm_rndv.specs.Offers.{Destined, destined, state_of, recall_in, leaves, is_leaving}
+use Rattle.nm_rndv.specs.Offers.{Destined, destined, state_of, recall_in, leaves, is_leaving, is_waiting}
 use Rattle.std.specs.Prelude.{IsTrue, ◌↔◌}
 use Rattle.nm_rndv.specs.Offers.{Offering, asked_len, len_of, with_step, with_clearance}
 use Rattle.nm_rndv.specs.Offers.{after_clearance, leaving_or_out}
@@ -44,6 +44,34 @@ use Rattle.nm_sending.proofs.TableLemmas.{out-counted}
 use Rattle.nm_sending.proofs.TurnLemmas.{InTurn, numbers-push, has-append}
 use Rattle.nm_sending.proofs.WaitingLemmas.{weight}
 use Rattle.nm_types.proofs.NumberLemmas.{eq_true, same_number}
+
+-- a message waits to be cleared where it was sent by asking, and was neither cleared nor withdrawn
+abbrev open_ways : Bool → Bool → Bool → Bool
+open_ways asked cleared undone = asked && not cleared && not undone
+
+waits_by : (d : Departure) (cleared : Bool) (s : Option State) → IsStateOf d cleared s
+    → option_map_or is_waiting s false ≡ open_ways true cleared (was_undone true d)
+waits_by d cleared None offer = absurd offer
+waits_by d cleared (Some (Asked body)) offer =
+    sym (ap (λ (b : Bool). open_ways true b (was_undone true d)) offer.2 ∙ ap (open_ways true false) offer.4)
+waits_by d cleared (Some (Cleared cut)) offer =
+    sym (ap (λ (b : Bool). open_ways true b (was_undone true d)) offer.2)
+waits_by d cleared (Some Out) offer = sym (ap (λ (b : Bool). open_ways true b (was_undone true d)) offer.0)
+waits_by d cleared (Some Withdrawn) offer =
+    sym (ap (λ (b : Bool). open_ways true b (was_undone true d)) offer.0 ∙ ap (open_ways true false) offer.2)
+
+pub waits_is : (o : Option Departure) (cleared : Bool) (s : Option State) → IsOffer o cleared s
+    → option_map_or is_waiting s false
+    ≡ open_ways (passes (λ d. is_ask d.how) o) cleared (passes (was_undone true) o)
+waits_is None cleared s offer = ap (λ (x : Option State). option_map_or is_waiting x false) offer.1
+waits_is (Some d) cleared s offer = by_how d.how refl offer where
+  by_how : (how : How) → d.how ≡ how → IsOfferBy how d cleared s
+      → option_map_or is_waiting s false ≡ open_ways (is_ask d.how) cleared (was_undone true d)
+  by_how Eager is offer' =
+      ap (λ (x : Option State). option_map_or is_waiting x false) offer'.1
+      ∙ sym (ap (λ (w : How). open_ways (is_ask w) cleared (was_undone true d)) is)
+  by_how Ask is offer' =
+      waits_by d cleared s offer' ∙ sym (ap (λ (w : How). open_ways (is_ask w) cleared (was_undone true d)) is)
 
 -- a message that waits for its clearance, and its body
 pub record Asks (v : SendingView) (to n : ℕ) : Type 0 where

@@ -27,4 +27,3 @@ mod TableLemmas
 pub mod TurnLemmas
 mod UndoLemmas
 mod WaitingLemmas
-mod WayLemmas

@@ -8,7 +8,6 @@ use Rattle.std.proofs.Math.ListN.{set}
 use Rattle.std.proofs.lemmas.List.{set-get_or}
 use Rattle.std.proofs.lemmas.Option.{get_or_from_slice_get, slice_get_within}
 use Rattle.nm_types.proofs.NumberLemmas.{eq_false, eq_less, eq_true, same_number}
-use Rattle.nm_history.specs.Sends.{is_ask}
 use Rattle.nm_sending.specs.declared.departures.Departure.{Departure}
 use Rattle.nm_sending.specs.Departures.{passes}
 use Rattle.nm_sending.specs.Rows.{all_recalled, gone, with_recalled}
@@ -55,18 +54,6 @@ module _ (recalls : List (ℕ × Option Bool)) where
       get-all 0 ds n
       ∙ ap (λ k. option_map (λ x. with_recalled x (lookup (nat_eq k) recalls)) (slice_get ds n)) same
       ∙ ap (λ o. option_map (λ x. with_recalled x (lookup (nat_eq n) recalls)) o) there
-
-  -- a message was sent the same way
-  pub way-all : (ds : List Departure) (n : ℕ) → passes (λ d. is_ask d.how) (slice_get (all_recalled recalls 0 ds) n)
-      ≡ passes (λ d. is_ask d.how) (slice_get ds n)
-  way-all ds n =
-      ap (λ (o : Option Departure). passes (λ d. is_ask d.how) o) (get-all 0 ds n) ∙ by (slice_get ds n)
-    where
-      by : (o : Option Departure)
-          → passes (λ d. is_ask d.how) (option_map (λ d. with_recalled d (lookup (nat_eq (0 + n)) recalls)) o)
-          ≡ passes (λ d. is_ask d.how) o
-      by None = refl
-      by (Some d) = refl
 
   -- what stands without its recall at the place of a message
   pub base-of : (ds : List Departure) (n : ℕ) (d : Departure) → slice_get (all_recalled recalls 0 ds) n ≡ Some d

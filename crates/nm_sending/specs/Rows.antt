@@ -1,14 +1,12 @@
--- What memory holds of the messages to one rank. Each keeps whether it was sent by asking and what became of
--- it, for tests and results of its send (MPI 3.1, 3.7.3) and for a recall of it (3.8.4).
-use Rattle.std.specs.Prelude.{◌≡◌, ℕ, zero, suc, ◌+◌, ◌<◌, ◌^◌, Bool, true, false, not, Option}
-use Rattle.std.specs.Prelude.{List, [], ◌∷◌, length, count_by, is_some, nat_eq, nat_le, option_and_then}
-use Rattle.std.specs.List.{AllByRecursion, prefix_len, slice_get}
+-- What memory holds of the messages to one rank. Of each it is known what became of it, for tests and results
+-- of its send (MPI 3.1, 3.7.3) and for a recall of it (3.8.4).
+use Rattle.std.specs.Prelude.{◌≡◌, ℕ, ◌+◌, ◌<◌, ◌^◌, Bool, true, not, Option}
+use Rattle.std.specs.Prelude.{List, [], ◌∷◌, length, is_some, nat_eq, option_and_then}
+use Rattle.std.specs.List.{prefix_len}
 use Rattle.std.specs.Map.{lookup}
 use Rattle.nm_types.specs.declared.messages.How.TheVariants.{Eager}
-use Rattle.nm_history.specs.Sends.{is_ask}
 use Rattle.nm_kept.specs.Keeping.{Keeping}
 use Rattle.nm_sending.specs.declared.departures.Departure.{Departure}
-use Rattle.nm_sending.specs.Departures.{passes}
 
 -- what contracts see of a row: what became of each message, for how many messages more there is room, and
 -- for how many recalls
@@ -46,27 +44,8 @@ all_recalled recalls n (d ∷ ds) =
 abbrev pub fate : Departure → Departure
 fate d = record d { how = Eager; len = 0 }
 
--- an odd number
-abbrev pub is_odd : ℕ → Bool
-is_odd zero = false
-is_odd (suc n) = not (is_odd n)
-
--- message n was sent by asking: up to it there was an odd number of turns from one way to the other
-abbrev pub asked_by : List ℕ → ℕ → Bool
-asked_by turns n = is_odd (count_by (λ turn. nat_le turn n) turns)
-
--- These are the turns of the messages: the first one is eager if it is none. The next one is sent by asking
--- if it is no turn and the last one was.
-pub record AreTurns (turns : List ℕ) (asks : Bool) (ds : List Departure) : Type 0 where
-  pub within : AllByRecursion (λ turn. turn < length ds) turns
-  pub last : asks ≡ is_odd (length turns)
-  pub ways :
-      (n : ℕ) → n < length ds → asked_by turns n ≡ passes (λ d. is_ask d.how) (slice_get ds n)
-
 -- What a row keeps: memory holds the messages from the first on that has not left, and all recalls.
-pub record RowKeeps (sent : Keeping Departure) (recalls : List (ℕ × Option Bool)) (turns : List ℕ) (asks : Bool)
-    : Type 0 where
+pub record RowKeeps (sent : Keeping Departure) (recalls : List (ℕ × Option Bool)) : Type 0 where
   pub first : sent.forgotten ≡ gone sent.items
   pub few : length sent.items < 2 ^ 64
   pub known : (n : ℕ) → is_some (lookup (nat_eq n) recalls) ≡ true → n < length sent.items
-  pub turned : AreTurns turns asks sent.items

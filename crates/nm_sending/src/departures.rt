@@ -2,7 +2,6 @@
 
 ghost use Rattle.std.specs.Prelude.{◌≡◌, true, Some};
 ghost use Rattle.nm_types.specs.declared.messages.How.TheVariants.{Eager};
-ghost use Rattle.nm_history.specs.Sends.{is_ask};
 ghost use Rattle.nm_sending.specs.Departures.{ending_of, fresh, is_over};
 ghost use Rattle.nm_sending.specs.Rows.{with_recalled as with_recalled_lem};
 
@@ -34,13 +33,6 @@ impl Departure {
             recalled: false,
             undone: None,
         }
-    }
-
-    /// Whether it was sent by asking.
-    pub(crate) fn is_asked(&self) -> bool
-        ensures { result ≡ is_ask self.now.how }
-    {
-        self.how == How::Ask
     }
 
     /// Whether its send is complete.

@@ -1,11 +1,10 @@
 //! What became of each message to one rank.
 
-ghost use Rattle.std.specs.Prelude.{◌≡◌, ◌+◌, ◌<◌, ◌≤◌, ◌^◌, [], ◌∷◌, ◌++◌, true, length, not, List, Some};
-ghost use Rattle.std.specs.Prelude.{slice_get, slice_set, option_map, vec_capacity, vec_len, OnOk};
-ghost use Rattle.nm_history.specs.Sends.{is_ask};
+ghost use Rattle.std.specs.Prelude.{◌≡◌, ◌+◌, ◌<◌, ◌≤◌, ◌^◌, [], ◌∷◌, ◌++◌, true, length, not, Some};
+ghost use Rattle.std.specs.Prelude.{slice_get, slice_set, option_map, OnOk};
 ghost use Rattle.nm_sending.specs.Departures.{fresh, passes};
 ghost use Rattle.nm_sending.specs.declared.departures.Departure.{Departure};
-ghost use Rattle.nm_sending.specs.Rows.{AreTurns, asked_by, fate, gone, stays};
+ghost use Rattle.nm_sending.specs.Rows.{fate, gone, stays};
 
 use crate::departures::Departure;
 use crate::recalls::Recalls;
@@ -15,15 +14,11 @@ use std::alloc::Global;
 use std::marker::Model;
 
 /// What became of each message to one rank, by number. Memory holds those from the first on that has not left,
-/// each that was recalled, and at which numbers the way of sending turned.
+/// and each recall.
 pub(crate) struct Row {
     // without their recalls
     sent: Kept<Departure>,
     recalls: Recalls,
-    // each number whose message was sent another way than the one before it; the first, if it was asked for
-    turns: Vec<u64>,
-    // whether the last message was sent by asking
-    asks: bool,
 }
 
 impl Drop for Row {
@@ -31,51 +26,23 @@ impl Drop for Row {
         let Row {
             sent: _,
             recalls: _,
-            turns: _,
-            asks: _,
         } = self;
     }
 }
 
 impl Model for Row {
-    ghost use Rattle.std.specs.Prelude.{◌-◌, length, min, vec_capacity, vec_len};
+    ghost use Rattle.std.specs.Prelude.{◌-◌, length};
     ghost use Rattle.nm_sending.specs.Rows.{RowKeeps, RowView, all_recalled};
 
     ghost Value = { RowView };
 
     ghost view = { λ a. record {
       items = all_recalled a.recalls.entries 0 a.sent.items;
-      room = min (a.sent.places - length a.sent.items) (vec_capacity a.turns - vec_len a.turns);
+      room = a.sent.places - length a.sent.items;
       spare = a.recalls.spare;
     } };
 
-    ghost invariant = { λ a. RowKeeps a.sent a.recalls.entries a.turns.items a.asks };
-}
-
-/// Whether message `n` was sent by asking, by the turns.
-fn is_asked_by(turns: &[u64], n: u64) -> bool
-    ensures { result ≡ asked_by turns.now n }
-{
-    let mut asked = false;
-    for turn in turns {
-        if *turn <= n {
-            asked = !asked;
-        }
-    }
-    asked
-}
-
-/// Notes which way the next message is sent, which has this number.
-fn note_way(turns: &mut Vec<u64>, asks: &mut bool, n: u64, is_asked: bool)
-    requires room { vec_len turns.old < vec_capacity turns.old }
-    ensures { (ds : List Departure) (d : Departure) → length ds ≡ n → is_ask d.how ≡ is_asked →
-        AreTurns turns.old.items asks.old ds → AreTurns turns.new.items asks.new (ds ++ d ∷ []) }
-{
-    if is_asked == *asks {
-        return;
-    }
-    turns.push_reserved(n);
-    *asks = is_asked;
+    ghost invariant = { λ a. RowKeeps a.sent a.recalls.entries };
 }
 
 /// Lets go the messages at the front that have left.
@@ -102,8 +69,6 @@ impl Row {
         Row {
             sent: Kept::new(alloc),
             recalls: Recalls::new(alloc),
-            turns: Vec::new(alloc),
-            asks: false,
         }
     }
 
@@ -126,9 +91,7 @@ impl Row {
         ensures items { self.new.items ≡ self.old.items }
         ensures ok { OnOk result (0 < self.new.room) }
     {
-        self.sent.reserve(1)?;
-        self.turns.reserve(1)?;
-        Ok(())
+        self.sent.reserve(1)
     }
 
     /// Makes room for one recall more.
@@ -146,8 +109,6 @@ impl Row {
         ensures { self.new.items ≡ self.old.items ++ fresh how len ∷ [] }
     {
         let departure = Departure::new(how, len);
-        let n = self.sent.len();
-        note_way(&mut self.turns, &mut self.asks, n, departure.is_asked());
         self.sent.push_reserved(departure);
     }
 
@@ -163,19 +124,6 @@ impl Row {
             Some(departure) => departure.with_recalled(recall),
             None => Departure::gone().with_recalled(recall),
         })
-    }
-
-    /// Whether message `n` was sent by asking.
-    pub(crate) fn is_asked(&self, n: u64) -> bool
-        ensures { result ≡ passes (λ d. is_ask d.how) (slice_get self.now.items n) }
-    {
-        if n >= self.sent.len() {
-            return false;
-        }
-        match self.sent.get(n) {
-            Some(departure) => departure.is_asked(),
-            None => is_asked_by(&self.turns, n),
-        }
     }
 
     /// A message has left.

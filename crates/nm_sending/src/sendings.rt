@@ -1,6 +1,6 @@
 //! The sending side of a rank.
 
-ghost use Rattle.std.specs.Prelude.{◌≡◌, ◌+◌, ◌-◌, ◌<◌, ◌≤◌, ◌↔◌, ℕ, false, None, List, []};
+ghost use Rattle.std.specs.Prelude.{◌≡◌, ◌+◌, ◌-◌, ◌<◌, ◌≤◌, ◌↔◌, ◌&&◌, ℕ, true, false, not, None, List, []};
 ghost use Rattle.std.specs.Prelude.{if◌then◌else◌, length, min, slice_get, IfOk, IfSome};
 ghost use Rattle.std.specs.Prelude.{IsSome, IsSomeAnd, IsNone, MatchOption, OnOk, OnErr, option_map};
 ghost use Rattle.std.specs.List.{AllByRecursion};
@@ -10,8 +10,9 @@ ghost use Rattle.nm_types.specs.Bodies.{body_len};
 ghost use Rattle.nm_history.specs.declared.events.Event.{Event};
 ghost use Rattle.nm_history.specs.Completion.{is_complete as is_complete_lem, result_of};
 ghost use Rattle.nm_history.specs.Completion.Request.{Sending as SendingRequest};
-ghost use Rattle.nm_history.specs.Delivery.{is_asked as is_asked_lem};
-ghost use Rattle.nm_history.specs.Happens.{happened, is_recall};
+ghost use Rattle.nm_history.specs.Continues.{has};
+ghost use Rattle.nm_history.specs.Delivery.{is_asked};
+ghost use Rattle.nm_history.specs.Happens.{happened, is_recall, is_undone};
 ghost use Rattle.nm_history.specs.Sends.{sends, is_ask};
 ghost use Rattle.nm_history.specs.Rest.{EagerHaveLeft};
 ghost use Rattle.nm_rndv.specs.Offers.{AllOut, next_offered, offered};
@@ -21,7 +22,7 @@ ghost use Rattle.nm_sending.specs.declared.TheConstants.{MAX_MESSAGES};
 ghost use Rattle.nm_sending.specs.Calls.{AnswersRecall, ClearsMessage, HasRoomFor, PopsFirstPacket};
 ghost use Rattle.nm_sending.specs.Calls.{PopsNextPiece, RecallsMessage, SameButRoom, SendsMessage};
 ghost use Rattle.nm_sending.specs.Calls.{SentNothing, sent_as};
-ghost use Rattle.nm_sending.specs.Departures.{departures_to, pushed_to};
+ghost use Rattle.nm_sending.specs.Departures.{cleared_to, departures_to, pushed_to};
 ghost use Rattle.nm_sending.specs.Rows.{gone};
 ghost use Rattle.nm_sending.specs.Sent.{AreSent, MayBeAnswered, MayBeCleared, MayBeRecalled};
 ghost use Rattle.nm_sending.specs.Sent.{Puts, only_to};
@@ -253,12 +254,15 @@ impl Sending {
         put_bare(&mut self.outbox, to, stamp, what);
     }
 
-    /// Whether message `n` to a rank was sent by asking.
-    pub fn is_asked(&self, to: u8, n: u64) -> bool
+    /// Whether message `n` to a rank waits to be cleared: it was sent by asking, and was neither cleared nor
+    /// withdrawn.
+    pub fn is_waiting(&self, to: u8, n: u64) -> bool
         requires { to < length self.now.outbox.popped }
-        ensures { (h : List Event) → AreSent self.now h → result ≡ is_asked_lem (sends h to) n }
+        ensures { (h : List Event) → AreSent self.now h →
+            result ≡ (is_asked (sends h to) n && not (has (cleared_to self.now to) n)
+            && not (happened (is_undone to n true) h)) }
     {
-        self.departures.is_asked(to, n)
+        self.offers.is_asked(to, n)
     }
 
     /// Whether message `n` to a rank was recalled.

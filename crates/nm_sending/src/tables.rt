@@ -3,7 +3,6 @@
 ghost use Rattle.std.specs.Prelude.{◌≡◌, ◌+◌, ◌<◌, ◌^◌, [], ◌∷◌, ◌++◌, true, not, length, replicate, Some};
 ghost use Rattle.std.specs.Prelude.{option_map, slice_get, slice_index, slice_set};
 ghost use Rattle.std.specs.Prelude.{IfOk, OnOk};
-ghost use Rattle.nm_history.specs.Sends.{is_ask};
 ghost use Rattle.nm_sending.specs.Departures.{IsMost, fresh, passes, row_of, with_departure};
 ghost use Rattle.nm_sending.specs.Rows.{fate, gone, stays};
 ghost use Rattle.nm_sending.specs.declared.TheConstants.{MAX_MESSAGES};
@@ -86,14 +85,6 @@ impl Table {
             ≡ option_map fate (slice_get (row_of self.now.rows to) n) }
     {
         self.rows[to as usize].get(n)
-    }
-
-    /// Whether message `n` to a rank was sent by asking.
-    pub(crate) fn is_asked(&self, to: u8, n: u64) -> bool
-        requires { to < length self.now.rows }
-        ensures { result ≡ passes (λ d. is_ask d.how) (slice_get (row_of self.now.rows to) n) }
-    {
-        self.rows[to as usize].is_asked(n)
     }
 
     /// Makes room for one message more to a rank.

@@ -22,7 +22,6 @@ invariant_of-self c =
       few = c.self.invariant.few;
       known = known-more a.recalls.entries a.sent.items c.args.n c.answer.new.self.entries
           (Some c.args.done) step (c.self.invariant.known c.args.n is) c.self.invariant.known;
-      turned = c.self.invariant.turned;
     }
 
 pub returns : goal.returns

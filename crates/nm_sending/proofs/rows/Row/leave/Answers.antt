@@ -1,14 +1,13 @@
 use Rattle.std.specs.Prelude.{IfSome}
-use Rattle.std.proofs.Common.{◌≡◌, ◌<◌, ◌≤◌, ◌^◌, ◌∙◌, ℕ, List, Some, Option, ap, length, sym, subst, true, arith, refl}
+use Rattle.std.proofs.Common.{◌≡◌, ◌<◌, ◌≤◌, ◌^◌, ◌∙◌, ℕ, List, Some, Option, ap, length, sym, subst, true, arith}
 use Rattle.std.specs.List.{slice_get}
 use Rattle.std.proofs.Math.ListN.{set}
 use Rattle.std.proofs.lemmas.List.{length-set}
 use Rattle.nm_kept.specs.Keeping.{Keeping}
 use Rattle.nm_sending.specs.declared.departures.Departure.{Departure}
-use Rattle.nm_sending.specs.Rows.{AreTurns, all_recalled, gone}
+use Rattle.nm_sending.specs.Rows.{all_recalled, gone}
 use Rattle.nm_sending.proofs.GoneLemmas.{gone-set, stays-held}
 use Rattle.nm_sending.proofs.RecalledLemmas.{leave-all}
-use Rattle.nm_sending.proofs.WayLemmas.{turns-set}
 use Rattle.nm_sending.proofs.rows.Row.leave.Goals as goal
 
 pub unwrap-departure-requires : goal.unwrap-departure-requires
@@ -41,8 +40,6 @@ invariant_of-self c =
       first = c.let_go.ensures.first ∙ ap gone (sym c.let_go.ensures.same);
       few = subst (λ (k : ℕ). k < 2 ^ 64) (sym many) c.self.invariant.few;
       known = λ q is. subst (λ (k : ℕ). q < k) (sym many) (c.self.invariant.known q is);
-      turned = subst (λ (l : List Departure). AreTurns a.turns.items a.asks l) (sym now)
-          (turns-set a.turns.items a.asks a.sent.items c.self.invariant.turned c.args.n b b' at refl);
     }
 
 pub returns : goal.returns

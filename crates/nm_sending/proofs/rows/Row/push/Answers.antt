@@ -14,15 +14,13 @@ invariant_of-self c =
     let more : length (a.sent.items ++ d ∷ []) ≡ length a.sent.items + 1 = length-append a.sent.items (d ∷ []) in
     let seen : length (all_recalled a.recalls.entries 0 a.sent.items) + 1 < 2 ^ 64 =
     subst (λ (v : RowView). length v.items + 1 < 2 ^ 64) (sym c.self.view_is) c.requires.few in
-    subst (λ (k : Keeping Departure). RowKeeps k a.recalls.entries c.note_way.new.turns.items c.note_way.new.asks)
+    subst (λ (k : Keeping Departure). RowKeeps k a.recalls.entries)
     (sym c.push_reserved.ensures)
     (record {
       first = c.self.invariant.first
           ∙ sym (gone-push a.sent.items d (ap (λ (x : Departure). x.out) c.new-departure.ensures));
       few = omega (arith, more, seen, length-all a.recalls.entries 0 a.sent.items);
       known = λ q is. let before = c.self.invariant.known q is in omega (arith, before, more);
-      turned = c.note_way.ensures a.sent.items d (sym c.len-n.ensures) (sym c.is_asked.ensures)
-          c.self.invariant.turned;
     })
 
 pub returns : goal.returns

@@ -23,7 +23,6 @@ invariant_of-self c =
       few = c.self.invariant.few;
       known = known-more a.recalls.entries a.sent.items c.args.n c.add.new.self.entries None step
           (within-all a.recalls.entries a.sent.items c.args.n p.0 p.1) c.self.invariant.known;
-      turned = c.self.invariant.turned;
     }
 
 pub returns : goal.returns
