@@ -33,6 +33,7 @@ use Rattle.nm_match.specs.Deeds.{is_known_message}
 use Rattle.nm_match.proofs.NumberLemmas.{is_known_message-arrived, messages_numbered}
 use Rattle.nm_match.proofs.PushLemmas.{is_claimed-push, messages_known}
 use Rattle.nm_match.proofs.QueueLemmas.{free_means}
+use Rattle.nm_receiving.proofs.ClaimLemmas.{still_claimed}
 use Rattle.nm_process.specs.declared.steps.Handle.{Handle}
 use Rattle.nm_process.specs.Names.{AreHeld, IsHeld, message_with}
 use Rattle.nm_process.proofs.NameLemmas.{key_self, other_key, same_key}
@@ -98,13 +99,6 @@ new_pair_other h x (Withdraw from n done) leaves held = refl
 new_pair_other h x (Undone to n done) leaves held = refl
 new_pair_other h x (Claim from n line) leaves held = refl
 new_pair_other h x (Ran line answer) leaves held = refl
-
-still_claimed : (claimed new taken more : Bool) → (claimed && not taken) ≡ true → more ≡ false →
-    ((claimed || new) && not (taken || more)) ≡ true
-still_claimed true new false false was none = refl
-still_claimed true new true more was none = cc
-still_claimed false new taken more was none = cc
-still_claimed true new false true was none = cc
 
 -- a held message stays held
 held_push : (h : List Event) (x : Handle) (e : Event) → Leaves x h e.what → IsHeld h x →

@@ -21,6 +21,7 @@ use Rattle.nm_history.proofs.AtEachLemmas.{AtEach-push}
 use Rattle.nm_history.proofs.OnceLemmas.{messages-push}
 use Rattle.nm_match.specs.Deeds.{is_known_message, is_message}
 use Rattle.nm_match.proofs.NumberLemmas.{messages_numbered}
+use Rattle.nm_receiving.proofs.ClaimLemmas.{itself}
 
 -- whatever is found among the messages is found by its sender and number
 Found : List Event → Type 0
@@ -40,11 +41,6 @@ none_before (m ∷ ms) from n none = by_first (m.env.from == from && m.n == n) n
 
 fresh : (n k : ℕ) → n ≡ k → nat_lt n k ≡ false
 fresh n k same = grind (arith, nat_tests)
-
-is_itself : (a : Arrival) → (a.env.from == a.env.from && a.n == a.n) ≡ true
-is_itself a = pair_self a.env.from a.n where
-  pair_self : (i m : ℕ) → (i == i && m == m) ≡ true
-  pair_self i m = grind (arith, nat_tests)
 
 found_push : (ranks : ℕ) (h : List Event) (e : Event) → Always (NumberAt ranks) h →
     NumberAt ranks h e.what → Found h → Found (h ++ e ∷ [])
@@ -69,7 +65,7 @@ found_push ranks h e numbers numbered found test a is = by_event e.what numbered
         cc in subst (λ (y : Arrival). message_of (h ++ e ∷ []) y.env.from y.n ≡ Some y) same
         (ap (λ (ms : List Arrival). find (λ m. m.env.from == b.env.from && m.n == b.n) ms) all
         ∙ find-append (λ (m : Arrival). m.env.from == b.env.from && m.n == b.n) (messages h) (b ∷ [])
-        ∙ rw (none_before (messages h) b.env.from b.n new, is_itself b) refl)
+        ∙ rw (none_before (messages h) b.env.from b.n new, itself b) refl)
 
   by_none : arrival_of e.what ≡ None → message_of (h ++ e ∷ []) a.env.from a.n ≡ Some a
   by_none none = let same : messages (h ++ e ∷ []) ≡ messages h = more None none

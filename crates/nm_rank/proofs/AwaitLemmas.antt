@@ -56,6 +56,7 @@ module _ (eager : ℕ) (known : Known) (h : List Event) (p : Packet) (awaited re
   by_clear : (n : ℕ) (b : Bool) → p.what ≡ what.Clear n
       → (not (has known.cleared n) && not (has known.undone n)) ≡ b
       → awaited ≡ is_awaited known h p.from (what.Clear n) → result ≡ continues eager known h p
+  unfolding by_what
   by_clear n true is open' same = by_same (what.Clear n) is
       (same ∙ still_open (is_asked (sends h p.from) n) (not (has known.cleared n)) (not (has known.undone n)) open')
   by_clear n false is open' same =

@@ -1,5 +1,4 @@
 -- What the tables answer: whether a piece is due, and what became of a receive.
-use Rattle.std.specs.Prelude.{IsSome, IfSome}
 use Rattle.std.proofs.Common.{◌≡◌, ℕ, ◌<◌, ◌≤◌, Bool, true, false, not, ◌||◌, is_some, nat_lt, Option, Some, None, List}
 use Rattle.std.proofs.Common.{◌↔◌, length, refl, sym, ◌∙◌, ap, arith}
 use Rattle.std.proofs.Common.{◌⊎◌, inl, inr}
@@ -157,12 +156,3 @@ ended_cancelled v kept number late ended =
     not_true : (b : Bool) → true ≡ not b → b ≡ false
     not_true true is = absurd (true≢false is)
     not_true false is = refl
-
--- the message that a receive took is here
-pub taken_here : (v : ReceivingView) → ReceivingInvariant v → (number : ℕ) (r : Receive) → slice_get v.receives number ≡ Some r
-    → IfSome r.taken (λ a. IsSome (receipt_of v a.env.from a.n))
-taken_here v kept number r here = by r.taken refl
-  where
-    by : (o : Option Arrival) → r.taken ≡ o → IfSome o (λ a. IsSome (receipt_of v a.env.from a.n))
-    by None is = tt
-    by (Some a) is = let had = kept.tables.taken number r a here is in ap (λ (o : Option Receipt). is_some o) had.1.0

@@ -4,6 +4,7 @@ mod Beginning
 mod CameLemmas
 mod Cancelling
 mod Changing
+pub mod ClaimLemmas
 mod Coming
 mod ContinueLemmas
 mod Drawing
@@ -16,6 +17,7 @@ mod Goings
 pub mod GrantLemmas
 mod Grants
 pub mod Grow
+mod Heres
 mod Joinings
 mod Keeping
 pub mod Lists

@@ -1,19 +1,24 @@
 -- A list of lists, seen by what each holds, and what the tables of a row hold.
-use Rattle.std.specs.Prelude.{IsSome}
-use Rattle.std.proofs.Common.{◌≡◌, ℕ, ◌+◌, ◌<◌, ◌≤◌, ◌⊎◌, inl, inr, subst, suc, zero, Bool, true, false, Option, Some, None, List}
-use Rattle.std.proofs.Common.{[], ◌∷◌, ◌++◌, length, map, get_or, is_some, refl, sym, ◌∙◌, ap}
-use Rattle.std.proofs.Common.{arith}
+use Rattle.std.specs.Prelude.{IsSome, IsSomeAnd}
+use Rattle.std.proofs.Common.{◌≡◌, ℕ, ◌+◌, ◌<◌, ◌≤◌, ◌^◌, ◌||◌, ◌⊎◌, inl, inr, subst, suc, zero, Bool, true, false}
+use Rattle.std.proofs.Common.{Option, Some, None, List, [], ◌∷◌, ◌++◌, length, map, get_or, refl, sym, ◌∙◌, ap}
+use Rattle.std.proofs.Common.{arith, length-append}
 use Rattle.std.specs.List.{slice_get}
-use Rattle.std.specs.Option.{option_map_or}
+use Rattle.std.specs.Option.{option_map, option_map_or}
 use Rattle.std.proofs.Math.ListN.{set}
-use Rattle.std.proofs.lemmas.Bool.{cases_lt, false≢true}
-use Rattle.std.proofs.lemmas.List.{get_or_past, length-map}
+use Rattle.std.proofs.lemmas.Bool.{cases_lt, false≢true, true≢false}
+use Rattle.std.proofs.lemmas.List.{get_or_past, length-map, length-set, map-append}
 use Rattle.std.proofs.lemmas.List.{map-set}
-use Rattle.std.proofs.lemmas.Option.{slice_get_read, slice_get_within}
-use Rattle.nm_types.specs.declared.messages.Envelope.{Envelope}
+use Rattle.std.proofs.lemmas.List.Sums.{fold-append, prefix_len-le-length}
+use Rattle.std.proofs.lemmas.Option.{same_Some, slice_get-map, slice_get_within}
+use Rattle.nm_history.specs.Sends.{is_ask}
+use Rattle.nm_history.proofs.Basic.{or_true}
+use Rattle.nm_kept.specs.Keeping.{IsHeld, Keeping}
 use Rattle.nm_receiving.specs.declared.receipts.Receipt.{Receipt}
-use Rattle.nm_receiving.specs.Rows.{messages_from}
+use Rattle.nm_receiving.specs.declared.rows.Mark.{Mark}
+use Rattle.nm_receiving.specs.Rows.{RowKeeps, is_settled, messages_after, messages_of, settled_before}
 use Rattle.nm_receiving.specs.Steps.{made_whole, with_whole}
+use Rattle.nm_types.proofs.OptionLemmas.{some_and}
 use Rattle.nm_types.proofs.RowLemmas.{row_at}
 
 -- an element that is there stands inside the list
@@ -54,36 +59,77 @@ row-whole f rows i n row new read there changed =
     ∙ ap (λ (zs : List Receipt). set (map f rows) i zs)
     (changed ∙ sym (ap (λ (zs : List Receipt). with_whole zs n) filled.0))
 
--- as many messages as envelopes
-pub length-messages : (k : ℕ) (es : List Envelope) (ws : List Bool) → length ws ≡ length es →
-    length (messages_from k es ws) ≡ length es
-length-messages k [] ws same = refl
-length-messages k (e ∷ es) [] same = absurd (let h : ⊥ = omega arith in h)
-length-messages k (e ∷ es) (w ∷ ws) same = ap suc (length-messages (k + 1) es ws (omega arith))
+-- the messages after one thing more was noted
+pub messages-note : (marks : List Mark) (m : Mark)
+    → messages_of (marks ++ m ∷ []) ≡ messages_after (messages_of marks) m
+messages-note marks m = fold-append (λ (rs : List Receipt) (m : Mark). messages_after rs m) [] marks (m ∷ [])
 
--- one message more
-pub messages-push : (k : ℕ) (es : List Envelope) (ws : List Bool) (r : Receipt) → length ws ≡ length es →
-    r.arrival.n ≡ k + length es
-    → messages_from k (es ++ r.arrival.env ∷ []) (ws ++ r.whole ∷ []) ≡ messages_from k es ws ++ r ∷ []
-messages-push k [] [] r same number =
-    let here : r.arrival.n ≡ k = omega arith in
-    ap (λ n. record { arrival = record { n = n; env = r.arrival.env }; whole = r.whole } ∷ []) (sym here)
-messages-push k [] (w ∷ ws) r same number = absurd (let h : ⊥ = omega arith in h)
-messages-push k (e ∷ es) [] r same number = absurd (let h : ⊥ = omega arith in h)
-messages-push k (e ∷ es) (w ∷ ws) r same number =
-    ap (λ (rs : List Receipt). record { arrival = record { n = k; env = e }; whole = w } ∷ rs)
-    (messages-push (k + 1) es ws r (omega arith) (omega arith))
+-- no more are settled at the front than there are
+pub settled-few : (bs : List Bool) → settled_before bs ≤ length bs
+settled-few bs = prefix_len-le-length (λ b. b) bs
 
--- message n is whole
-pub messages-whole : (k : ℕ) (es : List Envelope) (ws : List Bool) (n : ℕ) →
-    messages_from k es (set ws n true) ≡ with_whole (messages_from k es ws) n
-messages-whole k [] ws n = refl
-messages-whole k (e ∷ es) [] n = refl
-messages-whole k (e ∷ es) (w ∷ ws) zero = refl
-messages-whole k (e ∷ es) (w ∷ ws) (suc n) =
-    ap (λ (rs : List Receipt). record { arrival = record { n = k; env = e }; whole = w } ∷ rs)
-    (messages-whole (k + 1) es ws n)
-    ∙ behind (record { arrival = record { n = k; env = e }; whole = w }) (messages_from (k + 1) es ws) n
+-- where the first in memory is not settled, all before it are
+pub settled-stays : (bs : List Bool) (k : ℕ) → k ≤ settled_before bs
+    → option_map_or (λ b. b) (slice_get bs k) false ≡ false → k ≡ settled_before bs
+settled-stays [] k low stays = omega (arith, low)
+settled-stays (false ∷ bs) k low stays = omega (arith, low)
+settled-stays (true ∷ bs) zero low stays = absurd (true≢false stays)
+settled-stays (true ∷ bs) (suc k) low stays =
+    let rest = settled-stays bs k (omega (arith, low)) stays in omega (arith, rest)
+
+-- and where it is settled, so are all up to it
+pub settled-goes : (bs : List Bool) (k : ℕ) → k ≤ settled_before bs
+    → option_map_or (λ b. b) (slice_get bs k) false ≡ true → k + 1 ≤ settled_before bs
+settled-goes [] k low goes = absurd (false≢true goes)
+settled-goes (false ∷ bs) zero low goes = absurd (false≢true goes)
+settled-goes (false ∷ bs) (suc k) low goes = absurd (let h : ⊥ = omega (arith, low) in h)
+settled-goes (true ∷ bs) zero low goes = omega arith
+settled-goes (true ∷ bs) (suc k) low goes =
+    let rest = settled-goes bs k (omega (arith, low)) goes in omega (arith, rest)
+
+-- each of those at the front is settled
+settled-there : (bs : List Bool) (n : ℕ) → n < settled_before bs → slice_get bs n ≡ Some true
+settled-there [] n lt = absurd (let h : ⊥ = omega (arith, lt) in h)
+settled-there (false ∷ bs) n lt = absurd (let h : ⊥ = omega (arith, lt) in h)
+settled-there (true ∷ bs) zero lt = refl
+settled-there (true ∷ bs) (suc n) lt = settled-there bs n (omega (arith, lt))
+
+-- so nothing changes where one of them is settled again
+pub settled-again : (bs : List Bool) (n : ℕ) → n < settled_before bs → bs ≡ set bs n true
+settled-again [] n lt = absurd (let h : ⊥ = omega (arith, lt) in h)
+settled-again (false ∷ bs) n lt = absurd (let h : ⊥ = omega (arith, lt) in h)
+settled-again (true ∷ bs) zero lt = refl
+settled-again (true ∷ bs) (suc n) lt = ap (λ (l : List Bool). true ∷ l) (settled-again bs n (omega (arith, lt)))
+
+-- where one more is settled, no fewer are at the front
+pub settled-set : (bs : List Bool) (n : ℕ) → settled_before bs ≤ settled_before (set bs n true)
+settled-set [] n = omega arith
+settled-set (false ∷ bs) n = omega arith
+settled-set (true ∷ bs) zero = omega arith
+settled-set (true ∷ bs) (suc n) = let rest = settled-set bs n in omega (arith, rest)
+
+-- and where one more comes
+pub settled-push : (bs : List Bool) (c : Bool) → settled_before bs ≤ settled_before (bs ++ c ∷ [])
+settled-push [] c = omega arith
+settled-push (false ∷ bs) c = omega arith
+settled-push (true ∷ bs) c = let rest = settled-push bs c in omega (arith, rest)
+
+-- a message before the first in memory is settled
+pub gone-before : (settled : Keeping Bool) (n : ℕ) → settled.forgotten ≡ settled_before settled.items
+    → n < length settled.items → (IsHeld settled n → ⊥) → n < settled_before settled.items
+gone-before settled n first within gone = by (cases_lt n settled.forgotten)
+  where
+    by : (n < settled.forgotten) ⊎ (settled.forgotten ≤ n) → n < settled_before settled.items
+    by (inl less) = omega (arith, less, first)
+    by (inr most) = absurd (gone (record { behind = most; within = within }))
+
+-- a message that is whole is settled
+settled-whole : (rs : List Receipt) (n : ℕ) → set (map is_settled rs) n true ≡ map is_settled (with_whole rs n)
+settled-whole [] n = refl
+settled-whole (r ∷ rs) zero = ap (λ (b : Bool). b ∷ map is_settled rs) (sym (or_true (is_ask r.arrival.env.how)))
+settled-whole (r ∷ rs) (suc n) =
+    ap (λ (bs : List Bool). is_settled r ∷ bs) (settled-whole rs n)
+    ∙ ap (λ (qs : List Receipt). map is_settled qs) (behind r rs n)
   where
     behind : (r : Receipt) (rs : List Receipt) (n : ℕ) → r ∷ with_whole rs n ≡ with_whole (r ∷ rs) (suc n)
     behind r rs n = by (slice_get rs n) where
@@ -92,49 +138,57 @@ messages-whole k (e ∷ es) (w ∷ ws) (suc n) =
       by None = refl
       by (Some q) = refl
 
--- message i, by what is kept of it
-message_at : (k : ℕ) (es : List Envelope) (ws : List Bool) (i n : ℕ) (e : Envelope) (w : Bool) → n ≡ k + i →
-    slice_get es i ≡ Some e → slice_get ws i ≡ Some w
-    → slice_get (messages_from k es ws) i ≡ Some (record { arrival = record { n = n; env = e }; whole = w })
-message_at k [] ws i n e w at env whole = absurd (false≢true (ap (λ (o : Option Envelope). is_some o) env))
-message_at k (f ∷ es) [] i n e w at env whole = absurd (false≢true (ap (λ (o : Option Bool). is_some o) whole))
-message_at k (f ∷ es) (v ∷ ws) zero n e w at env whole =
-    let here : k ≡ n = omega (arith, at) in
-    ap (λ (n : ℕ). Some (record { arrival = record { n = n; env = f }; whole = v })) here
-    ∙ ap (λ (f : Envelope). Some (record { arrival = record { n = n; env = f }; whole = v }))
-    (ap (λ (o : Option Envelope). option_map_or (λ f. f) o f) env)
-    ∙ ap (λ (v : Bool). Some (record { arrival = record { n = n; env = e }; whole = v }))
-    (ap (λ (o : Option Bool). option_map_or (λ v. v) o v) whole)
-message_at k (f ∷ es) (v ∷ ws) (suc i) n e w at env whole =
-    message_at (k + 1) es ws i n e w (omega (arith, at)) env whole
+-- the row with one message more
+pub keeps-push : (rs : List Receipt) (old mid new : Keeping Bool) (r : Receipt) → RowKeeps rs old
+    → mid.items ≡ old.items ++ is_settled r ∷ [] → new.items ≡ mid.items
+    → new.forgotten ≡ settled_before mid.items → length rs + 1 < 2 ^ 64 → RowKeeps (rs ++ r ∷ []) new
+keeps-push rs old mid new r keeps pushed same first few =
+    let more : length (old.items ++ is_settled r ∷ []) ≡ length old.items + 1 =
+    length-append old.items (is_settled r ∷ []) in
+    let many : length old.items ≡ length rs =
+    ap (λ (bs : List Bool). length bs) keeps.each ∙ length-map rs is_settled in
+    let now : length new.items ≡ length (old.items ++ is_settled r ∷ []) =
+    ap (λ (bs : List Bool). length bs) (same ∙ pushed) in
+    record {
+      each = same ∙ pushed ∙ ap (λ (bs : List Bool). bs ++ is_settled r ∷ []) keeps.each
+          ∙ sym (map-append is_settled rs (r ∷ []));
+      first = first ∙ ap settled_before (sym same);
+      few = omega (arith, more, many, now, few);
+    }
 
--- a message stands in both tables
-pub in_both : (es : List Envelope) (ws : List Bool) (n : ℕ) → length ws ≡ length es →
-    n < length (messages_from 0 es ws) → (n < length es) × (n < length ws)
-in_both es ws n same below =
-    (omega (arith, below, length-messages 0 es ws same), omega (arith, below, same, length-messages 0 es ws same))
+-- the row where message n is whole
+pub keeps-whole : (rs : List Receipt) (old new : Keeping Bool) (n : ℕ) → RowKeeps rs old
+    → new.items ≡ set old.items n true → new.forgotten ≡ settled_before new.items → RowKeeps (with_whole rs n) new
+keeps-whole rs old new n keeps changed first =
+    let many : length new.items ≡ length old.items =
+    ap (λ (bs : List Bool). length bs) changed ∙ length-set old.items n true in
+    let few = keeps.few in
+    record {
+      each = changed ∙ ap (λ (bs : List Bool). set bs n true) keeps.each ∙ settled-whole rs n;
+      first = first;
+      few = omega (arith, many, few);
+    }
 
--- message n, as it is read
-pub message_read : (es : List Envelope) (ws : List Bool) (n : ℕ) (e : Envelope) (w : Bool) →
-    length ws ≡ length es → n < length (messages_from 0 es ws)
-    → e ≡ get_or es n e → w ≡ get_or ws n w
-    → slice_get (messages_from 0 es ws) n ≡ Some (record { arrival = record { n = n; env = e }; whole = w })
-message_read es ws n e w same below env whole =
-    let both = in_both es ws n same below in
-    message_at 0 es ws n n e w (omega arith) (slice_get_read es (length es) n e refl both.0 env)
-    (slice_get_read ws (length ws) n w refl both.1 whole)
+-- an eager message is whole where it is settled
+pub told-whole : (rs : List Receipt) (bs : List Bool) (n : ℕ) (b : Bool) → bs ≡ map is_settled rs
+    → IsSomeAnd (slice_get rs n) (λ r. is_ask r.arrival.env.how ≡ false) → slice_get bs n ≡ Some b
+    → b ≡ option_map_or (λ r. r.whole) (slice_get rs n) false
+told-whole rs bs n b each eager there =
+    let r = some_and (λ (r : Receipt). is_ask r.arrival.env.how ≡ false) (slice_get rs n) eager in
+    same_Some b (is_settled r.0)
+    (sym there ∙ ap (λ (l : List Bool). slice_get l n) each ∙ slice_get-map is_settled rs n
+    ∙ ap (λ (o : Option Receipt). option_map is_settled o) r.1)
+    ∙ ap (λ (c : Bool). c || r.0.whole) r.2
+    ∙ sym (ap (λ (o : Option Receipt). option_map_or (λ r. r.whole) o false) r.1)
 
--- whether message i is whole
-whole_at : (k : ℕ) (es : List Envelope) (ws : List Bool) (i : ℕ) (w : Bool) → length ws ≡ length es →
-    slice_get ws i ≡ Some w → w ≡ option_map_or (λ r. r.whole) (slice_get (messages_from k es ws) i) false
-whole_at k es [] i w same whole = absurd (false≢true (ap (λ (o : Option Bool). is_some o) whole))
-whole_at k [] (v ∷ ws) i w same whole = absurd (let h : ⊥ = omega (arith, same) in h)
-whole_at k (e ∷ es) (v ∷ ws) zero w same whole = sym (ap (λ (o : Option Bool). option_map_or (λ v. v) o v) whole)
-whole_at k (e ∷ es) (v ∷ ws) (suc i) w same whole = whole_at (k + 1) es ws i w (omega (arith, same)) whole
-
--- the same, as it is read
-pub whole_read : (es : List Envelope) (ws : List Bool) (n : ℕ) (w : Bool) →
-    length ws ≡ length es → n < length (messages_from 0 es ws) → w ≡ get_or ws n w
-    → w ≡ option_map_or (λ r. r.whole) (slice_get (messages_from 0 es ws) n) false
-whole_read es ws n w same below whole =
-    whole_at 0 es ws n w same (slice_get_read ws (length ws) n w refl (in_both es ws n same below).1 whole)
+-- and so is one that was let go
+pub gone-whole : (rs : List Receipt) (settled : Keeping Bool) (n : ℕ) → RowKeeps rs settled
+    → IsSomeAnd (slice_get rs n) (λ r. is_ask r.arrival.env.how ≡ false) → (IsHeld settled n → ⊥)
+    → true ≡ option_map_or (λ r. r.whole) (slice_get rs n) false
+gone-whole rs settled n keeps eager gone =
+    let r = some_and (λ (r : Receipt). is_ask r.arrival.env.how ≡ false) (slice_get rs n) eager in
+    let many : length settled.items ≡ length rs =
+    ap (λ (bs : List Bool). length bs) keeps.each ∙ length-map rs is_settled in
+    let within : n < length settled.items = omega (arith, many, slice_get_within rs n r.0 r.1) in
+    told-whole rs settled.items n true keeps.each eager
+    (settled-there settled.items n (gone-before settled n keeps.first within gone))

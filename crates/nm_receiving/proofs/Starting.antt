@@ -41,7 +41,7 @@ use Rattle.nm_receiving.proofs.Overs.{begun_ended}
 use Rattle.nm_receiving.proofs.Stood.{begun}
 use Rattle.nm_receiving.proofs.Tables.{IsFree, no_grant, owed-begun, tables-begun}
 use Rattle.nm_receiving.proofs.TablesMark.{MayMark, owed-marked, tables-marked}
-use Rattle.nm_types.proofs.OptionLemmas.{mapped_some as mapped, some_and, if_each, some_of, one_option}
+use Rattle.nm_types.proofs.OptionLemmas.{mapped_some as mapped, some_and, if_each, one_option}
 
 -- a message that may be taken is here
 pub is_free : (v : ReceivingView) (kept : ReceivingInvariant v) (a : Arrival) → IsTakeable v.sizes.ranks kept.history a →
@@ -349,18 +349,3 @@ module _ (v : ReceivingView) (kept : ReceivingInvariant v) (taken : Option Arriv
 
   pub may_begin_with : (a : Arrival) → taken ≡ Some a → (r : Receipt) × MayBegin v a r
   may_begin_with a is = let f = is_free v kept a (takeable a is) in (f.0, may_begin v kept a f.0 f.1)
-
--- the claimed message is here
-pub claimed_receipt : (v : ReceivingView) (kept : ReceivingInvariant v) (from n : ℕ) →
-    IsSome (message_of (history_of v.deeds) from n) → IsSome (receipt_of v from n)
-claimed_receipt v kept from n some =
-    let there = some_of (message_of (history_of v.deeds) from n) some in
-    let here = mapped (λ (m : Receipt). m.arrival) (receipt_of v from n) there.0
-    (kept.received.messages from n ∙ message_of-stands v.deeds kept.history kept.received.stands from n ∙ there.1) in
-    ap (λ (o : Option Receipt). is_some o) here.1
-
-pub claimed_message : (v : ReceivingView) (kept : ReceivingInvariant v) (from n : ℕ) (r : Receipt) → receipt_of v from n ≡ Some r
-    → message_of (history_of v.deeds) from n ≡ Some r.arrival
-claimed_message v kept from n r here =
-    sym (message_of-stands v.deeds kept.history kept.received.stands from n) ∙ sym (kept.received.messages from n)
-    ∙ ap (λ (o : Option Receipt). option_map (λ m. m.arrival) o) here

@@ -1,5 +1,5 @@
 -- What each call does to a rank's receiving side. MPI 3.1, 3.5, 3.7.3, 3.8.
-use Rattle.std.specs.Prelude.{◌≡◌, ℕ, ◌+◌, ◌<◌, true, false, if◌then◌else◌, Option, List, [], ◌∷◌, ◌++◌}
+use Rattle.std.specs.Prelude.{◌≡◌, ℕ, ◌+◌, ◌<◌, true, false, if◌then◌else◌, Option, Some, List, [], ◌∷◌, ◌++◌}
 use Rattle.std.specs.Prelude.{length, map, option_map, slice_set, IfSome, IsNone, IsSome}
 use Rattle.std.specs.List.{slice_get}
 use Rattle.std.specs.Option.{option_map_or}
@@ -19,6 +19,7 @@ use Rattle.nm_history.specs.Effects.{whole_if}
 use Rattle.nm_history.specs.Known.{Known}
 use Rattle.nm_history.specs.Pieces.{due_pieces, is_due, piece_makes}
 use Rattle.nm_eager.specs.Streams.{after, continues, is_kept, missing, nothing_came}
+use Rattle.nm_receiving.specs.declared.receipts.Receive.{Receive}
 use Rattle.nm_receiving.specs.declared.receivings.Drawn.{Drawn}
 use Rattle.nm_receiving.specs.declared.receivings.Started.{Started}
 use Rattle.nm_receiving.specs.Receipts.{AddsBytes, ReceivingView, SameBytes, SameOtherBytes, ShowsBytes}
@@ -52,6 +53,12 @@ pub record StartsOne (cap : ℕ) (begins : ℕ → Happened) (s : Started) (old 
       new.receives
       ≡ old.receives
       ++ record { cap = cap; taken = s.taken; cancelled = false; ended = false } ∷ []
+
+-- the receive is one of these, and its result was not given
+pub record IsLiveOf (v : ReceivingView) (receive : Receive) : Type 0 where
+  pub number : ℕ
+  pub here : slice_get v.receives number ≡ Some receive
+  pub live : receive.ended ≡ false
 
 -- The packet is one of a message, of a rank of the run, and continues its stream.
 pub record MayBeTakenIn (v : ReceivingView) (p : Packet) : Type 0 where

@@ -1,4 +1,5 @@
 pub mod Calls
+pub mod Claims
 pub mod Kept
 pub mod Made
 pub mod Pieces

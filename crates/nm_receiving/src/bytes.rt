@@ -1,14 +1,15 @@
 //! The bytes of messages that receives took.
 
-ghost use Rattle.std.specs.Prelude.{◌≡◌, ◌<◌, ◌≤◌, if◌then◌else◌, nat_lt, IfSome, IsSome, true, ℕ};
+ghost use Rattle.std.specs.Prelude.{◌≡◌, ◌<◌, ◌≤◌, if◌then◌else◌, nat_lt, IfSome, IsSome, true, false, ℕ};
 ghost use Rattle.std.specs.Prelude.{IsSomeAnd, None, OnOk, Some, length, slice_set};
 ghost use Rattle.std.specs.List.{slice_get};
+ghost use Rattle.std.specs.Option.{option_map_or};
 ghost use Rattle.nm_types.specs.declared.answers.Answer.TheVariants as answer;
 ghost use Rattle.nm_history.specs.Selection.{matches_source};
 ghost use Rattle.nm_history.specs.Sends.{is_ask};
 ghost use Rattle.nm_eager.specs.Joining.{ChangesStream, stream_from};
 ghost use Rattle.nm_eager.specs.Streams.{message_of, missing, without};
-ghost use Rattle.nm_rndv.specs.Grants.{IsReadyFor, grant_in, grants_from, taken_in};
+ghost use Rattle.nm_rndv.specs.Grants.{IsReadyFor, grant_in, grants_from, is_whole_in, taken_in};
 ghost use Rattle.nm_receiving.specs.Steps.{IsThere, bytes_there, grants_with, rows_from, rows_with};
 
 use crate::receipts::Receipts;
@@ -49,6 +50,26 @@ pub(crate) fn grant_taken(grants: &mut Grants, receipts: &mut Receipts, taken: &
     if a.env.how == How::Ask {
         grants.grant(a.env.from, a.n, a.env.len).unwrap();
         receipts.make_whole_if(a.env.len == 0, a.env.from, a.n);
+    }
+}
+
+/// Whether the message that a live receive took is here whole. Of one that was sent by asking its grant tells it.
+#[inline(always)]
+pub(crate) fn is_here(grants: &Grants, receipts: &Receipts, a: &Arrival) -> bool
+    requires sender { a.now.env.from < length grants.now.grants }
+    requires came { IsSomeAnd (slice_get (rows_from receipts.now.rows a.now.env.from) a.now.n)
+        (λ r. r.arrival ≡ a.now) }
+    requires asked { is_ask a.now.env.how ≡ true
+        → is_whole_in (grants_from grants.now a.now.env.from) a.now.n
+        ≡ option_map_or (λ r. r.whole)
+        (slice_get (rows_from receipts.now.rows a.now.env.from) a.now.n) false }
+    ensures { result
+        ≡ option_map_or (λ r. r.whole)
+        (slice_get (rows_from receipts.now.rows a.now.env.from) a.now.n) false }
+{
+    match a.env.how {
+        How::Ask => grants.is_whole(a.env.from, a.n),
+        How::Eager => receipts.eager_is_whole(a.env.from, a.n),
     }
 }
 

@@ -20,14 +20,17 @@
 //! - A piece of a sender is due exactly if a rendezvous message of it was taken by a receive and is not whole
 //!   (`is_due`); none is due from any sender exactly if `is_any_due` is false.
 //! - `finish` gives the result of the receive, with the bytes of its message.
-//! - Memory holds the receives from the first on whose result was not given (`held_receives`); each answer
-//!   is as if it held all. It lets go at most 2^62, which no run reaches: so a receive's number has 64 bits.
+//! - Memory holds the receives from the first on whose result was not given (`held_receives`), of the messages
+//!   that came a byte for each from the first on that was neither sent by asking nor is whole (`held_messages`),
+//!   and those that are claimed and not yet received (`Claims`). Each answer is as if it held all. It lets go at
+//!   most 2^62 receives, which no run reaches: so a receive's number has 64 bits.
 //! - After want of memory nothing has changed (clause `err`).
 //! # What is only tested
 //! That calls which take memory succeed with ample memory.
 #![tactic(auto)]
 
 mod bytes;
+mod claims;
 pub mod laws;
 mod receipts;
 mod receives;

@@ -1,13 +1,15 @@
 //! What became of the messages that came, and of the receives.
 
-ghost use Rattle.std.specs.Prelude.{◌≡◌, ◌<◌, [], ◌∷◌, ◌++◌, length, replicate, slice_index, if◌then◌else◌};
-ghost use Rattle.std.specs.Prelude.{slice_set, false, Some, IfOk, IfSome, IsSome, OnOk};
+ghost use Rattle.std.specs.Prelude.{◌≡◌, ◌+◌, ◌<◌, ◌^◌, [], ◌∷◌, ◌++◌, length, replicate, slice_index};
+ghost use Rattle.std.specs.Prelude.{if◌then◌else◌, slice_set, false, IfOk, IsSome, IsSomeAnd, OnOk};
 ghost use Rattle.std.specs.List.{slice_get};
 ghost use Rattle.std.specs.Option.{option_map_or};
+ghost use Rattle.nm_history.specs.Sends.{is_ask};
+ghost use Rattle.nm_receiving.specs.Rows.{is_settled as is_settled_lem, settled_front};
 ghost use Rattle.nm_receiving.specs.Steps.{rows_from, with_whole};
 
 use crate::rows::Row;
-use nm_types::{Arrival, Memory};
+use nm_types::{Arrival, How, Memory};
 use std::alloc::Global;
 use std::marker::Model;
 
@@ -17,6 +19,15 @@ pub struct Receipt {
     pub arrival: Arrival,
     /// Whether all of it is here.
     pub whole: bool,
+}
+
+impl Receipt {
+    /// Whether it is here whole, or was sent by asking.
+    pub(crate) fn is_settled(&self) -> bool
+        ensures { result ≡ is_settled_lem self.now }
+    {
+        self.arrival.env.how == How::Ask || self.whole
+    }
 }
 
 /// A receive that was posted, or that took a claimed message.
@@ -90,6 +101,16 @@ impl Receipts {
         self.rows[from as usize].count()
     }
 
+    /// How many messages of a sender are in memory: those from the first on that was neither sent by asking nor is
+    /// whole.
+    pub(crate) fn held(&self, from: u8) -> usize
+        requires { from < length self.now.rows }
+        ensures { settled_front (rows_from self.now.rows from) + result
+            ≡ length (rows_from self.now.rows from) }
+    {
+        self.rows[from as usize].held()
+    }
+
     /// Makes room for one message more of a sender.
     #[inline(always)]
     pub(crate) fn reserve(&mut self, from: u8) -> Result<(), Memory>
@@ -104,8 +125,8 @@ impl Receipts {
     /// Adds the next message of a sender. There is room for it.
     pub(crate) fn push(&mut self, from: u8, receipt: Receipt)
         requires from { from < length self.old.rows }
-        requires number { receipt.arrival.n ≡ length (rows_from self.old.rows from) }
         requires room { 0 < slice_index self.old.room from }
+        requires few { length (rows_from self.old.rows from) + 1 < 2 ^ 64 }
         ensures { self.new.rows
             ≡ slice_set self.old.rows from (rows_from self.old.rows from ++ receipt ∷ []) }
     {
@@ -124,17 +145,10 @@ impl Receipts {
         }
     }
 
-    /// Message `n` of a sender.
-    pub(crate) fn get(&self, from: u8, n: u64) -> Receipt
-        requires { IsSome (slice_get (rows_from self.now.rows from) n) }
-        ensures { slice_get (rows_from self.now.rows from) n ≡ Some result }
-    {
-        self.rows[from as usize].get(n)
-    }
-
-    /// Whether message `n` of a sender is here whole.
-    pub(crate) fn is_whole(&self, from: u8, n: u64) -> bool
-        requires { IsSome (slice_get (rows_from self.now.rows from) n) }
+    /// Whether the eager message `n` of a sender is here whole.
+    pub(crate) fn eager_is_whole(&self, from: u8, n: u64) -> bool
+        requires { IsSomeAnd (slice_get (rows_from self.now.rows from) n)
+            (λ r. is_ask r.arrival.env.how ≡ false) }
         ensures { result
             ≡ option_map_or (λ r. r.whole) (slice_get (rows_from self.now.rows from) n) false }
     {

@@ -1,7 +1,7 @@
 //! The receiving side of a rank.
 
 ghost use Rattle.std.specs.Prelude.{◌≡◌, ◌↔◌, ℕ, ◌+◌, ◌^◌, ◌<◌, ◌≤◌, true, false, not, [], ◌∷◌, ◌++◌, List};
-ghost use Rattle.std.specs.Prelude.{IfOk, IfSome, IsSome, IsTrue, MatchOption, OnErr, OnOk};
+ghost use Rattle.std.specs.Prelude.{IfOk, IsSome, IsTrue, MatchOption, OnErr, OnOk};
 ghost use Rattle.std.specs.Prelude.{length, map, nat_lt};
 ghost use Rattle.std.specs.List.{list_any, slice_get};
 ghost use Rattle.std.specs.Option.{option_map_or};
@@ -19,21 +19,22 @@ ghost use Rattle.nm_history.specs.Effects.{happenings};
 ghost use Rattle.nm_history.specs.Known.{Known, learned};
 ghost use Rattle.nm_history.specs.Pieces.{due_pieces};
 ghost use Rattle.nm_eager.specs.Streams.{missing};
-ghost use Rattle.nm_receiving.specs.Calls.{DrawsPiece, FinishesReceive, MayBeTakenIn, StartsOne};
+ghost use Rattle.nm_receiving.specs.Calls.{DrawsPiece, FinishesReceive, IsLiveOf, MayBeTakenIn, StartsOne};
 ghost use Rattle.nm_receiving.specs.Calls.{ReceivedNothing, TakesMessagePacket};
 ghost use Rattle.nm_receiving.specs.StreamViews.{is_done_at_once};
 ghost use Rattle.nm_receiving.specs.Receipts.{drawn_from, receipt_of, receipts_from};
 ghost use Rattle.nm_receiving.specs.Receipts.{stream_of};
 ghost use Rattle.nm_receiving.specs.Receives.{first_live};
+ghost use Rattle.nm_receiving.specs.Rows.{settled_front};
 ghost use Rattle.nm_receiving.specs.Received.{AreReceived, PreservesSender, IsOwed, Preserves, MayBeTaken};
 
-use crate::bytes::{grant_taken, reserve_from, shown, take_bytes};
+use crate::bytes::{grant_taken, is_here, reserve_from, shown, take_bytes};
+use crate::claims::Claims;
 use crate::receipts::{Receipt, Receipts, Receive};
 use crate::receives::{Receives, give};
 use crate::streams::{arrival, pieces};
 use crate::telling::packets_tell;
 use nm_eager::Joiner;
-use nm_match::Matcher;
 use nm_rndv::Grants;
 use nm_types::{Answer, Arrival, How, Memory, Packet, Peer, Piece, Post, Shape, TagPick, What};
 use std::alloc::Global;
@@ -55,7 +56,7 @@ pub struct Drawn {
 
 /// The receiving side of a rank: the messages that come to it, and its receives.
 pub struct Receiving {
-    matcher: Matcher,
+    matcher: Claims,
     joiner: Joiner,
     grants: Grants,
     receipts: Receipts,
@@ -109,7 +110,7 @@ impl Receiving {
             receipts: Receipts::new(alloc, ranks)?,
             drawn: vec![in alloc; 0; ranks as usize]?,
             receives: Receives::with_capacity(alloc, receives)?,
-            matcher: Matcher::new(alloc),
+            matcher: Claims::new(alloc),
         })
     }
 
@@ -119,6 +120,16 @@ impl Receiving {
             → first_live self.now.receives + result ≡ length self.now.receives }
     {
         self.receives.held()
+    }
+
+    /// How many messages of a rank are in memory: those from the first on that was neither sent by asking nor is
+    /// whole.
+    pub fn held_messages(&self, from: u8) -> usize
+        requires { from < self.now.sizes.ranks }
+        ensures { settled_front (receipts_from self.now from) + result
+            ≡ length (receipts_from self.now from) }
+    {
+        self.receipts.held(from)
     }
 
     /// How many messages came from a rank: the number of the next one.
@@ -166,7 +177,7 @@ impl Receiving {
     {
         prove!(self.matcher.is_claimed(from, n));
         self.receives.reserve()?;
-        let arrival = self.receipts.get(from, n).arrival;
+        let arrival = self.matcher.claimed(from, n);
         self.grants.reserve_for(arrival.env.from)?;
         let number = self.receives.count();
         let taken = Some(arrival);
@@ -394,15 +405,14 @@ impl Receiving {
 
     /// Whether the receive took a message that is here whole.
     fn has_message(&self, receive: &Receive) -> bool
-        requires { IfSome receive.now.taken (λ a.
-            IsSome (receipt_of self.now a.env.from a.n)) }
+        requires { IsLiveOf self.now receive.now }
         ensures { result
             ≡ option_map_or
             (λ a. option_map_or (λ r. r.whole) (receipt_of self.now a.env.from a.n) false)
             receive.now.taken false }
     {
         match receive.taken {
-            Some(a) => self.receipts.is_whole(a.env.from, a.n),
+            Some(a) => is_here(&self.grants, &self.receipts, &a),
             None => false,
         }
     }
@@ -421,7 +431,7 @@ impl Receiving {
             return Some(Answer::Cancelled);
         }
         let a = receive.taken?;
-        if !self.receipts.is_whole(a.env.from, a.n) {
+        if !is_here(&self.grants, &self.receipts, &a) {
             return None;
         }
         let bytes = take_bytes(&mut self.joiner, &mut self.grants, &a);

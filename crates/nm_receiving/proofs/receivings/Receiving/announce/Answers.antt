@@ -27,6 +27,7 @@ use Rattle.nm_receiving.specs.Seen.{seen}
 use Rattle.nm_receiving.specs.Steps.{grants_with, rows_from, rows_with, streams_of}
 use Rattle.nm_receiving.proofs.Beginning.{stream_at}
 use Rattle.nm_receiving.proofs.Goings.{next_message}
+use Rattle.nm_receiving.proofs.Heres.{few_more}
 use Rattle.nm_receiving.proofs.Joinings.{stream_stepped}
 use Rattle.nm_receiving.proofs.Packets.{ask_finished, ask_grant-came, ask_grant-new, ask_is, ask_view, kept-ask}
 use Rattle.nm_receiving.proofs.Packets.{takes-ask}
@@ -73,6 +74,11 @@ skip-requires-clause-limit c =
     let sender = may.sender in
     let few = may.few in
     subst (λ (s : Stream). s.count < MAX_PACKETS) (stream_at c.self.inside.joiner p.from sender) few
+
+pub push-requires-clause-few : goal.push-requires-clause-few
+push-requires-clause-few c =
+    let may = subst (λ (w : ReceivingView). MayBeTakenIn w c.args.p.now) (sym c.self.view_is) c.requires.continues in
+    few_more (seen c.self.inside) c.self.invariant c.args.p.now may c.reserve.new.self.rows c.reserve.ensures.rows
 
 pub give-requires : goal.give-requires
 give-requires c =

@@ -22,6 +22,7 @@ use Rattle.nm_receiving.specs.Seen.{seen}
 use Rattle.nm_receiving.specs.Steps.{rows_from, streams_of}
 use Rattle.nm_receiving.proofs.Beginning.{stream_at}
 use Rattle.nm_receiving.proofs.Goings.{next_message}
+use Rattle.nm_receiving.proofs.Heres.{few_more}
 use Rattle.nm_receiving.proofs.Joinings.{room_same, stream_stepped}
 use Rattle.nm_receiving.proofs.Overs.{taken_ended}
 use Rattle.nm_receiving.proofs.Packets.{finished, head_is, head_view, kept-head, takes-head, taker_live}
@@ -68,6 +69,11 @@ add-requires-clause-limit c =
     subst (λ (s : Stream). s.count < MAX_PACKETS)
     (stream_at c.self.inside.joiner p.from sender
     ∙ sym (room_same c.self.inside.joiner c.reserve-2.new.self p.from c.reserve-2.ensures.same p.from)) few
+
+pub push-requires-clause-few : goal.push-requires-clause-few
+push-requires-clause-few c =
+    let may = subst (λ (w : ReceivingView). MayBeTakenIn w c.args.p.now) (sym c.self.view_is) c.requires.continues in
+    few_more (seen c.self.inside) c.self.invariant c.args.p.now may c.reserve.new.self.rows c.reserve.ensures.rows
 
 pub give-requires : goal.give-requires
 give-requires c =

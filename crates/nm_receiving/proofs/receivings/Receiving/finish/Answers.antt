@@ -1,7 +1,7 @@
 use Rattle.std.specs.Prelude.{IsSome, is_some}
 use Rattle.std.proofs.Common.{◌≡◌, ◌<◌, ℕ, Bool, true, false, not, if◌then◌else◌, Option, Some, None, List, length}
 use Rattle.std.proofs.Common.{cond}
-use Rattle.std.proofs.Common.{refl, sym, ◌∙◌, ap, subst}
+use Rattle.std.proofs.Common.{refl, sym, ◌∙◌, ap, subst, arith}
 use Rattle.std.specs.List.{slice_get}
 use Rattle.std.specs.Option.{option_map_or}
 use Rattle.std.proofs.Math.ListN.{set}
@@ -37,6 +37,8 @@ use Rattle.nm_receiving.proofs.Beginning.{stream_at}
 use Rattle.nm_receiving.proofs.Changing.{keeps-ended}
 use Rattle.nm_receiving.proofs.Finishing.{bytes-finished, bytes_there_now, ended_is, kept-ended}
 use Rattle.nm_receiving.proofs.Finishing.{kept-finished, received-finished, streams-finished, taken_from}
+use Rattle.nm_receiving.proofs.Heres.{asked_here}
+use Rattle.nm_receiving.proofs.Lists.{some_from}
 use Rattle.nm_receiving.proofs.Showing.{result_cancelled, result_taken, result_untaken, shown_is, shows_bytes}
 use Rattle.nm_receiving.proofs.Joinings.{stream_stepped}
 use Rattle.nm_receiving.proofs.receivings.Receiving.finish.Goals as goal
@@ -99,13 +101,30 @@ invariant_of-self c =
     (kept-ended v c.self.invariant c.args.number r here.0
     (cancelled_complete v c.self.invariant.history c.self.invariant.received c.args.number r here.0 c.if-receive.true))
 
-pub is_whole-requires : goal.is_whole-requires
-is_whole-requires c =
+pub is_here-requires-clause-sender : goal.is_here-requires-clause-sender
+is_here-requires-clause-sender c =
     let v : ReceivingView = seen c.self.inside in
     let r = c.unwrap-receive.result in
     let here = live_is v c.args.number c.live.result r c.live.ensures c.unwrap-receive.ensures in
-    let had = c.self.invariant.tables.taken c.args.number r c.in_ok-a.a here.0 c.in_ok-a.was in
-    ap (λ (o : Option Receipt). is_some o) had.1.0
+    let sender = taken_from v c.self.invariant c.args.number r here.0 c.in_ok-a.a c.in_ok-a.was in
+    let grants = c.self.invariant.tables.grants in
+    omega (arith, sender, grants)
+
+pub is_here-requires-clause-came : goal.is_here-requires-clause-came
+is_here-requires-clause-came c =
+    let v : ReceivingView = seen c.self.inside in
+    let r = c.unwrap-receive.result in
+    let a = c.in_ok-a.a in
+    let here = live_is v c.args.number c.live.result r c.live.ensures c.unwrap-receive.ensures in
+    let had = c.self.invariant.tables.taken c.args.number r a here.0 c.in_ok-a.was in
+    some_from (λ (q : Receipt). q.arrival ≡ a) (receipt_of v a.env.from a.n) had.0 had.1.0 had.1.1
+
+pub is_here-requires-clause-asked : goal.is_here-requires-clause-asked
+is_here-requires-clause-asked c =
+    let v : ReceivingView = seen c.self.inside in
+    let r = c.unwrap-receive.result in
+    let here = live_is v c.args.number c.live.result r c.live.ensures c.unwrap-receive.ensures in
+    asked_here v c.self.invariant c.args.number r here.0 here.1 c.in_ok-a.a c.in_ok-a.was
 
 pub take_bytes-bytes-requires-clause-here : goal.take_bytes-bytes-requires-clause-here
 take_bytes-bytes-requires-clause-here c =
@@ -113,10 +132,10 @@ take_bytes-bytes-requires-clause-here c =
     let r = c.unwrap-receive.result in
     let a = c.in_ok-a.a in
     let here = live_is v c.args.number c.live.result r c.live.ensures c.unwrap-receive.ensures in
-    let came = taken_came v c.self.invariant c.args.number r here.0 a c.in_ok-a.was c.is_whole.result c.is_whole.ensures
+    let came = taken_came v c.self.invariant c.args.number r here.0 a c.in_ok-a.was c.is_here.result c.is_here.ensures
     in
     let there = bytes_there_now v c.self.invariant c.args.number r here.0 here.1 a c.in_ok-a.was came.0 came.1
-    (came.2 ∙ c.if-not-is_whole.false) in
+    (came.2 ∙ c.if-not-is_here.false) in
     subst (λ (s : Stream). IsThere s (granted_to v a.env.from) a)
     (stream_at c.self.inside.joiner a.env.from
     (taken_from v c.self.invariant c.args.number r here.0 a c.in_ok-a.was))
@@ -151,11 +170,11 @@ module _ (c : goal.After-shown) where
   again : set v.receives number (has_ended r) ≡ rs
   again = ended_is v.receives number r here ∙ sym c.end-2.ensures
 
-  came : (q : Receipt) × (receipt_of v a.env.from a.n ≡ Some q) × (q.whole ≡ c.is_whole.result)
-  came = taken_came v c.self.invariant number r here a c.in_ok-a.was c.is_whole.result c.is_whole.ensures
+  came : (q : Receipt) × (receipt_of v a.env.from a.n ≡ Some q) × (q.whole ≡ c.is_here.result)
+  came = taken_came v c.self.invariant number r here a c.in_ok-a.was c.is_here.result c.is_here.ensures
 
   whole : came.0.whole ≡ true
-  whole = came.2 ∙ c.if-not-is_whole.false
+  whole = came.2 ∙ c.if-not-is_here.false
 
   sender : a.env.from < v.sizes.ranks
   sender = taken_from v c.self.invariant number r here a c.in_ok-a.was
@@ -283,19 +302,19 @@ returns-in_err-a c =
     (subst (λ (w : ReceivingView). FinishesReceive number None w w) c.self.view_is
     (gives_none v number (λ h here. sym (result_untaken v h here number r there.0 c.if-receive.false c.in_err-a.was))))
 
-pub returns-then-not-is_whole : goal.returns-then-not-is_whole
-returns-then-not-is_whole c =
+pub returns-then-not-is_here : goal.returns-then-not-is_here
+returns-then-not-is_here c =
     let v : ReceivingView = seen c.self.inside in
     let number = c.args.number in
     let r = c.unwrap-receive.result in
     let there = live_is v number c.live.result r c.live.ensures c.unwrap-receive.ensures in
-    let came = taken_came v c.self.invariant number r there.0 c.in_ok-a.a c.in_ok-a.was c.is_whole.result
-    c.is_whole.ensures in
+    let came = taken_came v c.self.invariant number r there.0 c.in_ok-a.a c.in_ok-a.was c.is_here.result
+    c.is_here.ensures in
     subst (λ (w : ReceivingView). FinishesReceive number None w w) c.self.view_is
     (gives_none v number (λ h here. sym (result_taken v h here number r there.0 c.if-receive.false
     c.in_ok-a.a c.in_ok-a.was came.0 came.1
     ∙ ap (λ (b : Bool). cond b (Some (shown (pair number r.cap c.in_ok-a.a))) None)
-    (came.2 ∙ c.if-not-is_whole.true))))
+    (came.2 ∙ c.if-not-is_here.true))))
 
 pub returns : goal.returns
 returns c =

@@ -1,13 +1,14 @@
-use Rattle.std.specs.Prelude.{IfSome, IsSome}
 use Rattle.std.proofs.Common.{◌||◌, ◌∙◌, Bool, false, sym, ap, subst}
 use Rattle.std.specs.List.{slice_get}
 use Rattle.std.specs.Option.{option_map_or}
 use Rattle.nm_kept.proofs.EntryLemmas.{kept_passes}
+use Rattle.nm_receiving.specs.Calls.{IsLiveOf}
 use Rattle.nm_receiving.specs.Receipts.{ReceivingView, receipt_of}
 use Rattle.nm_receiving.specs.Receives.{is_live}
 use Rattle.nm_receiving.specs.Received.{AreReceived}
 use Rattle.nm_receiving.specs.Seen.{seen}
-use Rattle.nm_receiving.proofs.Answering.{complete_some, gone_complete, taken_here}
+use Rattle.nm_receiving.proofs.Answering.{complete_some, gone_complete}
+use Rattle.nm_receiving.proofs.Lives.{not_ended}
 use Rattle.nm_receiving.proofs.Stood.{is_whole_at}
 use Rattle.nm_receiving.proofs.receivings.Receiving.is_complete.Goals as goal
 
@@ -16,8 +17,8 @@ has_message-requires c =
     let r = c.in-Some.receive in
     let v = seen c.self.inside in
     let here = kept_passes is_live (slice_get v.receives c.args.number) r (sym c.live.ensures ∙ c.in-Some.is) in
-    subst (λ (v : ReceivingView). IfSome r.taken (λ a. IsSome (receipt_of v a.env.from a.n))) c.self.view_is
-    (taken_here v c.self.invariant c.args.number r here.0)
+    subst (λ (w : ReceivingView). IsLiveOf w r) c.self.view_is
+    (record { number = c.args.number; here = here.0; live = not_ended r.ended here.1 })
 
 pub returns-then-receive : goal.returns-then-receive
 returns-then-receive c = λ h received.

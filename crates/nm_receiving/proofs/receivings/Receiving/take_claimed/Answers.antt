@@ -4,7 +4,7 @@ use Rattle.nm_types.specs.declared.messages.Arrival.{Arrival}
 use Rattle.nm_history.specs.declared.events.Happened.{Happened}
 use Rattle.nm_history.specs.declared.events.Happened.TheVariants as event
 use Rattle.nm_match.specs.declared.deeds.Deed.TheVariants as deed
-use Rattle.nm_match.proofs.StandsLemmas.{is_claimed-stands}
+use Rattle.nm_match.proofs.StandsLemmas.{is_claimed-stands, message_of-stands}
 use Rattle.nm_receiving.specs.declared.receipts.Receive.{Receive}
 use Rattle.nm_receiving.specs.declared.receivings.Started.{Started}
 use Rattle.nm_receiving.specs.Calls.{StartsOne}
@@ -16,7 +16,7 @@ use Rattle.nm_receiving.specs.Steps.{grants_with}
 use Rattle.nm_receiving.proofs.CameLemmas.{same-granted}
 use Rattle.nm_receiving.proofs.Goings.{next_receive}
 use Rattle.nm_receiving.proofs.Keeping.{keeps-begun}
-use Rattle.nm_receiving.proofs.Starting.{begun_same, claimed_message, claimed_receipt, is_begin_match, kept-begun}
+use Rattle.nm_receiving.proofs.Starting.{begun_same, is_begin_match, kept-begun}
 use Rattle.nm_receiving.proofs.Starting.{match_takeable, may_begin_with}
 use Rattle.nm_receiving.proofs.Starting.{may_grant-came, may_grant-new, may_grant-sender, taken_sender}
 use Rattle.nm_receiving.proofs.receivings.Receiving.take_claimed.Goals as goal
@@ -29,9 +29,8 @@ prove-unreachable-requires c =
     c.args.from c.args.n
     ∙ sym c.is_claimed.ensures.value ∙ c.if-prove.true)
 
-pub get-requires : goal.get-requires
-get-requires c = claimed_receipt (seen c.self.inside) c.self.invariant c.args.from c.args.n
-    (c.is_claimed.ensures.came c.if-prove.false)
+pub claimed-arrival-requires : goal.claimed-arrival-requires
+claimed-arrival-requires c = sym c.is_claimed.ensures.value ∙ c.if-prove.false
 
 pub take_claimed-requires-clause-is_new : goal.take_claimed-requires-clause-is_new
 take_claimed-requires-clause-is_new c =
@@ -43,8 +42,8 @@ take_claimed-requires-clause-is_new c =
 pub reserve_for-requires : goal.reserve_for-requires
 reserve_for-requires c =
     let v = seen c.self.inside in
-    let taken : Option Arrival = Some c.get.result.arrival in
-    let there = claimed_message v c.self.invariant c.args.from c.args.n c.get.result c.get.ensures in
+    let taken : Option Arrival = Some c.claimed-arrival.result in
+    let there = c.claimed-arrival.ensures in
     may_grant-sender v c.self.invariant taken
     (match_takeable v c.self.invariant c.args.from c.args.n taken (sym c.is_claimed.ensures.value ∙ c.if-prove.false)
     there)
@@ -53,8 +52,8 @@ reserve_for-requires c =
 pub grant_taken-requires-clause-sender : goal.grant_taken-requires-clause-sender
 grant_taken-requires-clause-sender c =
     let v = seen c.self.inside in
-    let taken : Option Arrival = Some c.get.result.arrival in
-    let there = claimed_message v c.self.invariant c.args.from c.args.n c.get.result c.get.ensures in
+    let taken : Option Arrival = Some c.claimed-arrival.result in
+    let there = c.claimed-arrival.ensures in
     may_grant-sender v c.self.invariant taken
     (match_takeable v c.self.invariant c.args.from c.args.n taken (sym c.is_claimed.ensures.value ∙ c.if-prove.false)
     there)
@@ -63,8 +62,8 @@ grant_taken-requires-clause-sender c =
 pub grant_taken-requires-clause-new : goal.grant_taken-requires-clause-new
 grant_taken-requires-clause-new c =
     let v = seen c.self.inside in
-    let taken : Option Arrival = Some c.get.result.arrival in
-    let there = claimed_message v c.self.invariant c.args.from c.args.n c.get.result c.get.ensures in
+    let taken : Option Arrival = Some c.claimed-arrival.result in
+    let there = c.claimed-arrival.ensures in
     may_grant-new v c.self.invariant taken
     (match_takeable v c.self.invariant c.args.from c.args.n taken (sym c.is_claimed.ensures.value ∙ c.if-prove.false)
     there)
@@ -73,8 +72,8 @@ grant_taken-requires-clause-new c =
 pub grant_taken-requires-clause-came : goal.grant_taken-requires-clause-came
 grant_taken-requires-clause-came c =
     let v = seen c.self.inside in
-    let taken : Option Arrival = Some c.get.result.arrival in
-    let there = claimed_message v c.self.invariant c.args.from c.args.n c.get.result c.get.ensures in
+    let taken : Option Arrival = Some c.claimed-arrival.result in
+    let there = c.claimed-arrival.ensures in
     may_grant-came v c.self.invariant taken
     (match_takeable v c.self.invariant c.args.from c.args.n taken (sym c.is_claimed.ensures.value ∙ c.if-prove.false)
     there)
@@ -84,11 +83,11 @@ invariant_of-self-2 c =
     let v = seen c.self.inside in
     let a = c.self.inside in
     let number = c.count-number.result in
-    let taken : Option Arrival = Some c.get.result.arrival in
+    let taken : Option Arrival = Some c.claimed-arrival.result in
     let next : number ≡ length a.receives.items =
     c.count-number.ensures ∙ ap (λ (rs : List Receive). length rs) c.reserve.ensures.items in
     let claimed = sym c.is_claimed.ensures.value ∙ c.if-prove.false in
-    let there = claimed_message v c.self.invariant c.args.from c.args.n c.get.result c.get.ensures in
+    let there = c.claimed-arrival.ensures in
     let same = begun_same v (deed.Match number c.args.from c.args.n) c.args.cap taken c.take_claimed.new.self
     c.grant_taken.new.grants.grants
     c.grant_taken.new.receipts.rows c.push.new.self.items c.in_ok-take_claimed.ensures.ok
@@ -103,18 +102,23 @@ invariant_of-self-2 c =
     taken (is_begin_match v number c.args.from c.args.n c.args.cap 0 taken next claimed there)
     (match_takeable v c.self.invariant c.args.from c.args.n taken claimed there))
 
+pub returns-clause-taken : goal.returns-clause-taken
+returns-clause-taken c = λ h received.
+    let here = subst (λ (v : ReceivingView). AreReceived v h) (sym c.self.view_is) received in
+    sym (message_of-stands c.self.inside.matcher h here.stands c.args.from c.args.n ∙ c.claimed-arrival.ensures)
+
 pub returns-clause-started : goal.returns-clause-started
 returns-clause-started c =
     let v = seen c.self.inside in
     let a = c.self.inside in
     let number = c.count-number.result in
-    let taken : Option Arrival = Some c.get.result.arrival in
+    let taken : Option Arrival = Some c.claimed-arrival.result in
     let s : Started = record { number = number; taken = taken } in
     let begins : ℕ → Happened = event.Match number c.args.from c.args.n c.args.cap in
     let next : number ≡ length a.receives.items =
     c.count-number.ensures ∙ ap (λ (rs : List Receive). length rs) c.reserve.ensures.items in
     let claimed = sym c.is_claimed.ensures.value ∙ c.if-prove.false in
-    let there = claimed_message v c.self.invariant c.args.from c.args.n c.get.result c.get.ensures in
+    let there = c.claimed-arrival.ensures in
     let grants = c.grant_taken.ensures.grants ∙ ap (λ gs. grants_with gs taken) c.reserve_for.ensures.same in
     let receives = c.push.ensures
     ∙ ap (λ (rs : List Receive). rs ++ c.new.result ∷ []) c.reserve.ensures.items

@@ -1,8 +1,10 @@
-use Rattle.std.proofs.Common.{arith}
-use Rattle.nm_receiving.proofs.RowLemmas.{length-messages}
+use Rattle.std.proofs.Common.{Bool, List, ap, length, ◌∙◌}
+use Rattle.std.proofs.lemmas.List.{length-map}
+use Rattle.nm_receiving.specs.Rows.{is_settled, messages_of}
 use Rattle.nm_receiving.proofs.rows.Row.count.Goals as goal
 
 pub returns : goal.returns
 returns c =
-    let as_many = length-messages 0 c.self.inside.envelopes.items c.self.inside.whole.items c.self.invariant in
-    rw (← c.self.view_is) (omega (arith, c.len.ensures, as_many, c.self.inside.envelopes.ok.0))
+    rw (← c.self.view_is)
+    (c.len.ensures ∙ ap (λ (bs : List Bool). length bs) c.self.invariant.each
+    ∙ length-map (messages_of c.self.inside.marks.items) is_settled)
