@@ -20,16 +20,13 @@ fn new_tallies(alloc: Global, ranks: u64) -> Result<Vec<Tally>, Memory>
     requires { ranks ≤ 64 }
     ensures { IfOk result (λ v. v.items ≡ replicate ranks (tally new_lane)) }
 {
-    let mut tallies = Vec::new(alloc);
-    for _rank in 0..ranks {
-        tallies.push(Tally {
-            pushed: 0,
-            pulled: 0,
-            full: 0,
-            empty: 0,
-        })?;
-    }
-    Ok(tallies)
+    let none = Tally {
+        pushed: 0,
+        pulled: 0,
+        full: 0,
+        empty: 0,
+    };
+    Ok(vec![in alloc; none; ranks as usize]?)
 }
 
 // The port of the lowest rank that `rest` speaks for.
@@ -54,11 +51,8 @@ fn empty_flags(alloc: Global, ranks: u64) -> Result<Vec<u64>, Memory>
     requires { ranks ≤ 64 }
     ensures { IfOk result (λ v. v.items ≡ replicate (4 * (ranks * ranks)) 0) }
 {
-    let mut flags = Vec::new(alloc);
-    for _place in 0..4 * (ranks * ranks) {
-        flags.push(0)?;
-    }
-    Ok(flags)
+    let places = 4 * (ranks * ranks);
+    Ok(vec![in alloc; 0; places as usize]?)
 }
 
 // So many slots, all empty.

@@ -20,7 +20,6 @@ pub struct Rings {
 
 /// The token of one rank. It has a seat of the rings' table, and counts for its program what the seat
 /// knows.
-#[derive(Drop)]
 pub struct RingPort {
     pub(crate) seat: Place,
     pub(crate) rank: u8,
@@ -30,6 +29,16 @@ pub struct RingPort {
     pub ghost wide: { length (mine seat.me).lanes ≡ (mine seat.me).ranks },
     pub ghost named: { (mine seat.me).rank ≡ rank },
     pub ghost counts: { Counts (mine seat.me) tallies.items },
+}
+
+impl Drop for RingPort {
+    fn drop(self) {
+        let RingPort {
+            seat: _,
+            rank: _,
+            tallies: _,
+        } = self;
+    }
 }
 
 impl RingPort {
