@@ -10,7 +10,7 @@
 //! # What is proved
 //! - What a crew tells of its items, all crews tell of all items (`turns_by`: `told`).
 //! # What is only tested
-//! That two crews are at work at the same time (`nm_rows::cli`), and that none sleeps for good (`.ci/small`).
+//! That two crews are at work at the same time (`nm_rows::at_once`), and that none sleeps for good (`.ci/small`).
 //! Why none does stands in `bells`.
 #![tactic(auto)]
 

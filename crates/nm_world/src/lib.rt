@@ -24,7 +24,7 @@
 //!   it was (`stopped`, `goes_on` of both).
 //! # What is only tested
 //! That a probe sees the packet that arrived last (`nm_rows::world`), that two ranks are at work at the same
-//! time (`nm_rows::cli`), and that no crew sleeps for good (`.ci/small`). `bells` says why.
+//! time (`nm_rows::at_once`), and that no crew sleeps for good (`.ci/small`). `bells` says why.
 #![tactic(auto)]
 
 mod actors;
