@@ -9,7 +9,7 @@
  *
  * The first two hold until the round ends. A sleep that returns for no reason only looks again, and is left out. A rank
  * sends and takes by a box for each other rank, with room for one item. Which items there are is free: a rank may have one
- * for any other in its first turn and in each turn in which it took one, up to a number for the run. */
+ * for any other in its first turn and wherever it took one, up to a number for the run. */
 #include <stdint.h>
 #include <stdio.h>
 #include <stdlib.h>
@@ -18,6 +18,8 @@
 /* Where a crew is: the step that it makes next, and the line that this is. */
 #define STEPS(STEP) \
     STEP(BEGIN, "begin", "self.begun.fetch_add(1, Ordering::SeqCst);") \
+    STEP(POLL, "take_soon", "let took = self.take_next(f, steps)?;") \
+    STEP(REPLY, "reply", "self.run_all(f, steps)?;") \
     STEP(SEND, "move_all", "let sent = self.actor.send_all(f, steps)?;") \
     STEP(REFUSE, "visit", "Err(Memory) => {") \
     STEP(RING_LOAD, "ring_at", "let seen = crew.bell.load(Ordering::SeqCst);") \
@@ -29,7 +31,7 @@
     STEP(TAKE, "move_all", "let took = self.actor.take_all(f, steps)?;") \
     STEP(RUN, "move_all", "let ran = self.run_all(f, steps)?;") \
     STEP(LIMIT, "turns_of", "for made in 1..turns {") \
-    STEP(STILL, "still_rung", "let rung = self.bell.load(Ordering::SeqCst);") \
+    STEP(HEAR, "hear", "let places = self.bell.load(Ordering::SeqCst);") \
     STEP(LOAD, "answer", "if self.bell.load(Ordering::SeqCst) == 0 {") \
     STEP(SWAP, "answer", "self.bell.swap(0, Ordering::SeqCst)") \
     STEP(LOOK, "look", "if self.bell.load(Ordering::SeqCst) != 0 {") \
@@ -173,13 +175,29 @@ static void take(Crew *x)
 
 static void sent(State *s, Crew *x) { if (s->refusals) x->at = REFUSE; else tell(s, x); }
 
+static void send(State *s, Crew *x) { if (s->out[lowest(x->todo)]) x->at = SEND; else sent(s, x); }
+
+/* Looks for an item of the next rank, before a turn in which there is nothing to send; `take_soon` does so many times. */
+static void poll(State *s, Crew *x)
+{
+    if (x->k == lowest(x->todo)) x->k++;
+    if (x->k < ranks) x->at = POLL; else send(s, x);
+}
+
+/* Asks what was rung: a crew of one rank may keep it (`hear`). */
+static void hear(const State *s, Crew *x, int when) { answer(x, when); if (has_one(x - s->crew)) x->at = HEAR; }
+
 /* Asks which ranks may have something to do (`next`). */
-static void next(const State *s, Crew *x) { if (has_one(x - s->crew)) x->at = STILL; else answer(x, BEFORE); }
+static void next(const State *s, Crew *x) { hear(s, x, BEFORE); }
 
 /* The turn of the next rank of a sweep. */
 static void turn(State *s, Crew *x)
 {
-    if (x->todo) { if (s->out[lowest(x->todo)]) x->at = SEND; else sent(s, x); return; }
+    if (x->todo) {
+        x->k = 0;
+        if (has_one(x - s->crew) && !(x->knows & FIRST) && !s->out[lowest(x->todo)]) poll(s, x); else send(s, x);
+        return;
+    }
     x->knows &= ~FIRST;
     if (s->limits) x->at = LIMIT; else next(s, x);
 }
@@ -199,13 +217,23 @@ static int step(State *s, int c, int way)
 {
     Crew *x = &s->crew[c], *y = &s->crew[x->k < crews ? x->k : 0];
     int r = x->todo ? lowest(x->todo) : 0, places = s->calls[r] & ranks_of(x->k), bell = y->bell;
-    if (way && x->at != REFUSE && x->at != RUN && x->at != LIMIT && x->at != STILL && x->at != SEE_NAP) return 0;
+    if (way && x->at != REFUSE && x->at != REPLY && x->at != RUN && x->at != LIMIT && x->at != HEAR && x->at != SEE_NAP) return 0;
     switch (x->at) {
     case BEGIN:
         for (int d = 0; d < crews; d++)
             if (before[c] >> d & 1 && s->crew[d].at != DONE) return 0;
         s->begun++, x->knows = FIRST, x->todo = ranks_of(c);
         turn(s, x);
+        return 1;
+    case POLL:
+        if (!(s->box[x->k] >> r & 1)) { x->k++, poll(s, x); return 1; }
+        s->box[x->k] &= ~(1 << r), s->calls[r] |= 1 << x->k, x->knows |= MOVED, x->at = REPLY;
+        return 1;
+    case REPLY:
+        if (way > ranks) return 0;
+        if (way && (way - 1 == r || !s->items)) return -1;
+        if (way) s->out[r] = way, s->items--;
+        send(s, x);
         return 1;
     case SEND:
         if (can_send(s, r)) {
@@ -258,12 +286,12 @@ static int step(State *s, int c, int way)
     case LIMIT:
         if (way) s->limits--, x->then = THEN_DONE, x->at = LEAVE; else next(s, x);
         return way < 2;
-    case STILL: /* or this turn is one that takes what was rung */
-        if (way && x->bell && !(x->bell & (OVER | SLEEPS))) answered(s, x, ranks_of(c), x->bell); else answer(x, BEFORE);
+    case HEAR: /* or it is not kept this time */
+        if (way && !(x->bell & (OVER | SLEEPS))) answered(s, x, ranks_of(c), x->bell); else answer(x, x->when);
         return way < 2;
     case LOAD: if (x->bell) x->at = SWAP; else answered(s, x, ranks_of(c), 0); return 1;
     case SWAP: bell = x->bell, x->bell = 0; answered(s, x, ranks_of(c), bell); return 1;
-    case LOOK: if (x->bell) answer(x, LOOKED); else x->at = SLEEP; return 1; /* `look` and `ready` do so many times */
+    case LOOK: if (x->bell) hear(s, x, LOOKED); else x->at = SLEEP; return 1; /* `look` and `ready` do so many times */
     case SLEEP:
         if (x->bell && mistake != SLEEPS_UNSEEN) answer(x, AFTER);
         else x->bell = SLEEPS, x->then = THEN_SLEEP, x->at = LEAVE;
@@ -305,9 +333,9 @@ static void clear(Crew *x)
 {
     int rings = x->at >= RING_LOAD && x->at <= RING_SUB, ends = x->at == END_SET || x->at == END_WAKE;
     if (x->at != RING_SET && x->at != GIVE_SET && x->at != GIVE_HAD) x->seen = 0;
-    if (!rings && !ends && x->at != TAKE) x->k = 0;
+    if (!rings && !ends && x->at != POLL && x->at != TAKE) x->k = 0;
     if (!ends && x->at != LEAVE) x->then = 0;
-    if (x->at != LOAD && x->at != SWAP) x->when = 0;
+    if (x->at != HEAR && x->at != LOAD && x->at != SWAP) x->when = 0;
     if (x->at < LATE_BELL) x->knows &= ~LATE;
 }
 
@@ -334,7 +362,7 @@ static int each(uint32_t n, int (*see)(const Entry *, uint32_t, int))
     int only = crews;
     for (int c = 0; c < crews; c++) {
         int at = all[n].state.crew[c].at;
-        if (at == REFUSE || at == RUN || at == LIMIT) only = c;
+        if (at == REFUSE || at == REPLY || at == RUN || at == LIMIT) only = c;
     }
     for (int c = 0; c < crews; c++)
         for (int way = 0, is = only == crews || only == c; is; way++) {

@@ -35,9 +35,10 @@
 //! A crew that has left is not woken, and what is rung for it is lost. It need not be: each actor makes a
 //! turn at the start of the next round.
 //!
-//! A crew of one rank may leave what was rung as it is, and make a turn: who rings again finds it so, and
-//! writes nothing. The crew has yet to take it, since it sleeps from 0 alone. And who took something may
-//! ring for that in its next turn: it moved something, so it makes one, in the next round if not in this.
+//! A crew may keep what was rung as it is, and make a turn of each rank that it was rung for: who rings again
+//! finds it so, and writes nothing. The crew has yet to take it, since it sleeps from 0 alone. And who took
+//! something may ring for that in its next turn: it moved something, so it makes one, in the next round if not
+//! in this.
 //!
 //! # Where other work has the processors
 //!
@@ -65,9 +66,6 @@ const PLACES: u64 = 0xFFFF_FFFF;
 // How often a crew looks at its bell before it sleeps.
 const LOOKS: u32 = 10000;
 
-// A crew of one rank takes what was rung in one of so many turns.
-const TAKEN: u32 = 256;
-
 // How many milliseconds a crew with nothing to do waits for others to begin.
 const NAPS: u32 = 50;
 
@@ -76,6 +74,27 @@ const NAP: u64 = 1;
 
 // How many turns are made in one crew before all are tried again.
 const ALONE: u32 = 2000;
+
+/// What becomes of what was rung.
+#[derive(Clone, Copy)]
+pub enum Rung {
+    /// It stays so: who rings again finds it so, and writes nothing.
+    Kept,
+    /// It stays so while the crew is at work, and is taken by a crew that waited for it.
+    KeptAtWork,
+    /// It is rung no more.
+    Taken,
+}
+
+impl Rung {
+    // What becomes of it where the crew waited for it.
+    fn awaited(self) -> Rung {
+        match self {
+            Rung::Kept => Rung::Kept,
+            Rung::KeptAtWork | Rung::Taken => Rung::Taken,
+        }
+    }
+}
 
 #[derive(Drop)]
 struct Crew {
@@ -99,36 +118,36 @@ impl Crew {
         self.bell.swap(0, Ordering::SeqCst)
     }
 
-    // What was rung, which stays so, if the crew has one rank and its turns go on.
-    fn still_rung(&self) -> Option<u64> {
-        if self.ranks.count_ones() != 1 {
-            return None;
+    // What was rung, which stays so where it is kept and turns go on.
+    fn hear(&self, keeps: Rung) -> u64 {
+        if let Rung::Taken = keeps {
+            return self.answer();
         }
-        let rung = self.bell.load(Ordering::SeqCst);
-        if rung == 0 || rung & (OVER | SLEEPS) != 0 {
-            return None;
+        let places = self.bell.load(Ordering::SeqCst);
+        if places & (OVER | SLEEPS) != 0 {
+            return self.answer();
         }
-        Some(rung)
+        places
     }
 
     // Looks at the bell for a while. It answers what was rung.
-    fn look(&self) -> u64 {
+    fn look(&self, keeps: Rung) -> u64 {
         for _ in 0..LOOKS {
             if self.bell.load(Ordering::SeqCst) != 0 {
-                return self.answer();
+                return self.hear(keeps);
             }
         }
         0
     }
 
     // Readies memory for what comes, until something is rung. It answers what was rung.
-    fn ready(&self, alloc: Global) -> u64 {
+    fn ready(&self, alloc: Global, keeps: Rung) -> u64 {
         let Ok(mut block) = pages_ahead(alloc) else {
             return 0;
         };
         for page in 0..PAGES {
             if self.bell.load(Ordering::SeqCst) != 0 {
-                return self.answer();
+                return self.hear(keeps);
             }
             write_up_to(&mut block, page);
         }
@@ -327,22 +346,17 @@ impl Bells {
         }
     }
 
-    /// Which places of a crew that made so many turns may have something to do: these, and what was rung.
-    /// Where there is none it waits until there is: it looks for a while, readies memory, and then sleeps.
-    /// `None` ends its turns.
-    pub fn next<R: Wait>(&self, rt: &R, crew: usize, due: u64, made: u32) -> Option<u64> {
+    /// Which places of a crew may have something to do: these, and what was rung. Where there is none it waits
+    /// until there is: it looks for a while, readies memory, and then sleeps. `None` ends its turns.
+    pub fn next<R: Wait>(&self, rt: &R, crew: usize, due: u64, keeps: Rung) -> Option<u64> {
         let crew = self.crews.get(crew)?;
-        if made % TAKEN != 0 {
-            if let Some(rung) = crew.still_rung() {
-                return Some((due | rung) & PLACES);
-            }
-        }
-        let mut rung = crew.answer();
+        let mut rung = crew.hear(keeps);
+        let awaited = keeps.awaited();
         if due | rung == 0 {
-            rung = crew.look();
+            rung = crew.look(awaited);
         }
         if due | rung == 0 {
-            rung = crew.ready(self.alloc);
+            rung = crew.ready(self.alloc, awaited);
         }
         if due | rung == 0 {
             if !self.sleep(rt, crew) {

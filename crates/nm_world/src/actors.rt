@@ -37,10 +37,11 @@ const PULLS: u32 = 4;
 /// A process with its ports, and places for what comes and goes. What records its history is a parameter.
 #[derive(Drop)]
 pub struct Actor<H: Recorder = History> {
+    // in front, since it keeps apart
+    pub(crate) places: Places,
     pub process: Process<H>,
     pub port: Port<Packet>,
     pub ring: RingPort,
-    pub(crate) places: Places,
 }
 
 impl<H: Recorder> Actor<H> {
@@ -331,6 +332,27 @@ impl<H: Recorder> Actor<H> {
             }
         }
         Ok(true)
+    }
+
+    // Polls up to so often, until a packet is taken. It answers whether one was.
+    pub(crate) fn take_soon<L: Ledger>(
+        &mut self,
+        f: &Fabric<Packet>,
+        polls: u32,
+        steps: &mut Steps<L>,
+    ) -> Result<bool, Memory>
+        ghost here: { Environment }
+        requires ports { HasPorts f.now here.rings self.old }
+        ensures moves { IfOk result (λ moved.
+            Moves (record here { fabric = f.now }) moved self.old self.new) }
+    {
+        for _poll in 0..polls {
+            let took = self.take_next(f, steps)?;
+            if took {
+                return Ok(true);
+            }
+        }
+        Ok(false)
     }
 
     // Pushes up to so many pieces. It answers whether any was pushed.

@@ -34,6 +34,7 @@ mod places;
 mod players;
 mod records;
 mod rounds;
+mod waiting;
 mod whole;
 
 pub use actors::Actor;

@@ -19,9 +19,9 @@ ghost use Rattle.nm_world.specs.Rest.{CanMove, IsStill};
 
 use crate::Actor;
 use crate::actors::TURN;
+use crate::places::{Listens, Silence};
 use nm_chain::seats::Steps;
 use nm_copyring::{RingPort, Rings};
-use nm_crews::bells::Bells;
 use nm_global::standing::laws::runs::a_command_runs;
 use nm_history::History;
 use nm_outside::Gate;
@@ -142,7 +142,7 @@ impl<S: Source, H: Recorder> Player<S, H> {
     }
 
     // Runs up to so many commands. It answers whether any ran, or anything was taken before one.
-    fn run_all<L: Ledger>(
+    pub(crate) fn run_all<L: Ledger>(
         &mut self,
         f: &Fabric<Packet>,
         steps: &mut Steps<L>,
@@ -215,7 +215,7 @@ impl<S: Source, H: Recorder> Player<S, H> {
     /// of pieces up to 4 of each rank. It answers whether anything was sent, taken or run.
     ///
     /// Before each test, probe, await and matched probe (MPI 3.1, 3.7.3 and 3.8) it polls once. It
-    /// moves nothing only where the rank is worn or nothing could move.
+    /// moves nothing only where the rank is worn or nothing could move. It rings no bell.
     ///
     /// It takes at most 140 word steps for each rank, and 2,048: 64 sends of 9 and 64 pushes of 3, the
     /// look beforehand among them, 64 polls and one before each of 64 commands, each of as many as there
@@ -241,17 +241,17 @@ impl<S: Source, H: Recorder> Player<S, H> {
         ensures bound { steps.new ≤ steps.old + (140 * f.now.ranks + 2048) }
     {
         gate.turn(self.actor.process.me());
-        self.move_all(f, r, None, steps)
+        self.move_all(f, r, &Silence, steps)
     }
 
     /// What a turn sends, pushes, takes, pulls and runs. It answers whether that is anything. Bells ring
     /// once, for the ranks that something was sent or pushed to, or was taken or pulled from in the turn
     /// before.
-    pub(crate) fn move_all<L: Ledger>(
+    pub(crate) fn move_all<B: Listens, L: Ledger>(
         &mut self,
         f: &Fabric<Packet>,
         r: &Rings,
-        bells: Option<&Bells>,
+        bells: &B,
         steps: &mut Steps<L>,
     ) -> Result<bool, Memory>
         ghost here: { Environment }

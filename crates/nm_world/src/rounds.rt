@@ -11,7 +11,7 @@ ghost use Rattle.nm_world.specs.Sweeps.{HasSwept, Swept};
 use crate::Player;
 use nm_chain::seats::Steps;
 use nm_copyring::Rings;
-use nm_crews::bells::{Bells, Crews, Ranked, place_of};
+use nm_crews::bells::{Bells, Crews, Ranked, Rung, place_of};
 use nm_crews::blocks::ask_for_crew;
 use nm_crews::{Work, turns_by};
 use nm_outside::Gate;
@@ -24,8 +24,28 @@ use std::sync::Wait;
 use std::sync::ledger::{Blank, Ledger};
 use std::thread::{Threads, available_parallelism};
 
-// A turn of a player, if its place is due or all make one. It answers whether that moved anything, and
-// which places of its crew are due then.
+// How often a player with nothing to do polls before its turn.
+const POLLS: u32 = 16;
+
+// A crew that waits takes what was rung in one of so many turns.
+const AWAITED: u32 = 64;
+
+// And one with a stream of packets.
+const STREAMED: u32 = 256;
+
+// How a crew meets what is rung for it.
+#[derive(Clone, Copy)]
+enum Pace {
+    // it has one player, with few calls under way, so that each packet is awaited
+    Waits,
+    // it has one player, with many calls under way: one ring brings what many of them wait for
+    Streams,
+    // it has several players
+    Shares,
+}
+
+// A turn of a player, if its place is due or all make one: first so many polls, where it has nothing else to
+// do. It answers whether that moved anything, and which places of its crew are due then.
 fn visit<S: Source, H: Recorder, G: Gate, L: Ledger>(
     player: &mut Player<S, H>,
     all: bool,
@@ -34,6 +54,7 @@ fn visit<S: Source, H: Recorder, G: Gate, L: Ledger>(
     r: &Rings,
     gate: &G,
     bells: &Bells,
+    polls: u32,
     steps: &mut Steps<L>,
 ) -> Result<(bool, u64), Memory>
     requires stands { PlayerInvariant S.shows S.gives f.now r.now player.old }
@@ -49,7 +70,7 @@ fn visit<S: Source, H: Recorder, G: Gate, L: Ledger>(
         return Ok((false, 0));
     }
     gate.turn(player.actor.process.me());
-    let moved = match player.move_all(f, r, Some(bells), steps) {
+    let moved = match player.reply_and_move(f, r, bells, polls, steps) {
         Ok(moved) => moved,
         Err(Memory) => {
             bells.end();
@@ -72,6 +93,7 @@ fn sweep_on<S: Source, H: Recorder, G: Gate, L: Ledger>(
     r: &Rings,
     gate: &G,
     bells: &Bells,
+    polls: u32,
     blank: Blank,
 ) -> Result<(bool, u64), Memory>
     requires stands { All (PlayerInvariant S.shows S.gives f.now r.now) players.old }
@@ -83,7 +105,7 @@ fn sweep_on<S: Source, H: Recorder, G: Gate, L: Ledger>(
     let mut moved = false;
     let mut next = 0;
     for player in players.iter_mut() {
-        let (one, then) = visit(player, all, due, f, r, gate, bells, &mut steps)?;
+        let (one, then) = visit(player, all, due, f, r, gate, bells, polls, &mut steps)?;
         moved = moved | one;
         next = next | then;
     }
@@ -100,12 +122,44 @@ fn sweep<S: Source, H: Recorder, G: Gate>(
     r: &Rings,
     gate: &G,
     bells: &Bells,
+    polls: u32,
 ) -> Result<(bool, u64), Memory>
     requires stands { All (PlayerInvariant S.shows S.gives f.now r.now) players.old }
     ensures swept { IfOk result (λ x.
         Swept f.now.ranks S.shows S.gives f.now r.now all x.0 players.old players.new) }
 {
-    sweep_on::<S, H, G, Brand>(players, all, due, f, r, gate, bells, Blank::new(1))
+    sweep_on::<S, H, G, Brand>(players, all, due, f, r, gate, bells, polls, Blank::new(1))
+}
+
+// How these players meet what is rung.
+fn pace_of<S: Source, H: Recorder>(players: &[Player<S, H>]) -> Pace {
+    if players.len() != 1 {
+        return Pace::Shares;
+    }
+    match players.first() {
+        Some(one) if one.actor.places.is_stream() => Pace::Streams,
+        Some(_) => Pace::Waits,
+        None => Pace::Shares,
+    }
+}
+
+// What becomes of what is rung for a crew that made so many turns.
+fn rung_after(made: u32, pace: Pace) -> Rung {
+    match pace {
+        Pace::Waits if made % AWAITED != 0 => Rung::Kept,
+        Pace::Streams if made % STREAMED != 0 => Rung::KeptAtWork,
+        _ => Rung::Taken,
+    }
+}
+
+// How often the player of a crew polls before its turn, with these places due: once after a turn that moved
+// something, and else for a while.
+fn polls_before(pace: Pace, due: u64) -> u32 {
+    match pace {
+        Pace::Waits if due == 0 => POLLS,
+        Pace::Waits => 1,
+        Pace::Streams | Pace::Shares => 0,
+    }
 }
 
 // Turns of the players of a crew, of each at least one and at most so many, until no player of the round
@@ -128,12 +182,14 @@ fn turns_of<R: Wait, S: Source, H: Recorder, G: Gate>(
     if let Some(one) = players.first() {
         ask_for_crew(one.actor.places.allocator());
     }
-    let (mut moved, mut next) = sweep(players, true, 0, f, r, gate, bells)?;
+    let (mut moved, mut next) = sweep(players, true, 0, f, r, gate, bells, 0)?;
     for made in 1..turns {
-        let Some(due) = bells.next(rt, crew, next, made) else {
+        let pace = pace_of(players);
+        let Some(due) = bells.next(rt, crew, next, rung_after(made, pace)) else {
             return Ok(moved);
         };
-        let (one, then) = sweep(players, false, due, f, r, gate, bells)?;
+        let polls = polls_before(pace, next);
+        let (one, then) = sweep(players, false, due, f, r, gate, bells, polls)?;
         moved = moved | one;
         next = then;
     }

@@ -1,5 +1,5 @@
 -- One player.
-use Rattle.std.proofs.Common.{◌∷◌, ◌++◌, [], List, ap, ◌∙◌, sym, subst}
+use Rattle.std.proofs.Common.{◌∷◌, ◌++◌, [], List, length, length-append, ap, ◌∙◌, sym, subst}
 use Rattle.std.specs.List.{AllZip}
 use Rattle.std.proofs.lemmas.List.{map-append}
 use Rattle.nm_history.specs.Quiescence.{Ended}
@@ -37,3 +37,19 @@ returns-clause-done g c before =
     done_next g.H.Recorder.events c.args.parts.now.ranks.items c.add-5.new.list.items c.account-account.result.0
     c.args.parts.now.done
     c.is_none.result before c.in_ok-add-5.ensures c.is_none.ensures
+
+pub returns-clause-ports : goal.returns-clause-ports
+returns-clause-ports g c = c.in_ok-add-2.ensures
+
+pub returns-clause-rings : goal.returns-clause-rings
+returns-clause-rings g c = c.in_ok-add-3.ensures
+
+pub returns-clause-sources : goal.returns-clause-sources
+returns-clause-sources g c = c.in_ok-add-4.ensures
+
+pub returns-clause-many : goal.returns-clause-many
+returns-clause-many g c =
+    ap length c.in_ok-add-5.ensures ∙ length-append c.args.parts.now.ranks.items (c.account-account.result.0 ∷ [])
+
+pub returns-clause-packets : goal.returns-clause-packets
+returns-clause-packets g c = c.in_ok-push_counts.ensures

@@ -1,4 +1,4 @@
 use Rattle.nm_world.proofs.rounds.visit.Given as goal
 
-abbrev pub ghost-move_all : goal.ghost-move_all
-ghost-move_all g a = record { fabric = a.f.now; rings = a.r.now }
+abbrev pub ghost-reply_and_move : goal.ghost-reply_and_move
+ghost-reply_and_move g a = record { fabric = a.f.now; rings = a.r.now }

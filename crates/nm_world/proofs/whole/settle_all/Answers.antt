@@ -3,6 +3,7 @@ use Rattle.std.proofs.Common.{◌≡◌, ◌++◌, ◌∙◌, ℕ, List, length,
 use Rattle.std.proofs.Math.ListN.{drop, take}
 use Rattle.std.proofs.Math.Seq.{take-append_seam}
 use Rattle.nm_world.specs.declared.players.Player.{Player}
+use Rattle.nm_world.specs.Players.{AllPlayOn}
 use Rattle.nm_world.specs.Rest.{Each}
 use Rattle.nm_world.specs.Runs.{AllAgree, IsStillAt}
 use Rattle.nm_world.proofs.Runs.{kept_many}
@@ -32,3 +33,15 @@ returns-clause-agree g c =
     subst (λ (xs : List (Player _ _)). AllAgree xs)
     (sym (front c.args.players.now.len players (drop (length players) c.args.players.now.items) long))
     c.in_ok-settle.ensures.agree
+
+pub returns-clause-kept : goal.returns-clause-kept
+returns-clause-kept g c =
+    let shows = g.S.Source.shows in
+    let gives = g.S.Source.gives in
+    let players = c.settle.new.players in
+    let long = kept_many shows gives c.args.f.now c.args.r.now c.as_mut_slice.result.now players
+    c.in_ok-settle.ensures.kept ∙ c.as_mut_slice.ensures.len in
+    subst (λ (xs : List (Player _ _)). AllPlayOn shows gives c.args.f.now c.args.r.now c.args.players.now.items xs)
+    (sym (front c.args.players.now.len players (drop (length players) c.args.players.now.items) long))
+    (subst (λ (xs : List (Player _ _)). AllPlayOn shows gives c.args.f.now c.args.r.now xs players)
+    c.as_mut_slice.ensures.value c.in_ok-settle.ensures.kept)

@@ -21,8 +21,8 @@ send_all-requires g c lifetimes outlive = (
   outlive.0,
   (
     outlive.1,
-    subst (λ (x : Environment). HasPorts c.args.f.now x.rings c.args.self.now.actor) (sym c.requires.1.1.1.0)
-        c.requires.1.1.1.1.ports,
+    subst (λ (x : Environment). HasPorts c.args.f.now x.rings c.args.self.now.actor) (sym c.requires.1.1.1.1.0)
+        c.requires.1.1.1.1.1.ports,
   ),
 )
 
@@ -33,9 +33,9 @@ push_all-requires g c lifetimes outlive =
       (
         outlive.1,
         subst (λ (x : Fabric Packet). HasPorts x c.args.r.now p)
-            (sym (ap (λ (x : Environment). x.fabric) c.requires.1.1.1.0))
+            (sym (ap (λ (x : Environment). x.fabric) c.requires.1.1.1.1.0))
             (subst (λ (x : Rings). HasPorts c.args.f.now x p)
-            (ap (λ (x : Environment). x.rings) c.requires.1.1.1.0) c.in_ok-sent.ensures.moves.kept.ports),
+            (ap (λ (x : Environment). x.rings) c.requires.1.1.1.1.0) c.in_ok-sent.ensures.moves.kept.ports),
       ),
     )
 
@@ -45,16 +45,16 @@ take_all-requires g c lifetimes outlive =
       outlive.0,
       (
         outlive.1,
-        subst (λ (x : Rings). HasPorts c.args.f.now x p) (sym (ap (λ (x : Environment). x.rings) c.requires.1.1.1.0))
+        subst (λ (x : Rings). HasPorts c.args.f.now x p) (sym (ap (λ (x : Environment). x.rings) c.requires.1.1.1.1.0))
             (subst (λ (x : Fabric Packet). HasPorts x c.args.r.now p)
-            (ap (λ (x : Environment). x.fabric) c.requires.1.1.1.0) c.in_ok-pushed.ensures.moves.kept.ports),
+            (ap (λ (x : Environment). x.fabric) c.requires.1.1.1.1.0) c.in_ok-pushed.ensures.moves.kept.ports),
       ),
     )
 
 pub pull_all-requires : goal.pull_all-requires
 pull_all-requires g c lifetimes outlive =
     let p = c.take_all.new.self in
-    let fabric = sym (ap (λ (x : Environment). x.fabric) c.requires.1.1.1.0) in (
+    let fabric = sym (ap (λ (x : Environment). x.fabric) c.requires.1.1.1.1.0) in (
       outlive.0,
       (
         outlive.1,
@@ -62,14 +62,14 @@ pull_all-requires g c lifetimes outlive =
           ap (λ (x : Fabric Packet). x.ranks) fabric,
           subst (λ (x : Fabric Packet). HasPorts x c.args.r.now p) fabric
               (subst (λ (x : Rings). HasPorts c.args.f.now x p)
-              (ap (λ (x : Environment). x.rings) c.requires.1.1.1.0) c.in_ok-took.ensures.moves.kept.ports),
+              (ap (λ (x : Environment). x.rings) c.requires.1.1.1.1.0) c.in_ok-took.ensures.moves.kept.ports),
         ),
       ),
     )
 
 pub run_all-requires : goal.run_all-requires
 run_all-requires g c lifetimes outlive =
-    let here = c.requires.1.1.1.0 in
+    let here = c.requires.1.1.1.1.0 in
     let f = c.args.f.now in
     let r = c.args.r.now in
     let x = c.args.self.now in
@@ -97,7 +97,7 @@ run_all-requires g c lifetimes outlive =
           (
             sym (ap (λ (x : Environment). x.fabric) here),
             subst (λ (x : Environment). PlayerInvariant g.S.Source.shows g.S.Source.gives x.fabric x.rings y) (sym here)
-                (carries_on g.S.Source.shows g.S.Source.gives f r x u c.requires.1.1.1.1 su.kept su.stepped.at).stands,
+                (carries_on g.S.Source.shows g.S.Source.gives f r x u c.requires.1.1.1.1.1 su.kept su.stepped.at).stands,
           ),
         ),
       ),
@@ -105,7 +105,7 @@ run_all-requires g c lifetimes outlive =
 
 pub returns : goal.returns
 returns g c =
-    let here = c.requires.1.1.1.0 in
+    let here = c.requires.1.1.1.1.0 in
     let shows = g.S.Source.shows in
     let gives = g.S.Source.gives in
     let f = c.args.f.now in
@@ -135,7 +135,7 @@ returns g c =
     let sp = moves_on all _ _ a s p one two in
     let st = moves_on all _ _ a p t sp three in
     let su = moves_on all _ _ a t u st four in
-    let stands = c.requires.1.1.1.1 in
+    let stands = c.requires.1.1.1.1.1 in
     let to_u = carries_on shows gives f r x u stands su.kept su.stepped.at in
     let se = plays_and shows gives f r f.ranks x y e _ c.in_ok-ran.ran to_u five su.moved run_moved in
     let bound_s = sent.bound in
