@@ -1,13 +1,13 @@
 -- an actor at its start
 mod Begins
 -- what there is to tell
-mod Accounts
+pub mod Accounts
 -- what is counted between two ranks
 mod Counted
 -- players, and lists of them
 mod Told
 mod Playing
-mod Runs
+pub mod Runs
 -- a run at rest
 mod AtRest
 -- what grows

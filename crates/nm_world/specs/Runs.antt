@@ -24,7 +24,7 @@ use Rattle.nm_world.specs.declared.actors.Actor.{Actor}
 use Rattle.nm_world.specs.declared.players.Player.{Player}
 use Rattle.nm_world.specs.Actors.{seat_of}
 use Rattle.nm_world.specs.Players.{IsAtWork, PlayerInvariant}
-use Rattle.nm_world.specs.Rest.{CanMove, IsCarried, IsStill}
+use Rattle.nm_world.specs.Rest.{CanMove, Each, IsCarried, IsStill}
 use Rattle.nm_types.specs.declared.packets.Packet.{Packet}
 
 -- the players stand, and are those of the ranks from k on, in order
@@ -65,6 +65,12 @@ RowAgrees {S} {H} i players =
 -- and with each two of these
 pub record AllAgree {S H : Type 0} (players : List (Player S H)) : Type 0 where
   pub pairs : (i : ℕ) → RowAgrees i players
+
+-- the players are at rest: none can move, and what each sent to each was taken there
+pub record AreAtRest {S B H : Type 0} (shows : S → SourceView B) (gives : S → List Numbered → ℕ → Type 0)
+    (players : List (Player S H)) : Type 0 where
+  pub still : Each (λ i x. IsStillAt shows gives x) players
+  pub agree : AllAgree players
 
 -- what the closed ports carried from each rank to each is what the histories call for
 abbrev pub AreCarriedBy : Sizes → (ℕ → List Numbered) → Closed Packet → RingAccount → List Ended → Type 0

@@ -19,7 +19,8 @@
 //! - A turn takes at most 140 word steps for each rank, and 2,048, whatever the others do (`turn`: `bound`).
 //! - `run_to_rest` makes a run of the commands that its sources gave, and what the closed ports carried is what
 //!   its histories call for, also where these exist in proofs alone (`run`, `home`, `done`). `run_sources` gives
-//!   its record, and `run` that of a script.
+//!   its record, and `run` that of a script. So `close_at_rest` does of players that somebody else had make turns,
+//!   once they are at rest (`are_at_rest`).
 //! - Each source was given exactly the answers of its rank's history, if it takes any, and goes on from where
 //!   it was (`stopped`, `goes_on` of both).
 //! # What is only tested
@@ -42,4 +43,4 @@ pub use by_rank::{places_by_rank, scripts_by_rank};
 pub use players::Player;
 pub use records::RankEnd;
 pub use rounds::round;
-pub use whole::{Left, Rested, Ways, run, run_sources, run_to_rest};
+pub use whole::{Left, Rested, Ways, are_at_rest, close_at_rest, run, run_sources, run_to_rest};

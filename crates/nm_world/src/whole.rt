@@ -1,7 +1,7 @@
 //! A run of all ranks, to rest.
 
 ghost use Rattle.nm_types.specs.declared.packets.Packet.{Packet};
-ghost use Rattle.std.specs.Prelude.{◌≡◌, ◌↔◌, ◌<◌, ◌*◌, ℕ, true, false, List, length, map, IfOk};
+ghost use Rattle.std.specs.Prelude.{◌≡◌, ◌↔◌, ◌⊎◌, ◌<◌, ◌*◌, ℕ, true, false, List, length, map, IfOk};
 ghost use Rattle.std.specs.List.{All, AllZip};
 ghost use Rattle.nm_types.specs.Commands.{Numbered};
 ghost use Rattle.nm_types.specs.Limits.{IsScript};
@@ -14,9 +14,9 @@ ghost use Rattle.nm_copyring.specs.declared.port.Rings.{Rings};
 ghost use Rattle.nm_copyring.specs.Ports as ring_port;
 ghost use Rattle.nm_process.specs.Lines.{AreLines};
 ghost use Rattle.nm_world.specs.Players.{AllPlayOn, AreGiven, BeginsAt, GoesOn, PlayerInvariant};
-ghost use Rattle.nm_world.specs.Records.{HasStopped, ends_by};
+ghost use Rattle.nm_world.specs.Records.{HasStopped, ended_from, ends_by};
 ghost use Rattle.nm_world.specs.Rest.{Each};
-ghost use Rattle.nm_world.specs.Runs.{AllAgree, AreRanked, InPlace};
+ghost use Rattle.nm_world.specs.Runs.{AllAgree, AreAtRest, AreRanked, InPlace};
 ghost use Rattle.nm_world.specs.Runs.{IsStillAt, IsWhole, IsWholeBy, IsWholeOf, NewInOrder, PairAgrees, RowAgrees, SomeMoves};
 
 use crate::by_rank::scripts_by_rank;
@@ -129,6 +129,19 @@ fn all_agree<S: Source, H: Recorder>(players: &[Player<S, H>], f: &Fabric<Packet
     all
 }
 
+/// Whether players of all ranks are at rest: none can move, and what each sent to each was taken there.
+pub fn are_at_rest<S: Source, H: Recorder>(players: &[Player<S, H>], f: &Fabric<Packet>) -> bool
+    requires many { length players.now ≡ f.now.ranks }
+    requires ranked { AreRanked f.now.ranks players.now }
+    ensures rest { result ≡ true → AreAtRest S.shows S.gives players.now }
+    ensures moves { result ≡ false →
+        SomeMoves S.shows S.gives players.now ⊎ (¬ AllAgree players.now) }
+{
+    let still = are_still(players);
+    let agree = all_agree(players, f);
+    still & agree
+}
+
 // Rounds until rest.
 fn settle<R: Threads + Wait + Sync, S: Source + Send, H: Recorder + Send, G: Gate + Sync>(
     rt: &R,
@@ -141,15 +154,13 @@ fn settle<R: Threads + Wait + Sync, S: Source + Send, H: Recorder + Send, G: Gat
     requires many { length players.old ≡ f.now.ranks }
     ensures kept { IfOk result (λ _.
         AllPlayOn S.shows S.gives f.now r.now players.old players.new) }
-    ensures still { IfOk result (λ _. Each (λ i x. IsStillAt S.shows S.gives x) players.new) }
-    ensures agree { IfOk result (λ _. AllAgree players.new) }
+    ensures rest { IfOk result (λ _. AreAtRest S.shows S.gives players.new) }
 {
     let mut crews = Crews::new(crews_for(rt, players.len()));
     for _ in rt.forever() {
         round_in(rt, players, f, r, gate, TURNS, &mut crews)?;
-        let still = are_still(players);
-        let agree = all_agree(players, f);
-        if still & agree {
+        let rest = are_at_rest(players, f);
+        if rest {
             return Ok(());
         }
     }
@@ -168,9 +179,7 @@ fn settle_all<R: Threads + Wait + Sync, S: Source + Send, H: Recorder + Send, G:
     requires many { length players.old.items ≡ f.now.ranks }
     ensures kept { IfOk result (λ _.
         AllPlayOn S.shows S.gives f.now r.now players.old.items players.new.items) }
-    ensures still { IfOk result (λ _.
-        Each (λ i x. IsStillAt S.shows S.gives x) players.new.items) }
-    ensures agree { IfOk result (λ _. AllAgree players.new.items) }
+    ensures rest { IfOk result (λ _. AreAtRest S.shows S.gives players.new.items) }
 {
     settle(rt, players.as_mut_slice(), f, r, gate)?;
     Ok(())
@@ -211,6 +220,68 @@ fn cast<S: Source, H: Recorder>(
     Ok(players)
 }
 
+/// Closes what the players of all ranks share, once they are at rest, and tells what became of each rank.
+///
+/// Whatever commands the sources are left with, the histories are a lawful run of them, what went from rank to
+/// rank is what they call for, all cells are home, and `done` tells whether no rank waits.
+pub fn close_at_rest<S: Source, H: Recorder>(
+    alloc: Global,
+    shape: Shape,
+    fabric: Fabric<Packet>,
+    rings: Rings,
+    players: Vec<Player<S, H>>,
+) -> Result<Rested<S, H>, Memory>
+    requires many { length players.items ≡ shape.ranks }
+    requires sizes { (fabric.ranks ≡ shape.ranks) × (rings.ranks ≡ shape.ranks)
+        × (fabric.each ≡ shape.cells) }
+    requires place { InPlace S.shows S.gives shape fabric rings 0 players.items }
+    requires rest { AreAtRest S.shows S.gives players.items }
+    ensures run { IfOk result (λ x. (commands : ℕ → List Numbered) →
+        AreInRange shape.ranks commands → AreGiven S.gives commands 0 x.sources.items →
+        IsWholeOf shape commands (ends_by H.events x.ranks.items) (packets_of x.pairs) x.cells
+        x.ways.cells x.ways.rings) }
+    ensures sources { IfOk result (λ x. x.sources.items ≡ map (λ p. p.source) players.items) }
+    ensures ends { IfOk result (λ x. (commands : ℕ → List Numbered) →
+        AreGiven S.gives commands 0 x.sources.items →
+        ends_by H.events x.ranks.items ≡ ended_from commands 0 players.items) }
+    ensures stopped { IfOk result (λ x.
+        AllZip (HasStopped S.shows S.gives) x.sources.items (ends_by H.events x.ranks.items)) }
+    ensures all { IfOk result (λ x. x.cells.total ≡ shape.ranks * shape.cells) }
+    ensures home { IfOk result (λ x. x.cells.home ≡ x.cells.total) }
+    ensures account { IfOk result (λ x. x.cells ≡ x.ways.cells.cells) }
+    ensures done { IfOk result (λ x. x.done ≡ are_done (ends_by H.events x.ranks.items)) }
+{
+    let parts = parts_of(alloc, players, shape.ranks())?;
+    let Parts {
+        ports,
+        rings: ring_ports,
+        sources,
+        ranks,
+        pairs,
+        left,
+        done,
+    } = parts;
+    // no step: the laws of the end of a run
+    a_still_actor_ends::<H>();
+    actors_at_rest_make_a_run::<H>();
+    let closed = fabric.close(ports);
+    let rings = rings.close(ring_ports);
+    let cells = closed.account();
+    let ways = Ways {
+        cells: closed,
+        rings,
+        left,
+    };
+    Ok(Rested {
+        sources,
+        ranks,
+        pairs,
+        cells,
+        done,
+        ways,
+    })
+}
+
 /// Runs what these sources give, one for each rank, in as many threads as there are processors where they
 /// can be had, until it is at rest. What records the histories is a parameter: with `Erased` they exist in
 /// proofs alone, and memory keeps the last event of each rank.
@@ -245,35 +316,8 @@ pub fn run_to_rest<R: Threads + Wait + Sync, S: Source + Send, H: Recorder + Sen
     let (rings, ring_ports) = Rings::build(alloc, shape)?;
     let mut players = cast::<S, H>(alloc, shape, ports, ring_ports, sources)?;
     settle_all(rt, &mut players, &fabric, &rings, gate)?;
-    let parts = parts_of(alloc, players, fabric.ranks())?;
-    let Parts {
-        ports,
-        rings: ring_ports,
-        sources,
-        ranks,
-        pairs,
-        left,
-        done,
-    } = parts;
-    // no step: the laws of the end of a run
-    a_still_actor_ends::<H>();
-    actors_at_rest_make_a_run::<H>();
-    let closed = fabric.close(ports);
-    let rings = rings.close(ring_ports);
-    let cells = closed.account();
-    let ways = Ways {
-        cells: closed,
-        rings,
-        left,
-    };
-    Ok(Rested {
-        sources,
-        ranks,
-        pairs,
-        cells,
-        done,
-        ways,
-    })
+    let rested = close_at_rest(alloc, shape, fabric, rings, players)?;
+    Ok(rested)
 }
 
 /// Runs what these sources give, one for each rank, in as many threads as there are processors where they

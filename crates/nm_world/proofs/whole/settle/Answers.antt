@@ -2,7 +2,6 @@
 use Rattle.std.proofs.Common.{◌∙◌}
 use Rattle.nm_world.proofs.Runs.{all_kept_on, all_kept_same, all_ranked, all_stand, kept_many}
 use Rattle.nm_world.proofs.whole.settle.Goals as goal
-use Rattle.nm_types.proofs.TruthLemmas.{and_left, and_right}
 
 pub loop-init : goal.loop-init
 loop-init g c = record {
@@ -14,18 +13,18 @@ pub round_in-requires-clause-stands : goal.round_in-requires-clause-stands
 round_in-requires-clause-stands g c lifetimes outlive =
     all_stand g.S.Source.shows g.S.Source.gives c.args.f.now c.args.r.now c.args.players.now c.loop.players c.loop.invariant.kept
 
-pub all_agree-agree-requires-clause-many : goal.all_agree-agree-requires-clause-many
-all_agree-agree-requires-clause-many g c =
+pub are_at_rest-rest-requires-clause-many : goal.are_at_rest-rest-requires-clause-many
+are_at_rest-rest-requires-clause-many g c =
     kept_many g.S.Source.shows g.S.Source.gives c.args.f.now c.args.r.now c.loop.players c.round_in.new.players
     c.in_ok-round_in.ensures.kept ∙ c.loop.invariant.many
 
-pub all_agree-agree-requires-clause-ranked : goal.all_agree-agree-requires-clause-ranked
-all_agree-agree-requires-clause-ranked g c =
+pub are_at_rest-rest-requires-clause-ranked : goal.are_at_rest-rest-requires-clause-ranked
+are_at_rest-rest-requires-clause-ranked g c =
     all_ranked g.S.Source.shows g.S.Source.gives c.args.f.now c.args.r.now c.round_in.new.players
     (all_stand g.S.Source.shows g.S.Source.gives c.args.f.now c.args.r.now c.loop.players c.round_in.new.players c.in_ok-round_in.ensures.kept)
 
-pub returns-then-still-agree-clause-kept : goal.returns-then-still-agree-clause-kept
-returns-then-still-agree-clause-kept g c =
+pub returns-then-rest-clause-kept : goal.returns-then-rest-clause-kept
+returns-then-rest-clause-kept g c =
     all_kept_on g.S.Source.shows g.S.Source.gives c.args.f.now c.args.r.now c.args.players.now c.loop.players c.round_in.new.players
     c.loop.invariant.kept c.in_ok-round_in.ensures.kept
 
@@ -37,10 +36,5 @@ loop-preserved g c = record {
       c.in_ok-round_in.ensures.kept ∙ c.loop.invariant.many;
 }
 
-pub returns-then-still-agree-clause-still : goal.returns-then-still-agree-clause-still
-returns-then-still-agree-clause-still g c =
-    c.are_still-still.ensures.still (and_left c.are_still-still.result c.all_agree-agree.result c.if-still-agree.true)
-
-pub returns-then-still-agree-clause-agree : goal.returns-then-still-agree-clause-agree
-returns-then-still-agree-clause-agree g c =
-    c.all_agree-agree.ensures.0 (and_right c.are_still-still.result c.all_agree-agree.result c.if-still-agree.true)
+pub returns-then-rest-clause-rest : goal.returns-then-rest-clause-rest
+returns-then-rest-clause-rest g c = c.are_at_rest-rest.ensures.rest c.if-rest.true
