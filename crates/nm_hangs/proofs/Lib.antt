@@ -1,2 +1,10 @@
+mod AlikeLemmas
+mod AskedLemmas
+mod ClassLemmas
+mod FitLemmas
+mod GoLemmas
 mod HangLemmas
 mod HuntLemmas
+mod MovedLemmas
+mod NotedLemmas
+mod PlainLemmas

@@ -1,20 +1,21 @@
 //! A search that looks at the newest state first, until a rank is stuck.
 
-ghost use Rattle.std.specs.Prelude.{◌≡◌, ℕ, ◌+◌, ◌<◌, ◌≤◌, ◌&&◌, true, IfOk, IsTrue, List, OnOk, Some, is_none};
-ghost use Rattle.std.specs.Prelude.{length, slice_get};
+ghost use Rattle.std.specs.Prelude.{◌≡◌, ℕ, ◌+◌, ◌<◌, ◌≤◌, ◌&&◌, ◌++◌, ◌∷◌, [], true, IfOk, IsTrue, List, OnOk, Some};
+ghost use Rattle.std.specs.Prelude.{is_none, length, slice_get, unwrap_or};
 ghost use Rattle.std.specs.List.{list_all};
 ghost use Rattle.std.specs.Option.{option_map_or};
 ghost use Rattle.nm_explored.specs.Ends.{AreShort, all_told, told_in};
 ghost use Rattle.nm_explored.specs.Met.{AreBack, IsMade};
-ghost use Rattle.nm_explored.specs.Stores.{Grows, IsExpanded, IsFirst};
+ghost use Rattle.nm_explored.specs.Stores.{AreLow, Grows, IsFirst};
 ghost use Rattle.nm_explored.specs.Successors.{spot_in};
-ghost use Rattle.nm_hangs.specs.Hunts.{IsHunted, IsStuckAt};
-ghost use Rattle.nm_search.specs.Lists.{AddsOnly, Extends, Has};
+ghost use Rattle.nm_hangs.specs.Hunts.{AreNear, AreOpen, IsHunted, IsNearBy, IsNoted, IsStuckAt};
 
+use crate::classes::Classes;
 use nm_explored::choices::choices::{View, line_at};
 use nm_explored::ends::is_end;
 use nm_explored::searches::{Search, Setting};
 use nm_outcomes::spots::looks::ran;
+use nm_outcomes::spots::ranks::Rank;
 use nm_types::Memory;
 use std::alloc::Global;
 
@@ -102,52 +103,143 @@ fn is_stuck_at(search: &Search, of: Setting, k: usize) -> bool
     }
 }
 
-/// Adds the numbers from one up to another one.
-fn push_numbers(ahead: &mut Vec<usize>, from: usize, to: usize) -> Result<(), Memory>
-    ensures kept { OnOk result (Extends ahead.old.items ahead.new.items) }
-    ensures all { OnOk result ((k : ℕ) → from ≤ k → k < to → Has ahead.new.items k) }
-    ensures only { OnOk result (AddsOnly (λ k. k < to) ahead.old.items ahead.new.items) }
-    ensures count { from ≤ to → OnOk result
-        (length ahead.new.items + from ≡ length ahead.old.items + to) }
+/// A state that is to be looked at, with the number of its classes.
+#[derive(Clone, Copy)]
+pub struct Ahead {
+    pub state: usize,
+    pub classes: usize,
+}
+
+/// Notes a state with a number, to be looked at if none was met that goes on alike.
+fn push_new(
+    alloc: Global,
+    of: Setting,
+    table: &[Rank],
+    near: &[usize],
+    number: usize,
+    ids: &[usize],
+    n: usize,
+    classes: &mut Classes,
+    ahead: &mut Vec<Ahead>,
+) -> Result<(), Memory>
+    requires short { AreShort of.lines.now }
+    requires low { AreLow table.now ids.now }
+    requires near { (own : List ℕ) → slice_get classes.old number ≡ Some own →
+        AreNear of.lines.now table.now near.now own }
+    ensures { OnOk result (IsNoted of.entry.lines.now table.now ids.now n classes.old classes.new
+        ahead.old.items ahead.new.items) }
 {
-    for k in from..to {
-        ahead.push(k)?;
+    let count = classes.len();
+    if classes.note(alloc, of.lines, table, near, number, ids)? {
+        ahead.push(Ahead {
+            state: n,
+            classes: count,
+        })?;
     }
     Ok(())
 }
 
-/// Adds the states that enough moves lead to from the one with a number, and notes which are new.
+/// The states of the ranks of a state with a number, or none.
+fn ids_of(search: &Search, n: usize) -> &[usize]
+    ensures { result.now ≡ unwrap_or (slice_get search.now.states n) [] }
+{
+    match search.states.as_slice().get(n) {
+        Some(state) => state.as_slice(),
+        None => &[],
+    }
+}
+
+/// Notes the state with a number, which comes of one that was looked at.
+fn push_state(
+    alloc: Global,
+    of: Setting,
+    search: &Search,
+    near: Ahead,
+    n: usize,
+    classes: &mut Classes,
+    ahead: &mut Vec<Ahead>,
+) -> Result<(), Memory>
+    requires short { AreShort of.lines.now }
+    requires made { IsMade of.eager of.ranks of.lines.now search.now }
+    requires near { (ids own : List ℕ) → slice_get search.now.states near.state ≡ Some ids →
+        slice_get classes.old near.classes ≡ Some own → AreNear of.lines.now search.now.table ids own }
+    ensures { OnOk result ((ids : List ℕ) → slice_get search.now.states n ≡ Some ids →
+        IsNoted of.entry.lines.now search.now.table ids n classes.old classes.new
+        ahead.old.items ahead.new.items) }
+{
+    push_new(
+        alloc,
+        of,
+        search.table.as_slice(),
+        ids_of(search, near.state),
+        near.classes,
+        ids_of(search, n),
+        n,
+        classes,
+        ahead,
+    )
+}
+
+/// Notes the states with the numbers from one up to another one, which come of one that was looked at.
+fn push_states(
+    alloc: Global,
+    of: Setting,
+    search: &Search,
+    near: Ahead,
+    from: usize,
+    to: usize,
+    classes: &mut Classes,
+    ahead: &mut Vec<Ahead>,
+) -> Result<(), Memory>
+    requires short { AreShort of.lines.now }
+    requires made { IsMade of.eager of.ranks of.lines.now search.now }
+    requires near { IsNearBy of.lines.now search.now classes.old near }
+    requires order { from ≤ to }
+    requires there { to ≤ length search.now.states }
+    requires ahead { AreOpen of.eager of.ranks of.lines.now search.now classes.old ahead.old.items from }
+    ensures noted { OnOk result (AreOpen of.entry.eager of.entry.ranks of.entry.lines.now search.now classes.new
+        ahead.new.items to) }
+    ensures count { OnOk result (length ahead.new.items + from ≤ length ahead.old.items + to) }
+{
+    for n in from..to {
+        push_state(alloc, of, search, near, n, classes, ahead)?;
+    }
+    Ok(())
+}
+
+/// Adds the states that enough moves lead to from one, and notes them.
 fn look(
     alloc: Global,
     of: Setting,
-    k: usize,
+    near: Ahead,
     search: &mut Search,
-    ahead: &mut Vec<usize>,
+    classes: &mut Classes,
+    ahead: &mut Vec<Ahead>,
 ) -> Result<(), Memory>
     requires short { AreShort of.lines.now }
     requires made { IsMade of.eager of.ranks of.lines.now search.old }
     requires back { AreBack of.eager of.ranks of.lines.now search.old }
-    requires there { k < length search.old.states }
+    requires free { (ids : List ℕ) → slice_get search.old.states near.state ≡ Some ids →
+        IsStuckAt of.ranks of.lines.now (spot_in search.old.table ids) → ⊥ }
+    requires ahead { AreOpen of.eager of.ranks of.lines.now search.old classes.old
+        (ahead.old.items ++ near ∷ []) (length search.old.states) }
     ensures grows { OnOk result (Grows search.old search.new) }
     ensures made { OnOk result (IsMade of.entry.eager of.entry.ranks of.entry.lines.now search.new) }
     ensures back { OnOk result (AreBack of.entry.eager of.entry.ranks of.entry.lines.now search.new) }
-    ensures expanded { OnOk result ((ids : List ℕ) → slice_get search.old.states k ≡ Some ids →
-        IsExpanded of.entry.eager of.entry.ranks of.entry.lines.now search.new ids) }
-    ensures kept { OnOk result (Extends ahead.old.items ahead.new.items) }
-    ensures noted { OnOk result ((n : ℕ) → length search.old.states ≤ n → n < length search.new.states →
-        Has ahead.new.items n) }
-    ensures only { OnOk result (AddsOnly (λ n. n < length search.new.states) ahead.old.items ahead.new.items) }
+    ensures ahead { OnOk result (AreOpen of.entry.eager of.entry.ranks of.entry.lines.now search.new classes.new
+        ahead.new.items (length search.new.states)) }
     ensures count { OnOk result (length ahead.new.items + length search.old.states
-        ≡ length ahead.old.items + length search.new.states) }
+        ≤ length ahead.old.items + length search.new.states) }
 {
     let before = search.states.as_slice().len();
-    search.expand(alloc, of, k)?;
-    push_numbers(ahead, before, search.states.as_slice().len())?;
+    search.expand(alloc, of, near.state)?;
+    let after = search.states.as_slice().len();
+    push_states(alloc, of, search, near, before, after, classes, ahead)?;
     Ok(())
 }
 
 /// Looks at the states that moves lead to, the newest first, until a rank is stuck at one, or they are more than the
-/// limit.
+/// limit. Of states that go on alike it looks at one.
 pub fn hunt(alloc: Global, of: Setting, limit: u32, search: &mut Search) -> Result<Hunted, Memory>
     requires short { AreShort of.lines.now }
     requires first { IsFirst of.ranks search.old }
@@ -159,16 +251,21 @@ pub fn hunt(alloc: Global, of: Setting, limit: u32, search: &mut Search) -> Resu
     ensures hunted { IfOk result
         (IsHunted of.entry.eager of.entry.ranks of.entry.lines.now limit search.new) }
 {
-    let mut ahead: Vec<usize> = Vec::new(alloc);
-    ahead.push(0)?;
+    let mut classes = Classes::new(alloc);
+    let mut ahead: Vec<Ahead> = Vec::new(alloc);
+    let first = Ahead {
+        state: 0,
+        classes: 0,
+    };
+    push_state(alloc, of, search, first, 0, &mut classes, &mut ahead)?;
     for _state in 0..limit {
-        let Some(k) = ahead.pop() else {
+        let Some(next) = ahead.pop() else {
             return Ok(Hunted::Never);
         };
-        if is_stuck_at(search, of, k) {
-            return Ok(Hunted::Stuck { state: k });
+        if is_stuck_at(search, of, next.state) {
+            return Ok(Hunted::Stuck { state: next.state });
         }
-        look(alloc, of, k, search, &mut ahead)?;
+        look(alloc, of, next, search, &mut classes, &mut ahead)?;
         if search.states.as_slice().len() > limit as usize {
             return Ok(Hunted::Open);
         }

@@ -29,7 +29,7 @@ returns-in-Never c =
     (subst (λ (r : ℕ). IsScript r c.args.script.now.lines) (sym c.requires) c.args.script.now.limits)
     c.in_ok-search.search c.hunt_in.new.search
     (subst (λ (n : ℕ). IsFirst n c.in_ok-search.search) c.ranks.ensures.value c.in_ok-search.ensures.first)
-    c.in_ok-state.ensures.grows
+    c.in_ok-state.ensures.grows c.in_ok-state.ensures.made
     (subst (λ (h : Hunted). IsHunted c.args.shape.eager c.args.shape.ranks c.args.script.now.lines c.args.states
     c.hunt_in.new.search h) c.in-Never.is c.in_ok-state.ensures.hunted)
 

@@ -1,5 +1,5 @@
--- All states but those that are ahead were looked at.
-use Rattle.std.proofs.Common.{◌≡◌, ◌+◌, length}
+-- All states but those that are ahead were looked at, or go on as one that was.
+use Rattle.std.proofs.Common.{◌+◌, ◌≤◌, length}
 use Rattle.nm_explored.specs.Met.{AreBack, IsMade}
 use Rattle.nm_explored.specs.Stores.{Grows}
 use Rattle.nm_hangs.specs.Hunts.{AreOpen}
@@ -10,6 +10,6 @@ invariant-loop-state l = record {
   grows : Grows l.fn.search l.search;
   made : IsMade l.of.eager l.of.ranks l.of.lines.now l.search;
   back : AreBack l.of.eager l.of.ranks l.of.lines.now l.search;
-  ahead : AreOpen l.of.eager l.of.ranks l.of.lines.now l.search l.ahead.items;
-  count : length l.search.states ≡ l._state + length l.ahead.items;
+  ahead : AreOpen l.of.eager l.of.ranks l.of.lines.now l.search l.classes l.ahead.items (length l.search.states);
+  count : l._state + length l.ahead.items ≤ length l.search.states;
 }
