@@ -1,15 +1,17 @@
 -- The calls that were given.
-use Rattle.std.proofs.Common.{◌≡◌, ℕ, ◌+◌, ◌≤◌, false, Option, Some, None, List, [], ◌∷◌, ◌++◌, length, refl, sym, ap, subst}
+use Rattle.std.proofs.Common.{◌≡◌, ℕ, ◌+◌, ◌<◌, ◌≤◌, false, true, Option, Some, None, List, [], ◌∷◌, ◌++◌, length, refl, sym, ap, subst}
 use Rattle.std.proofs.Common.{◌∙◌, arith, append-nil}
-use Rattle.std.specs.Prelude.{IsSome, option_to_list, slice_get}
+use Rattle.std.specs.Prelude.{IfSome, IsSome, option_to_list, slice_get}
 use Rattle.std.specs.Option.{option_map_or}
 use Rattle.nm_types.specs.declared.scripts.Command.{Command}
 use Rattle.nm_types.specs.Commands.{Numbered}
-use Rattle.nm_process.specs.Playing.{GivenView, all_numbered}
+use Rattle.nm_types.specs.Limits.{is_in_range}
+use Rattle.nm_types.proofs.ListLemmas.{all_append}
+use Rattle.nm_process.specs.Playing.{AllInRange, GivenView, all_numbered}
 use Rattle.nm_process.specs.Sources.{PassedOn}
 use Rattle.nm_process.specs.Work.{IsNext}
 use Rattle.nm_process.proofs.PlayLemmas.{ended_given}
-use Rattle.nm_calls.specs.Calling.{CallsView, gave}
+use Rattle.nm_calls.specs.Calling.{CallsView, ahead, gave}
 use Rattle.nm_calls.proofs.Longer.{last_next}
 
 -- behind those that ran there is none
@@ -67,3 +69,13 @@ passed_next c d x commands last some many given none at gives =
           (sym next.next ∙ one.next) in
           omega (arith, same, at, high);
     }
+
+-- all that were given are in range, the one that is ahead among them
+pub all_ahead : (c : CallsView) → AllInRange c.ranks c.given →
+    IfSome c.next (λ x. (is_in_range c.ranks x ≡ true) × (c.at < 18446744073709551610)) → AllInRange c.ranks (ahead c)
+all_ahead c all runs =
+    all_append (λ (x : Command). is_in_range c.ranks x ≡ true) c.given (option_to_list c.next) all (one c.next runs) where
+      one : (o : Option Command) → IfSome o (λ x. (is_in_range c.ranks x ≡ true) × (c.at < 18446744073709551610)) →
+          AllInRange c.ranks (option_to_list o)
+      one None runs = tt
+      one (Some x) runs = (runs.0, tt)

@@ -2,7 +2,8 @@
 
 ghost use Rattle.std.specs.Prelude.{◌≡◌, ◌+◌, ◌<◌, ◌≤◌, [], true, None, Some, IfNone, IfSome, is_some, length, option_map};
 ghost use Rattle.nm_types.specs.Limits.{is_in_range};
-ghost use Rattle.nm_calls.specs.Calling.{called, gave, shown};
+ghost use Rattle.nm_process.specs.Playing.{AllInRange};
+ghost use Rattle.nm_calls.specs.Calling.{ahead, called, gave, shown};
 
 use nm_ghost::Trace;
 use nm_process::Source;
@@ -57,6 +58,7 @@ impl Calls {
     pub fn ranks(&self) -> u8
         ensures value { result ≡ self.now.ranks }
         ensures counted { length self.now.given ≡ self.now.at }
+        ensures in_range { AllInRange self.now.ranks (ahead self.now) }
     {
         self.ranks
     }
