@@ -1,5 +1,5 @@
 -- How a rank stands that its caller drives.
-use Rattle.std.specs.Prelude.{◌≡◌, ◌⊎◌, ◌≤◌, ℕ, ◌+◌, true, false, None, IsSome, List, [], ◌∷◌}
+use Rattle.std.specs.Prelude.{◌≡◌, ◌⊎◌, ◌≤◌, ℕ, ◌+◌, None, Some, IsSome, List, [], ◌∷◌}
 use Rattle.std.specs.Arc.{arc_value}
 use Rattle.nm_types.specs.declared.packets.Packet.{Packet}
 use Rattle.nm_types.specs.declared.scripts.Command.{Command}
@@ -17,6 +17,7 @@ use Rattle.nm_calls.specs.declared.faults.Fault.TheVariants as fault
 use Rattle.nm_handle.specs.declared.handles.Handle.{Handle}
 use Rattle.nm_handle.specs.declared.states.State.{State}
 use Rattle.nm_handle.specs.declared.states.State.TheVariants as state
+use Rattle.nm_handle.specs.Worlds.{IsSameRank}
 use Rattle.nm_calls.specs.Refusing.{IsOutOfRange}
 use Rattle.nm_calls.specs.Calling.{CallsView, counted, gave, shown}
 
@@ -37,16 +38,26 @@ abbrev pub calls_of : Handle → CallsView
 calls_of h = h.player.source
 
 -- A call of this command came to this: the process did what the command does at the next line, and the call is
--- counted if it ran.
+-- counted if it ran. It is the same rank.
 pub record HasCalled (x : Command) (a b : Handle) (step : Step) : Type 0 where
   pub stepped : HasStepped x ((calls_of a).at + 2) (process_of a) (process_of b) step
   pub calls : calls_of b ≡ counted (calls_of a) x step
   pub opened : b.state ≡ state.Open
+  pub same : IsSameRank a b
 
--- A turn was made: the calls are as they were, and what happened goes on.
+-- A command was put ahead: nothing else is otherwise.
+pub record HasGiven (x : Command) (a b : Handle) : Type 0 where
+  pub process : process_of b ≡ process_of a
+  pub calls : calls_of b ≡ record (calls_of a) { next = Some x }
+  pub state : b.state ≡ a.state
+  pub same : IsSameRank a b
+
+-- A turn was made: what happened goes on, and the calls are those that were made or put ahead before. It is the
+-- same rank.
 pub record HasTurned (a b : Handle) : Type 0 where
   pub plays : PlaysOn shown gave (arc_value a.fabric) (arc_value a.rings) a.player b.player
   pub state : b.state ≡ a.state
+  pub same : IsSameRank a b
 
 -- why a call was refused
 pub data IsCause (h : Handle) (x : Command) (e : Fault) : Type 0 where
@@ -60,7 +71,7 @@ pub data IsCause (h : Handle) (x : Command) (e : Fault) : Type 0 where
 
 -- rank k of a world of this shape, of which no call ran
 pub record IsNewAt (shape : Sizes) (k : ℕ) (h : Handle) : Type 0 where
-  pub stands : PlayerInvariant shown gave (arc_value h.fabric) (arc_value h.rings) h.player
+  pub stands : Stands h
   pub opened : h.state ≡ state.Open
   pub calls : calls_of h ≡ record { ranks = shape.ranks; at = 0; given = []; next = None }
   pub me : (process_of h).rank.me ≡ k

@@ -13,7 +13,6 @@ use std::alloc::Global;
 use std::sync::Arc;
 
 /// A rank of a world: what its caller has of it. One thread has it at a time.
-#[derive(Drop)]
 pub struct Handle {
     pub(crate) fabric: Arc<Fabric<Packet>, Global>,
     pub(crate) rings: Arc<Rings, Global>,
@@ -21,6 +20,18 @@ pub struct Handle {
     pub(crate) state: State,
     // how many requests are live
     pub(crate) live: u32,
+}
+
+impl Drop for Handle {
+    fn drop(self) {
+        let Handle {
+            fabric: _,
+            rings: _,
+            player: _,
+            state: _,
+            live: _,
+        } = self;
+    }
 }
 
 // How many requests are live after an answer, where so many were before.
@@ -35,16 +46,26 @@ fn live_after(answer: Option<&Answer>, live: u32) -> u32 {
     }
 }
 
+// So it is after a turn, before and after which a command was ahead, or none was.
+fn live_later(waited: bool, waits: bool, answer: Option<&Answer>, live: u32) -> u32 {
+    if waited && !waits {
+        live_after(answer, live)
+    } else {
+        live
+    }
+}
+
 impl Handle {
-    ghost use Rattle.std.specs.Prelude.{◌≡◌, ◌≢◌, ◌+◌, ◌<◌, ◌≤◌, ◌⊎◌, true, None, Some, IfErr, IfOk, IsSome, OnErr, length, option_map};
+    ghost use Rattle.std.specs.Prelude.{◌≡◌, ◌≢◌, ◌+◌, ◌<◌, ◌≤◌, ◌⊎◌, true, None, Some, IfErr, IfOk, IsSome, OnErr, is_some, length, option_map};
     ghost use Rattle.std.specs.Arc.{arc_value};
     ghost use Rattle.nm_types.specs.Limits.{is_in_range};
     ghost use Rattle.nm_rank.specs.Ranks.{IsFresh};
     ghost use Rattle.nm_calls.specs.Calling.{gave, shown};
     ghost use Rattle.nm_calls.specs.declared.faults.Fault.TheVariants as fault;
     ghost use Rattle.nm_process.specs.LastAnswer.{last_answer};
-    ghost use Rattle.nm_world.specs.Players.{PlayerInvariant, PlaysOn};
-    ghost use Rattle.nm_handle.specs.Standing.{HasCalled, HasTurned, IsCause, Stands, calls_of, process_of};
+    ghost use Rattle.nm_world.specs.Actors.{did};
+    ghost use Rattle.nm_world.specs.Players.{PlayerInvariant};
+    ghost use Rattle.nm_handle.specs.Standing.{HasCalled, HasGiven, HasTurned, IsCause, Stands, calls_of, process_of};
     ghost use Rattle.nm_handle.specs.declared.states.State.TheVariants as state_is;
 
     /// The number of its rank.
@@ -79,6 +100,13 @@ impl Handle {
         rank.front_to().is_some() || rank.has_piece()
     }
 
+    /// Whether a command that was given has still to run.
+    pub fn waits(&self) -> bool
+        ensures { result ≡ is_some (calls_of self.now).next }
+    {
+        self.player.source.waits()
+    }
+
     /// The answer of its last call, if nothing happened since.
     pub fn answer(&self) -> Option<&Answer>
         ensures { option_map (λ a. a.now) result ≡ last_answer (process_of self.now).rank.events }
@@ -105,7 +133,7 @@ impl Handle {
         ensures ok { IfOk result (λ _. (calls_of self.now).next ≡ None) }
         ensures err { IfErr result (λ e. (e ≡ fault.Waits) × IsSome (calls_of self.now).next) }
     {
-        if self.player.source.waits() {
+        if self.waits() {
             Err(Fault::Waits)
         } else {
             Ok(())
@@ -150,9 +178,7 @@ impl Handle {
     pub fn give(&mut self, command: Command) -> Result<(), Fault>
         requires stands { Stands self.old }
         ensures kept { Stands self.new }
-        ensures given { IfOk result (λ _. (self.new.state ≡ self.old.state)
-            × (process_of self.new ≡ process_of self.old)
-            × (calls_of self.new ≡ record (calls_of self.old) { next = Some command })) }
+        ensures given { IfOk result (λ _. HasGiven command self.old self.new) }
         ensures cause { IfErr result (IsCause self.old command) }
         ensures refused { OnErr result (self.new ≡ self.old) }
     {
@@ -190,6 +216,8 @@ impl Handle {
         requires stands { Stands self.old }
         ensures kept { Stands self.new }
         ensures turned { IfOk result (λ _. HasTurned self.old self.new) }
+        ensures moved { IfOk result (λ moved.
+            moved ≡ did (arc_value self.old.fabric).ranks self.old.player.actor self.new.player.actor) }
         ensures cause { IfErr result (λ e. (e ≡ fault.Memory)
             ⊎ ((e ≡ fault.Failed) × (self.old.state ≡ state_is.Failed) × (self.new ≡ self.old))) }
     {
@@ -205,11 +233,17 @@ impl Handle {
         requires stands { Stands self.old }
         ensures kept { Stands self.new }
         ensures turned { IfOk result (λ _. HasTurned self.old self.new) }
+        ensures moved { IfOk result (λ moved.
+            moved ≡ did (arc_value self.old.fabric).ranks self.old.player.actor self.new.player.actor) }
         ensures err { IfErr result (λ e. e ≡ fault.Memory) }
     {
+        let waited = self.player.source.waits();
         self.state = State::Failed;
         let moved = turn(&mut self.player, &self.fabric, &self.rings)?;
         self.state = state;
+        let waits = self.player.source.waits();
+        let live = live_later(waited, waits, self.answer(), self.live);
+        self.live = live;
         Ok(moved)
     }
 

@@ -4,6 +4,7 @@ ghost use Rattle.std.specs.Prelude.{◌≡◌, ◌+◌, ◌<◌, ◌≢◌, true
 ghost use Rattle.nm_types.specs.Limits.{is_in_range};
 ghost use Rattle.nm_calls.specs.Calling.{counted, gave, shown};
 ghost use Rattle.nm_process.specs.Steps.{HasStepped};
+ghost use Rattle.nm_world.specs.Actors.{did, seat_of};
 ghost use Rattle.nm_world.specs.Players.{PlayerInvariant, PlaysOn};
 
 use nm_calls::Calls;
@@ -36,6 +37,7 @@ pub(crate) fn run(
     ensures ran { IfOk result
         (HasStepped command.now line player.old.actor.process player.new.actor.process) }
     ensures calls { IfOk result (λ step. player.new.source ≡ counted player.old.source command.now step) }
+    ensures seat { IfOk result (λ _. seat_of player.new.actor ≡ seat_of player.old.actor) }
 {
     // no step: that the history keeps its rules, that the calls are counted, and the laws of a call
     player.actor.process.rank().history();
@@ -83,12 +85,13 @@ fn turn_on<L: Ledger>(
     requires name { (blank.name ≡ L.name) × (blank.parts ≡ L.parts) × (0 < L.parts) }
     requires stands { PlayerInvariant shown gave f.now r.now player.old }
     ensures kept { IfOk result (λ _. PlaysOn shown gave f.now r.now player.old player.new) }
+    ensures moved { IfOk result (λ moved. moved ≡ did f.now.ranks player.old.actor player.new.actor) }
 {
     let mut steps = Steps::<L>::new(blank);
     player.turn(f, r, &OpenGate, &mut steps)
 }
 
-/// A turn: it takes at most 140 word steps for each rank, and 2,048.
+/// A turn: it takes at most 140 word steps for each rank, and 2,048. It answers whether it did anything.
 pub(crate) fn turn(
     player: &mut Player<Calls, Erased>,
     f: &Fabric<Packet>,
@@ -96,6 +99,7 @@ pub(crate) fn turn(
 ) -> Result<bool, Memory>
     requires stands { PlayerInvariant shown gave f.now r.now player.old }
     ensures kept { IfOk result (λ _. PlaysOn shown gave f.now r.now player.old player.new) }
+    ensures moved { IfOk result (λ moved. moved ≡ did f.now.ranks player.old.actor player.new.actor) }
 {
     turn_on::<Brand>(player, f, r, Blank::new(1))
 }

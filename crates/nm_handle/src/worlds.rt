@@ -8,6 +8,7 @@ ghost use Rattle.nm_cells.specs.Ports.{IsNew};
 ghost use Rattle.nm_copyring.specs.declared.port.RingPort.{RingPort};
 ghost use Rattle.nm_copyring.specs.Ports as ring_port;
 ghost use Rattle.nm_handle.specs.Standing.{AreNew, IsNewAt};
+ghost use Rattle.nm_handle.specs.Worlds.{AreRanksFrom, AreWorld, IsRankAt};
 
 use crate::handles::Handle;
 use crate::states::State;
@@ -50,7 +51,9 @@ fn handle_of(
         × ((arc_value shared.now.rings).ranks ≡ shape.ranks) }
     requires cells { IsNew (arc_value shared.now.fabric) port port.rank }
     requires places { ring_port.IsNew (arc_value shared.now.rings) ring port.rank }
-    ensures { IfOk result (IsNewAt shape port.rank) }
+    ensures new { IfOk result (IsNewAt shape port.rank) }
+    ensures own { IfOk result (IsRankAt shape (arc_value shared.now.fabric) (arc_value shared.now.rings)
+        port.rank) }
 {
     let source = Calls::new(shape.ranks());
     let player = Player::<Calls, Erased>::new(alloc, shape, port, ring, source)?;
@@ -81,6 +84,8 @@ fn handles_of(
     requires places { (k : ℕ) (p : RingPort) → slice_get rings.items k ≡ Some p →
         ring_port.IsNew (arc_value shared.now.rings) p k }
     ensures new { IfOk result (λ v. AreNew shape 0 v.items) }
+    ensures each { IfOk result (λ v. AreRanksFrom shape (arc_value shared.now.fabric)
+        (arc_value shared.now.rings) 0 v.items) }
     ensures many { IfOk result (λ v. length v.items ≡ shape.ranks) }
 {
     let mut handles = Vec::new(alloc);
@@ -98,12 +103,13 @@ fn handles_of(
 /// The ranks of a world of this shape, by their numbers.
 pub fn world(alloc: Global, shape: Shape) -> Result<Vec<Handle>, Memory>
     ensures new { IfOk result (λ v. AreNew shape 0 v.items) }
-    ensures many { IfOk result (λ v. length v.items ≡ shape.ranks) }
+    ensures one { IfOk result (λ v. AreWorld shape v.items) }
 {
     let (fabric, ports) = Fabric::<Packet>::build(alloc, shape)?;
     let (rings, ring_ports) = Rings::build(alloc, shape)?;
     let fabric = Arc::new(alloc, fabric)?;
     let rings = Arc::new(alloc, rings)?;
     let shared = Shared { fabric, rings };
-    handles_of(alloc, shape, &shared, ports, ring_ports)
+    let handles = handles_of(alloc, shape, &shared, ports, ring_ports)?;
+    Ok(handles)
 }

@@ -39,6 +39,7 @@ returns-in-Waits c =
           (record x { actor = record a { process = w } })) (sym same) c.requires.stands;
       ran = same;
       calls = refl;
+      seat = ap (λ (w : ProcessView). record { rank = a.port.rank; sizes = w.rank.sizes }) same;
     }
 
 pub returns-in-Ran : goal.returns-in-Ran
@@ -105,4 +106,5 @@ returns-in-Ran c =
           });
       ran = stepped;
       calls = c.note.ensures;
+      seat = ap (λ (z : Sizes). record { rank = a.port.rank; sizes = z }) c.in_ok-run.ensures.same.1;
     }

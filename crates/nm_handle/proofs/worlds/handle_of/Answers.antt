@@ -30,15 +30,20 @@ returns c =
     let made = c.in_ok-player.ensures in
     let stands = made.stands (arc_value c.args.shared.now.fabric) (arc_value c.args.shared.now.rings) c.requires.ranks
     c.requires.cells c.requires.places in
+    let fabric = c.in_ok-fabric.ensures in
+    let rings = c.in_ok-rings.ensures in
     record {
-      stands = subst (λ (f : Fabric Packet). PlayerInvariant shown gave f (arc_value c.in_ok-rings.rings) p)
-          (sym c.in_ok-fabric.ensures)
-          (subst (λ (r : Rings). PlayerInvariant shown gave (arc_value c.args.shared.now.fabric) r p)
-          (sym c.in_ok-rings.ensures) stands);
-      opened = refl;
-      calls = made.same.2 ∙ c.new-source.ensures
-          ∙ ap (λ (n : ℕ). record { ranks = n; at = 0; given = []; next = None }) c.ranks.ensures.value;
-      me = made.begins.0;
-      sizes = ap (λ (s : Seat). s.sizes) made.seat;
-      events = made.begins.1;
+      new = record {
+        stands = subst (λ (f : Fabric Packet). PlayerInvariant shown gave f (arc_value c.in_ok-rings.rings) p)
+            (sym fabric)
+            (subst (λ (r : Rings). PlayerInvariant shown gave (arc_value c.args.shared.now.fabric) r p)
+            (sym rings) stands);
+        opened = refl;
+        calls = made.same.2 ∙ c.new-source.ensures
+            ∙ ap (λ (n : ℕ). record { ranks = n; at = 0; given = []; next = None }) c.ranks.ensures.value;
+        me = made.begins.0;
+        sizes = ap (λ (s : Seat). s.sizes) made.seat;
+        events = made.begins.1;
+      };
+      own = record { fabric = fabric; rings = rings; seat = made.seat };
     }

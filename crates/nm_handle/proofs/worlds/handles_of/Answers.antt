@@ -11,7 +11,8 @@ use Rattle.nm_copyring.specs.declared.port.RingPort.{RingPort}
 use Rattle.nm_copyring.specs.Ports as ring_port
 use Rattle.nm_handle.specs.declared.handles.Handle.{Handle}
 use Rattle.nm_handle.specs.Standing.{AreNew, IsNewAt}
-use Rattle.nm_handle.proofs.Beginning.{new_push}
+use Rattle.nm_handle.specs.Worlds.{AreRanksFrom, IsRankAt}
+use Rattle.nm_handle.proofs.Beginning.{new_push, ranks_push}
 use Rattle.nm_handle.proofs.worlds.handles_of.Goals as goal
 
 pub loop-port-init : goal.loop-port-init
@@ -26,6 +27,8 @@ loop-port-init c =
     let both = c.requires.many.1 in
     record {
       new = subst (λ (hs : List Handle). AreNew c.args.shape 0 hs) (sym none) tt;
+      each = subst (λ (hs : List Handle). AreRanksFrom c.args.shape (arc_value c.args.shared.now.fabric)
+          (arc_value c.args.shared.now.rings) 0 hs) (sym none) tt;
       cells = λ k p here.
           let sum : k ≡ 0 + k = omega arith in
           subst (λ (hs : List Handle). IsNew (arc_value c.args.shared.now.fabric) p (length hs + k)) (sym none)
@@ -63,6 +66,8 @@ handle_of-requires c =
 
 pub loop-port-preserved : goal.loop-port-preserved
 loop-port-preserved c =
+    let f = arc_value c.args.shared.now.fabric in
+    let r = arc_value c.args.shared.now.rings in
     let before = c.loop-port.invariant in
     let handles = c.loop-port.handles.items in
     let rest = into_iter_items c.next.new.self in
@@ -83,7 +88,10 @@ loop-port-preserved c =
     record {
       new = subst (λ (hs : List Handle). AreNew c.args.shape 0 hs) (sym grown)
           (new_push c.args.shape 0 handles handle before.new
-          (subst (λ (n : ℕ). IsNewAt c.args.shape n handle) place c.in_ok-handle.ensures));
+          (subst (λ (n : ℕ). IsNewAt c.args.shape n handle) place c.in_ok-handle.ensures.new));
+      each = subst (λ (hs : List Handle). AreRanksFrom c.args.shape f r 0 hs) (sym grown)
+          (ranks_push c.args.shape f r 0 handles handle before.each
+          (subst (λ (n : ℕ). IsRankAt c.args.shape f r n handle) place c.in_ok-handle.ensures.own));
       cells = λ k p here.
           let next : length handles + suc k ≡ length c.add.new.list.items + k = omega (arith, longer) in
           subst (λ (n : ℕ). IsNew (arc_value c.args.shared.now.fabric) p n) next
