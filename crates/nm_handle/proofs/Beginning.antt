@@ -1,12 +1,14 @@
 -- The ranks of a world, one more.
-use Rattle.std.proofs.Common.{◌≡◌, ℕ, ◌+◌, suc, List, [], ◌∷◌, ◌++◌, length, subst, sym, arith}
+use Rattle.std.proofs.Common.{◌≡◌, ℕ, ◌+◌, suc, List, [], ◌∷◌, ◌++◌, length, subst, sym, ◌∙◌, arith}
+use Rattle.std.specs.List.{AllZip}
+use Rattle.std.proofs.lemmas.Slice.Zip.{AllZip-long}
 use Rattle.nm_types.specs.Sizes.{Sizes}
 use Rattle.nm_handle.specs.declared.handles.Handle.{Handle}
 use Rattle.nm_types.specs.declared.packets.Packet.{Packet}
 use Rattle.nm_cells.specs.declared.port.Fabric.{Fabric}
 use Rattle.nm_copyring.specs.declared.port.Rings.{Rings}
 use Rattle.nm_handle.specs.Standing.{AreNew, IsNewAt}
-use Rattle.nm_handle.specs.Worlds.{AreRanksFrom, IsRankAt}
+use Rattle.nm_handle.specs.Worlds.{AreRanksFrom, AreWorld, IsRankAt, IsSameRank}
 
 pub new_push : (shape : Sizes) (k : ℕ) (hs : List Handle) (h : Handle) → AreNew shape k hs →
     IsNewAt shape (k + length hs) h → AreNew shape k (hs ++ h ∷ [])
@@ -23,3 +25,26 @@ ranks_push shape f r k [] h each one =
 ranks_push shape f r k (x ∷ hs) h each one =
     let same : k + suc (length hs) ≡ (k + 1) + length hs = omega arith in
     (each.0, ranks_push shape f r (k + 1) hs h each.1 (subst (λ (n : ℕ). IsRankAt shape f r n h) same one))
+
+ranks_stay : (shape : Sizes) (f : Fabric Packet) (r : Rings) (k : ℕ) (hs gs : List Handle) →
+    AreRanksFrom shape f r k hs → AllZip IsSameRank hs gs → AreRanksFrom shape f r k gs
+ranks_stay shape f r k [] [] each same = tt
+ranks_stay shape f r k [] (g ∷ gs) each same = absurd same
+ranks_stay shape f r k (h ∷ hs) [] each same = absurd same
+ranks_stay shape f r k (h ∷ hs) (g ∷ gs) each same =
+    let was = each.0 in
+    let is = same.0 in (
+      record { fabric = is.fabric ∙ was.fabric; rings = is.rings ∙ was.rings; seat = is.seat ∙ was.seat },
+      ranks_stay shape f r (k + 1) hs gs each.1 same.1,
+    )
+
+pub world_stays : (shape : Sizes) (hs gs : List Handle) → AreWorld shape hs → AllZip IsSameRank hs gs →
+    AreWorld shape gs
+world_stays shape hs gs w same = record {
+  fabric = w.fabric;
+  rings = w.rings;
+  ranks = w.ranks;
+  cells = w.cells;
+  each = ranks_stay shape w.fabric w.rings 0 hs gs w.each same;
+  many = AllZip-long IsSameRank hs gs same ∙ w.many;
+}

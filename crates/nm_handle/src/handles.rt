@@ -264,4 +264,18 @@ impl Handle {
             State::Failed => Err(Fault::Failed),
         }
     }
+
+    /// Its player, and whether it takes calls.
+    pub(crate) fn into_player(self) -> (Player<Calls, Erased>, State)
+        ensures { (result.0 ≡ self.player) × (result.1 ≡ self.state) }
+    {
+        let Handle {
+            fabric: _,
+            rings: _,
+            player,
+            state,
+            live: _,
+        } = self;
+        (player, state)
+    }
 }

@@ -14,15 +14,21 @@
 //! - A call does what its command does to the process (`ran`), and tells its answer (`answer`); one that is
 //!   refused does nothing, unless it was refused memory (`refused`), and each refusal has its cause (`cause`).
 //! - A turn takes at most 140 word steps for each rank, and 2,048 (`Player::turn`).
+//! - Where all ranks of a world are given back and are at rest, the calls of the ranks and their answers are those of
+//!   a lawful run, whatever their callers did and in which order (`end`: `run`); where there is no end, it is said
+//!   why (`why`). The ranks stay those of their world (`world`: `one`; `laws`).
 //! # What is not
 //! - No clause counts the live requests (`live`), and nothing here runs in a thread: that is left to the callers.
 #![tactic(auto)]
 
+mod ends;
 mod handles;
+pub mod laws;
 mod states;
 mod steps;
 mod worlds;
 
+pub use ends::{Ended, Unended, end};
 pub use handles::Handle;
 pub use states::State;
 pub use worlds::world;

@@ -23,13 +23,13 @@ use std::sync::Arc;
 
 // What all ranks of a world share.
 #[derive(Drop)]
-struct Shared {
-    fabric: Arc<Fabric<Packet>, Global>,
-    rings: Arc<Rings, Global>,
+pub(crate) struct Shared {
+    pub(crate) fabric: Arc<Fabric<Packet>, Global>,
+    pub(crate) rings: Arc<Rings, Global>,
 }
 
 // Puts one more at the end.
-fn add<T: Drop>(list: &mut Vec<T>, x: T) -> Result<(), Memory>
+pub(crate) fn add<T: Drop>(list: &mut Vec<T>, x: T) -> Result<(), Memory>
     ensures { IfOk result (λ _. list.new.items ≡ list.old.items ++ x ∷ []) }
 {
     match list.push(x) {
