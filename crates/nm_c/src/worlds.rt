@@ -1,0 +1,54 @@
+//! The ranks of a world, for C.
+
+use crate::Rank;
+use crate::codes::Code;
+use crate::parts::Parts;
+use crate::words::shape;
+use nm_handle::{Handle, world};
+use nm_types::Memory;
+use std::alloc::Global;
+
+// A handle on the heap.
+fn boxed(alloc: Global, handle: Handle) -> Result<Rank, Memory> {
+    match Box::new(alloc, handle) {
+        Ok(it) => Ok(Rank::of_parts(Parts::of(it))),
+        Err(_) => Err(Memory),
+    }
+}
+
+// Puts one more at the end.
+fn add(list: &mut Vec<Rank>, rank: Rank) -> Result<(), Memory> {
+    match list.push(rank) {
+        Ok(()) => Ok(()),
+        Err(_) => Err(Memory),
+    }
+}
+
+// The ranks of a world.
+fn ranks_of(alloc: Global, handles: Vec<Handle>) -> Result<Vec<Rank>, Memory> {
+    let mut ranks = Vec::new(alloc);
+    for handle in handles {
+        let rank = boxed(alloc, handle)?;
+        add(&mut ranks, rank)?;
+    }
+    Ok(ranks)
+}
+
+/// Makes a world, and writes the ranks.
+pub(crate) fn make(
+    alloc: Global,
+    places: &mut [*mut u8],
+    cells: u32,
+    eager: u32,
+) -> Result<Code, Code> {
+    let shape = shape(places.len(), cells, eager)?;
+    let handles = world(alloc, shape)?;
+    let ranks = ranks_of(alloc, handles)?;
+    let mut ranks = ranks.into_iter();
+    for place in places.iter_mut() {
+        if let Some(rank) = ranks.next() {
+            *place = rank.into_raw();
+        }
+    }
+    Ok(Code::Done)
+}
