@@ -1,0 +1,214 @@
+/* ranks.c: a thread for each rank, which runs the program's `main`; what begins and ends it. */
+#include "parts.h"
+#include <errno.h>
+#include <pthread.h>
+#include <sched.h>
+#include <stdatomic.h>
+#include <stdio.h>
+#include <stdlib.h>
+#include <string.h>
+#include <time.h>
+#include <unistd.h>
+
+/* How many turns in which nothing moves a thread makes before it lets others have the processor. */
+static unsigned patience;
+static atomic_int finalized;
+
+/* The program's `main`, by the linker's --wrap=main. */
+int __real_main(int count, char **words);
+
+struct start {
+    struct rank *rank;
+    int count, status;
+    char **words;
+};
+
+static void fail(const char *cause) {
+    fprintf(stderr, "nemesis_mpi: %s\n", cause);
+    exit(70);
+}
+
+static void *run(void *given) {
+    struct start *it = given;
+    char **words = malloc((it->count + 1) * sizeof *words);
+    if (!words) fail("out of memory");
+    memcpy(words, it->words, (it->count + 1) * sizeof *words);
+    me = it->rank;
+    it->status = __real_main(it->count, words);
+    free(words);
+    if (me->is_begun && !me->is_over) {
+        fprintf(stderr, "nemesis_mpi: rank %d ended without MPI_Finalize\n", me->number);
+        stop(it->status ? it->status : 1);
+    }
+    return NULL;
+}
+
+/* A number of the environment, if it is set. */
+static uint32_t setting(const char *name, uint32_t usual) {
+    const char *text = getenv(name);
+    if (!text) return usual;
+    char *last;
+    unsigned long number = strtoul(text, &last, 10);
+    if (last == text || *last || number > NM_MAX_EAGER) fail("a NEMESIS_ variable has no number in range");
+    return (uint32_t)number;
+}
+
+static struct rank *new_rank(nm_rank core) {
+    struct rank *it = calloc(1, sizeof *it);
+    if (!it) fail("out of memory");
+    it->core = core;
+    it->number = (int)nm_number(&it->core);
+    it->count = (int)nm_count(&it->core);
+    it->comms[0] = (struct communicator){.is_used = true};
+    it->comms[1] = (struct communicator){.is_used = true, .is_self = true};
+    return it;
+}
+
+static int free_rank(struct start *it) {
+    nm_rank_free(it->rank->core);
+    while (it->rank->spare) {
+        struct nemesis_request *spare = it->rank->spare;
+        it->rank->spare = spare->next;
+        free(spare);
+    }
+    free(it->rank);
+    return it->status;
+}
+
+int __wrap_main(int count, char **words) {
+    nm_rank cores[NM_MAX_RANKS];
+    pthread_t threads[NM_MAX_RANKS];
+    struct start starts[NM_MAX_RANKS];
+    uint32_t ranks = setting("NEMESIS_RANKS", 2), cells = setting("NEMESIS_CELLS", NM_WORLD_CELLS);
+    if (nm_world_new(cores, ranks, cells, setting("NEMESIS_EAGER", NM_WORLD_EAGER)) != NM_OK)
+        fail("there is no such world: NEMESIS_RANKS is 1 to 64, NEMESIS_CELLS 1 to 64");
+    patience = ranks <= (uint32_t)sysconf(_SC_NPROCESSORS_ONLN) ? 2000 : 20;
+    for (uint32_t k = 0; k < ranks; k++) {
+        starts[k] = (struct start){new_rank(cores[k]), count, 0, words};
+        if (pthread_create(&threads[k], NULL, run, &starts[k])) fail("a thread was refused");
+    }
+    int status = 0;
+    for (uint32_t k = 0; k < ranks; k++) pthread_join(threads[k], NULL);
+    for (uint32_t k = 0; k < ranks; k++) {
+        int its = free_rank(&starts[k]);
+        if (!status) status = its;
+    }
+    return status;
+}
+
+static bool take_number(struct numbers *numbers, uint32_t *number) {
+    if (numbers->kept)
+        *number = numbers->back[--numbers->kept];
+    else if (numbers->fresh <= NM_MAX_NAME)
+        *number = numbers->fresh++;
+    else
+        return false;
+    return true;
+}
+
+static void give_number(struct numbers *numbers, uint32_t number) { numbers->back[numbers->kept++] = (uint16_t)number; }
+
+/* One turn of the rank, and of what goes on by itself (3.5, progress). */
+static bool turn(void) {
+    bool moved = nm_progress(&me->core) == NM_MOVED;
+    for (struct nemesis_request *it = me->chores, *next; it; it = next) {
+        next = it->next;
+        advance(it);
+    }
+    return moved;
+}
+
+/* After a turn of a call that waits. */
+static void rest(unsigned *idle, bool moved) {
+    *idle = moved ? 0 : *idle + 1;
+    if (*idle > patience) sched_yield();
+}
+
+static _Noreturn void stop(int status) {
+    fflush(NULL);
+    _exit(status);
+}
+
+int MPI_Init(int *count, char ***words) {
+    (void)count, (void)words;
+    if (!me) fail("a thread that is no rank called MPI: is the program linked with -Wl,--wrap=main?");
+    me->is_begun = true;
+    return MPI_SUCCESS;
+}
+
+int MPI_Init_thread(int *count, char ***words, int required, int *provided) {
+    (void)required;
+    *provided = MPI_THREAD_FUNNELED;
+    return MPI_Init(count, words);
+}
+
+int MPI_Initialized(int *flag) {
+    *flag = me && me->is_begun;
+    return MPI_SUCCESS;
+}
+
+int MPI_Finalized(int *flag) {
+    *flag = me && me->is_over;
+    return MPI_SUCCESS;
+}
+
+/* Whether a rank has something to send, or a freed request to send it. */
+static bool has_to_send(void) {
+    nm_left left = {0};
+    nm_left_of(&me->core, &left);
+    if (left.to_send) return true;
+    struct nemesis_request *it = me->chores;
+    while (it && it->mode == RECEIVE) it = it->next;
+    return it;
+}
+
+static void wait_for_all(void) {
+    unsigned idle = 0;
+    atomic_fetch_add(&finalized, 1);
+    while (atomic_load(&finalized) < me->count) rest(&idle, turn());
+    while (turn()) {}
+}
+
+int MPI_Finalize(void) {
+    unsigned idle = 0;
+    while (has_to_send()) rest(&idle, turn());
+    wait_for_all();
+    while (me->chores) {
+        end(me->chores, MPI_SUCCESS);
+    }
+    while (me->held) {
+        struct nemesis_message *it = me->held;
+        me->held = it->next;
+        drop_message(it);
+    }
+    nm_left left;
+    nm_close(&me->core, &left);
+    me->is_over = true;
+    return MPI_SUCCESS;
+}
+
+int MPI_Abort(MPI_Comm comm, int status) {
+    (void)comm;
+    fprintf(stderr, "nemesis_mpi: rank %d aborts with %d\n", me->number, status);
+    stop(status);
+}
+
+double MPI_Wtime(void) {
+    struct timespec now;
+    clock_gettime(CLOCK_MONOTONIC, &now);
+    return (double)now.tv_sec + (double)now.tv_nsec * 1e-9;
+}
+
+double MPI_Wtick(void) { return 1e-9; }
+
+int MPI_Get_version(int *version, int *subversion) {
+    *version = MPI_VERSION;
+    *subversion = MPI_SUBVERSION;
+    return MPI_SUCCESS;
+}
+
+int MPI_Get_processor_name(char *name, int *length) {
+    if (gethostname(name, MPI_MAX_PROCESSOR_NAME)) strcpy(name, "unknown");
+    *length = (int)strlen(name);
+    return MPI_SUCCESS;
+}

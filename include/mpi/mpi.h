@@ -1,0 +1,2 @@
+/* mpi.h: for programs that ask for it by this name. */
+#include "../nemesis_mpi.h"

@@ -1,0 +1,1 @@
+/* mpitestconf.h: nothing to configure. */
