@@ -119,13 +119,13 @@ int MPI_Startall(int count, MPI_Request requests[]) {
     return error;
 }
 
-/* A send and a receive that go on side by side (3.10). */
+/* A send and a receive that go on side by side (3.10). The send starts first: so the receive may write over it. */
 static int both(struct nemesis_request *out, struct nemesis_request *in, MPI_Status *status, const char *call) {
-    int error = start(in);
-    if (!error) error = start(out);
+    int error = start(out);
     if (error) return raised(out->comm, error, call);
+    error = start(in);
     finish(out);
-    return out->error ? raised(out->comm, out->error, call) : wait_for(in, MPI_SUCCESS, status, call);
+    return out->error ? raised(out->comm, out->error, call) : wait_for(in, error, status, call);
 }
 
 int MPI_Sendrecv(const void *out, int outs, MPI_Datatype out_type, int to, int out_tag, void *in, int ins,
@@ -136,18 +136,14 @@ int MPI_Sendrecv(const void *out, int outs, MPI_Datatype out_type, int to, int o
     return error ? raised(comm, error, __func__) : both(&sent, &got, status, __func__);
 }
 
-/* What is sent is copied by its start, but for the end of a long message: that is sent before the receive starts. */
+/* What is sent is copied by its start. */
 int MPI_Sendrecv_replace(void *at, int count, MPI_Datatype type, int to, int out_tag, int from, int in_tag,
                          MPI_Comm comm, MPI_Status *status) {
     struct nemesis_request sent, got;
     int error = prepare(&sent, STANDARD, at, count, type, to, out_tag, comm);
     if (!error) error = prepare(&got, RECEIVE, at, count, type, from, in_tag, comm);
-    if (!error && sent.length >= HEAD) error = MPI_ERR_COUNT;
-    if (!error) error = start(&sent);
-    if (!error) error = start(&got);
-    if (error) return raised(comm, error, __func__);
-    finish(&sent);
-    return sent.error ? raised(comm, sent.error, __func__) : wait_for(&got, MPI_SUCCESS, status, __func__);
+    sent.is_copied = true;
+    return error ? raised(comm, error, __func__) : both(&sent, &got, status, __func__);
 }
 
 int MPI_Buffer_attach(void *at, int size) {

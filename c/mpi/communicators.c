@@ -14,13 +14,8 @@ static struct communicator *known(MPI_Comm comm) {
 
 static uint32_t context_of(MPI_Comm comm) { return 2 * (uint32_t)(comm - nemesis_comms); }
 
-/* A rank of the communicator, as one of the world; and back. */
+/* A rank of the communicator, as one of the world. */
 static uint32_t in_world(MPI_Comm comm, int rank) { return (uint32_t)(known(comm)->is_self ? me->number : rank); }
-
-static int in_comm(MPI_Comm comm, uint32_t rank) {
-    struct communicator *of = known(comm);
-    return of && of->is_self ? 0 : (int)rank;
-}
 
 static int error_of(nm_code code) {
     switch (code) {
@@ -118,8 +113,9 @@ enum { BARRIER, MASK = 64, AGREED };
 /* A message among the communicator's own. */
 static int pass(enum mode mode, void *at, int length, int peer, int tag, MPI_Comm comm, struct nemesis_request *it) {
     int error = prepare(it, mode, at, length, MPI_BYTE, peer, tag, comm);
+    if (error) return error;
     it->context++;
-    return error ? error : start(it);
+    return start(it);
 }
 
 static int passed(enum mode mode, void *at, int length, int peer, int tag, MPI_Comm comm) {

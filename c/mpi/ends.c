@@ -43,17 +43,25 @@ static int collect_one(MPI_Request *request, MPI_Status *status, const char *cal
     return raised(comm, error, call);
 }
 
-/* Of these requests, by their places if they are not all: each status has its own error (3.7.5). */
-static int collect_all(int count, MPI_Request all[], const int *places, MPI_Status statuses[], const char *call) {
-    MPI_Comm comm = MPI_COMM_WORLD;
-    int first = MPI_SUCCESS;
+/* The first of these requests that has an error, by their places if they are not all. */
+static MPI_Request failed(int count, MPI_Request all[], const int *places) {
     for (int k = 0; k < count; k++) {
-        MPI_Comm of = MPI_COMM_WORLD;
-        int error = collect(&all[places ? places[k] : k], statuses ? &statuses[k] : MPI_STATUS_IGNORE, &of);
-        if (statuses) statuses[k].MPI_ERROR = error;
-        if (error && !first) first = error, comm = of;
+        MPI_Request it = all[places ? places[k] : k];
+        if (takes_part(it) && it->error) return it;
     }
-    return raised(comm, first && statuses ? MPI_ERR_IN_STATUS : first, call);
+    return MPI_REQUEST_NULL;
+}
+
+/* Collects them; where one has an error, each status tells its own (3.7.5). */
+static int collect_all(int count, MPI_Request all[], const int *places, MPI_Status statuses[], const char *call) {
+    MPI_Request first = failed(count, all, places);
+    MPI_Comm of, comm = first ? first->comm : MPI_COMM_WORLD;
+    int told = !first ? MPI_SUCCESS : statuses ? MPI_ERR_IN_STATUS : first->error;
+    for (int k = 0; k < count; k++) {
+        int error = collect(&all[places ? places[k] : k], statuses ? &statuses[k] : MPI_STATUS_IGNORE, &of);
+        if (told == MPI_ERR_IN_STATUS) statuses[k].MPI_ERROR = error;
+    }
+    return raised(comm, told, call);
 }
 
 int MPI_Wait(MPI_Request *request, MPI_Status *status) {

@@ -49,17 +49,19 @@ enum state { INACTIVE, ACTIVE, COMPLETE };
 struct nemesis_request {
     enum state state;
     enum mode mode;
-    bool is_persistent, is_freed, is_chore, is_asked; /* asked: its cancel */
-    bool has_head;                                    /* the first part is there, or gone */
-    uint32_t name, context;
+    bool is_persistent, is_freed, is_chore;
+    bool is_asked;  /* to be cancelled */
+    bool is_copied; /* the rest of a long message is, by its start */
+    bool has_head;  /* the first part is there, or gone */
+    bool is_self, is_null; /* its communicator is a rank's own; the other rank is the null process */
     MPI_Comm comm;
-    int peer, tag;
+    uint32_t name, context, other, tag; /* as the core has them */
     uint8_t *at; /* the message, or the memory for it */
     size_t length;
     uint8_t *own;             /* memory of this request: a copy of the message, or a head on its way */
     size_t whole, done, part; /* bytes of the message, of its parts so far, of the part that is on its way */
     uint64_t serial;
-    uint32_t from; /* the rank of the world that a message came from */
+    uint32_t from; /* where a message came from */
     int error;
     MPI_Status status;
     struct nemesis_request *next;
@@ -112,7 +114,6 @@ static void drop_message(struct nemesis_message *message);
 static struct communicator *known(MPI_Comm comm);
 static uint32_t context_of(MPI_Comm comm);
 static uint32_t in_world(MPI_Comm comm, int rank);
-static int in_comm(MPI_Comm comm, uint32_t rank);
 static int error_of(nm_code code);
 static int raised(MPI_Comm comm, int error, const char *call);
 

@@ -109,8 +109,9 @@ static bool look(const struct selection *of, struct nemesis_message *seen, struc
     nm_status told;
     *place = place_of(of);
     if (**place) {
+        bool is_seen = is_known(**place);
         *seen = ***place;
-        return is_known(**place) && (*seen = ***place, true);
+        return is_seen;
     }
     *place = NULL;
     nm_code code = nm_iprobe(&me->core, of->from, of->tag, of->context, &told);
@@ -121,20 +122,17 @@ static bool look(const struct selection *of, struct nemesis_message *seen, struc
     return true;
 }
 
-/* What the source and the tag of a probe select. */
+/* What the source and the tag of a probe select: what a receive would. */
 static int selection_of(struct selection *it, int from, int tag, MPI_Comm comm) {
     struct nemesis_request like;
-    int error = prepare(&like, RECEIVE, "", 0, MPI_BYTE, from, tag, comm);
-    if (error) return error;
-    it->from = from == MPI_ANY_SOURCE ? NM_ANY : in_world(comm, from);
-    it->tag = tag == MPI_ANY_TAG ? NM_ANY : (uint32_t)tag;
-    it->context = like.context;
-    return MPI_SUCCESS;
+    int error = prepare(&like, RECEIVE, NULL, 0, MPI_BYTE, from, tag, comm);
+    if (!error) *it = (struct selection){like.other, like.tag, like.context};
+    return error;
 }
 
 static void tell_seen(MPI_Status *status, const struct nemesis_message *seen, MPI_Comm comm) {
-    MPI_Status told = {in_comm(comm, seen->from), (int)seen->tag, MPI_SUCCESS, 0, seen->length};
-    tell(status, &told);
+    int from = known(comm)->is_self ? 0 : (int)seen->from;
+    tell(status, &(MPI_Status){from, (int)seen->tag, MPI_SUCCESS, 0, seen->length});
 }
 
 static void tell_none(MPI_Status *status) {

@@ -26,8 +26,12 @@ static int prepare(struct nemesis_request *it, enum mode mode, const void *at, i
             int tag, MPI_Comm comm) {
     int error = wrong(mode, count, type, peer, tag, comm);
     if (error) return error;
-    *it = (struct nemesis_request){.mode = mode, .comm = comm, .peer = peer, .tag = tag};
-    it->context = context_of(comm);
+    *it = (struct nemesis_request){.mode = mode, .comm = comm, .context = context_of(comm)};
+    it->is_self = known(comm)->is_self;
+    it->is_null = peer == MPI_PROC_NULL;
+    it->is_copied = mode == BUFFERED;
+    it->other = peer < 0 ? NM_ANY : in_world(comm, peer);
+    it->tag = tag < 0 ? NM_ANY : (uint32_t)tag;
     it->at = at ? (uint8_t *)at : nothing;
     it->length = (size_t)count * type->size;
     return !at && it->length ? MPI_ERR_BUFFER : MPI_SUCCESS;
@@ -91,8 +95,8 @@ static void go_on(struct nemesis_request *it) {
     if (it->mode == RECEIVE)
         code = nm_irecv(&me->core, it->name, it->from, tag, REST_CONTEXT, NM_MAX_LENGTH);
     else
-        code = nm_isend(&me->core, it->name, in_world(it->comm, it->peer), tag, REST_CONTEXT,
-                        (it->own ? it->own : it->at) + it->done, it->part);
+        code = nm_isend(&me->core, it->name, it->other, tag, REST_CONTEXT, (it->own ? it->own : it->at) + it->done,
+                        it->part);
     if (code) end(it, error_of(code));
 }
 
@@ -119,7 +123,7 @@ static int read_trailer(struct nemesis_request *it) {
 static int take_first(struct nemesis_request *it, uint32_t from, uint32_t tag, size_t length) {
     it->has_head = true;
     it->from = from;
-    it->status.MPI_SOURCE = in_comm(it->comm, from);
+    it->status.MPI_SOURCE = it->is_self ? 0 : (int)from;
     it->status.MPI_TAG = (int)tag;
     it->whole = it->done = length;
     return length == HEAD ? read_trailer(it) : MPI_SUCCESS;
@@ -191,14 +195,14 @@ static void finish(struct nemesis_request *it) {
 static nm_code send_first(struct nemesis_request *it, const uint8_t *at, size_t length) {
     nm_code (*send)(nm_rank *, uint32_t, uint32_t, uint32_t, uint32_t, const uint8_t *, size_t) = nm_isend;
     if (it->mode == SYNCHRONOUS) send = nm_issend;
-    return send(&me->core, it->name, in_world(it->comm, it->peer), (uint32_t)it->tag, it->context, at, length);
+    return send(&me->core, it->name, it->other, it->tag, it->context, at, length);
 }
 
 static nm_code send_head(struct nemesis_request *it) {
     struct trailer trailer = {it->length, me->longs++};
     uint8_t *head = malloc(HEAD);
     if (!head) return NM_MEMORY;
-    if (it->mode == BUFFERED && !(it->own = malloc(it->length))) {
+    if (it->is_copied && !(it->own = malloc(it->length))) {
         free(head);
         return NM_MEMORY;
     }
@@ -240,11 +244,9 @@ static nm_code receive_message(struct nemesis_request *it, struct nemesis_messag
 }
 
 static nm_code receive(struct nemesis_request *it) {
-    uint32_t from = it->peer == MPI_ANY_SOURCE ? NM_ANY : in_world(it->comm, it->peer);
-    uint32_t tag = it->tag == MPI_ANY_TAG ? NM_ANY : (uint32_t)it->tag;
-    struct nemesis_message *held = me->held ? take_held(from, tag, it->context) : NULL;
+    struct nemesis_message *held = me->held ? take_held(it->other, it->tag, it->context) : NULL;
     if (held) return receive_message(it, held);
-    return nm_irecv(&me->core, it->name, from, tag, it->context, NM_MAX_LENGTH);
+    return nm_irecv(&me->core, it->name, it->other, it->tag, it->context, NM_MAX_LENGTH);
 }
 
 /* Room for a buffered send: its bytes and its overhead (3.6.1). */
@@ -274,7 +276,7 @@ static int take_means(struct nemesis_request *it) {
 /* Starts a request; of a claimed message, if there is one. */
 static int start_of(struct nemesis_request *it, struct nemesis_message *message) {
     renew(it);
-    if (it->peer == MPI_PROC_NULL) {
+    if (it->is_null) {
         it->state = COMPLETE;
         it->status.MPI_SOURCE = MPI_PROC_NULL;
         return MPI_SUCCESS;
