@@ -11,7 +11,7 @@
  * - Global and static variables are shared by all ranks. c/each.c runs a program with a copy of them for each rank.
  * - Only the thread of a rank calls MPI. A rank whose `main` is back without MPI_Finalize ends the process.
  * - Types are contiguous, of a fixed size, and all communicators have all ranks, but for MPI_COMM_SELF and its
- *   duplicates: 126 at a time.
+ *   duplicates: 125 at a time.
  * - Errors end the process, or are returned (MPI_ERRORS_RETURN).
  * - A ready send is a standard send. The core copies what is sent, so a buffered send only counts its buffer's bytes.
  *
