@@ -1,54 +1,77 @@
-/* each.c: runs a program whose global variables each rank has for itself.
+/* each.c: runs a program whose global variables each rank has for itself: each rank loads a copy of it.
  *
- *     cc -shared -fPIC -Wl,-Bsymbolic -Iinclude -Iinclude/mpi program.c -o program.so
- *     cc c/each.c c/nemesis_mpi.c libnemesis.a -pthread -rdynamic -ldl -Wl,--wrap=main -o each
- *     NEMESIS_RANKS=4 ./each ./program.so WORD ..
- *
- * Each rank loads a copy of the program's file, and runs its `main`. */
+ * The program is a shared library with a `main`. It is appended to this one's own file, with a last line that has its
+ * length (mpicc), or is the first word. */
+#define _GNU_SOURCE
 #include <dlfcn.h>
-#include <errno.h>
+#include <fcntl.h>
 #include <stdio.h>
 #include <stdlib.h>
 #include <string.h>
 #include <sys/sendfile.h>
 #include <sys/stat.h>
 #include <unistd.h>
-#include <fcntl.h>
 
-static int failed(const char *what) {
-    fprintf(stderr, "each: %s: %s\n", what, strerror(errno));
-    return -1;
+/* The last line: "nemesis ", the length in 20 digits, and a newline. */
+enum { LINE = 29 };
+
+/* A file, and where the program is in it. */
+struct place {
+    int file;
+    off_t from, length;
+};
+
+static int fail(const char *what) {
+    perror(what);
+    return 70;
 }
 
-/* Copies the file to a new one, whose name is written; -1 where that fails. */
-static int copy(const char *from, char *name) {
+/* Whether a program is appended to this one's own file. */
+static int is_appended(struct place *at) {
+    char line[LINE + 1] = "";
     struct stat of;
-    int in = open(from, O_RDONLY | O_CLOEXEC);
-    if (in < 0 || fstat(in, &of)) return failed(from);
-    int out = mkstemp(name);
-    if (out < 0) return failed(name);
-    for (off_t left = of.st_size; left > 0;) {
-        ssize_t sent = sendfile(out, in, NULL, (size_t)left);
-        if (sent <= 0) return failed(name);
-        left -= sent;
-    }
-    close(in);
-    return close(out);
+    at->file = open("/proc/self/exe", O_RDONLY | O_CLOEXEC);
+    if (at->file < 0 || fstat(at->file, &of)) return 0;
+    if (pread(at->file, line, LINE, of.st_size - LINE) != LINE || strncmp(line, "nemesis ", 8)) return close(at->file);
+    at->length = (off_t)strtoll(line + 8, NULL, 10);
+    at->from = of.st_size - LINE - at->length;
+    return 1;
 }
 
-int main(int count, char **words) {
+static int find(struct place *at, const char *name) {
+    struct stat of;
+    at->file = open(name, O_RDONLY | O_CLOEXEC);
+    if (at->file < 0 || fstat(at->file, &of)) return -1;
+    at->from = 0;
+    at->length = of.st_size;
+    return 0;
+}
+
+/* Copies the program to a new file, whose name is written. */
+static int copy(const struct place *at, char *name) {
+    off_t from = at->from, end = at->from + at->length;
+    int out = mkstemp(name);
+    while (out >= 0 && from < end)
+        if (sendfile(out, at->file, &from, (size_t)(end - from)) <= 0) return -1;
+    return out < 0 ? out : close(out);
+}
+
+/* Loads a copy, and runs its `main`. */
+static int run(const struct place *at, int count, char **words) {
     char name[] = "/tmp/nemesis_each_XXXXXX";
-    if (count < 2) {
-        fputs("usage: each PROGRAM.so WORD ..\n", stderr);
-        return 2;
-    }
-    if (copy(words[1], name)) return 70;
+    if (copy(at, name)) return fail(name);
     void *program = dlopen(name, RTLD_NOW | RTLD_LOCAL);
     unlink(name);
     int (*its_main)(int, char **) = program ? (int (*)(int, char **))dlsym(program, "main") : NULL;
-    if (!its_main) {
-        fprintf(stderr, "each: %s\n", dlerror());
-        return 70;
-    }
-    return its_main(count - 1, words + 1);
+    if (its_main) return its_main(count, words);
+    fprintf(stderr, "each: %s\n", dlerror());
+    return 70;
+}
+
+int main(int count, char **words) {
+    struct place at;
+    if (is_appended(&at)) return run(&at, count, words);
+    if (count < 2) return fprintf(stderr, "usage: each PROGRAM WORD ..\n"), 2;
+    if (find(&at, words[1])) return fail(words[1]);
+    return run(&at, count - 1, words + 1);
 }

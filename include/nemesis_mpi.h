@@ -31,7 +31,8 @@
 #define MPI_SUBVERSION 1
 
 enum { MPI_PROC_NULL = -1, MPI_ANY_SOURCE = -2, MPI_ANY_TAG = -1, MPI_UNDEFINED = -32766 };
-enum { MPI_MAX_PROCESSOR_NAME = 256, MPI_MAX_ERROR_STRING = 128, MPI_BSEND_OVERHEAD = 32 };
+enum { MPI_MAX_PROCESSOR_NAME = 256, MPI_MAX_ERROR_STRING = 128, MPI_MAX_LIBRARY_VERSION_STRING = 64 };
+enum { MPI_BSEND_OVERHEAD = 32 };
 enum { MPI_THREAD_SINGLE, MPI_THREAD_FUNNELED, MPI_THREAD_SERIALIZED, MPI_THREAD_MULTIPLE };
 #define MPI_BOTTOM ((void *)0)
 
@@ -126,6 +127,7 @@ int MPI_Abort(MPI_Comm comm, int status);
 double MPI_Wtime(void);
 double MPI_Wtick(void);
 int MPI_Get_version(int *version, int *subversion);
+int MPI_Get_library_version(char *text, int *length);
 int MPI_Get_processor_name(char *name, int *length);
 int MPI_Error_class(int error, int *class_of);
 int MPI_Error_string(int error, char *text, int *length);

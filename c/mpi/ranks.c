@@ -7,6 +7,7 @@
 #include <stdio.h>
 #include <stdlib.h>
 #include <string.h>
+#include <sys/utsname.h>
 #include <time.h>
 #include <unistd.h>
 
@@ -201,6 +202,11 @@ double MPI_Wtime(void) {
 
 double MPI_Wtick(void) { return 1e-9; }
 
+int MPI_Get_library_version(char *text, int *length) {
+    *length = snprintf(text, MPI_MAX_LIBRARY_VERSION_STRING, "nemesis, ranks as threads");
+    return MPI_SUCCESS;
+}
+
 int MPI_Get_version(int *version, int *subversion) {
     *version = MPI_VERSION;
     *subversion = MPI_SUBVERSION;
@@ -208,7 +214,8 @@ int MPI_Get_version(int *version, int *subversion) {
 }
 
 int MPI_Get_processor_name(char *name, int *length) {
-    if (gethostname(name, MPI_MAX_PROCESSOR_NAME)) strcpy(name, "unknown");
-    *length = (int)strlen(name);
+    struct utsname host = {0};
+    uname(&host);
+    *length = snprintf(name, MPI_MAX_PROCESSOR_NAME, "%s", host.nodename);
     return MPI_SUCCESS;
 }
