@@ -4,6 +4,7 @@
  */
 #include "nemesis.h"
 #include <pthread.h>
+#include <sched.h>
 #include <stdio.h>
 #include <stdlib.h>
 
@@ -14,10 +15,11 @@ static void stop(const char *call, nm_code code) {
     exit(1);
 }
 
-/* Until the request is complete: asks, and makes turns. */
+/* Until the request is complete: asks, and makes turns; where nothing moves, others may have the processor. */
 static nm_code wait_for(nm_rank *rank, nm_status *status, uint8_t *body) {
     nm_code code;
-    while ((code = nm_test(rank, NAME, status, body, LENGTH)) == NM_PENDING) nm_progress(rank);
+    while ((code = nm_test(rank, NAME, status, body, LENGTH)) == NM_PENDING)
+        if (nm_progress(rank) == NM_IDLE) sched_yield();
     return code;
 }
 

@@ -3,7 +3,7 @@
 //! A [`Rank`] can be sent to the thread that drives it, and is used by one call at a time: what nemesis.h asks of its
 //! caller in words, the borrow checker asks here. A call that waits makes turns of its rank meanwhile.
 
-use std::fmt;
+use std::{fmt, thread};
 
 mod calls;
 
@@ -112,7 +112,9 @@ impl Rank {
             if code != calls::PENDING {
                 return (code, status);
             }
-            self.progress();
+            if !self.progress() {
+                thread::yield_now();
+            }
         }
     }
 }
