@@ -18,7 +18,9 @@ pub struct Handle {
 
 impl Handle {
     pub fn empty() -> Self {
-        Handle { at: std::ptr::null_mut() }
+        Handle {
+            at: std::ptr::null_mut(),
+        }
     }
 }
 
@@ -35,7 +37,13 @@ extern "C" {
     pub fn nm_number(rank: *mut Handle) -> u32;
     pub fn nm_count(rank: *mut Handle) -> u32;
     pub fn nm_isend(
-        rank: *mut Handle, name: u32, to: u32, tag: u32, context: u32, body: *const u8, length: usize,
+        rank: *mut Handle,
+        name: u32,
+        to: u32,
+        tag: u32,
+        context: u32,
+        body: *const u8,
+        length: usize,
     ) -> u32;
     pub fn nm_irecv(rank: *mut Handle, name: u32, from: u32, tag: u32, context: u32, capacity: u32) -> u32;
     pub fn nm_test(rank: *mut Handle, name: u32, status: *mut Status, body: *mut u8, room: usize) -> u32;

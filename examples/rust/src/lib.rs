@@ -98,7 +98,11 @@ impl Rank {
         match self.wait(RECEIVE, &mut body) {
             (calls::RECEIVED, it) => {
                 body.truncate(it.length as usize);
-                Ok(Message { from: it.from, tag: it.tag, body })
+                Ok(Message {
+                    from: it.from,
+                    tag: it.tag,
+                    body,
+                })
             }
             (code, _) => Err(Refused(code)),
         }
@@ -107,8 +111,7 @@ impl Rank {
     fn wait(&mut self, name: u32, body: &mut [u8]) -> (u32, calls::Status) {
         let mut status = calls::Status::default();
         loop {
-            let code =
-                unsafe { calls::nm_test(&mut self.0, name, &mut status, body.as_mut_ptr(), body.len()) };
+            let code = unsafe { calls::nm_test(&mut self.0, name, &mut status, body.as_mut_ptr(), body.len()) };
             if code != calls::PENDING {
                 return (code, status);
             }

@@ -22,7 +22,10 @@ fn pass_round(mut rank: Rank) -> Result<u64, Refused> {
 }
 
 fn main() -> Result<(), Refused> {
-    let threads: Vec<_> = world(RANKS)?.into_iter().map(|it| thread::spawn(|| pass_round(it))).collect();
+    let threads: Vec<_> = world(RANKS)?
+        .into_iter()
+        .map(|it| thread::spawn(|| pass_round(it)))
+        .collect();
     for (number, thread) in threads.into_iter().enumerate() {
         println!("rank {number}: {}", thread.join().expect("no rank panics")?);
     }
