@@ -16,9 +16,10 @@ static int begin(enum mode mode, const void *at, int count, MPI_Datatype type, i
     return raised(comm, error, call);
 }
 
-/* Goes on until the request has ended, and tells of it. */
+/* Goes on until the request, which has just been started, has ended, and tells of it. */
 static int wait_for(struct nemesis_request *it, int error, MPI_Status *status, const char *call) {
     if (error) return raised(it->comm, error, call);
+    turn();
     finish(it);
     tell(status, &it->status);
     return raised(it->comm, it->error, call);

@@ -10,7 +10,10 @@ static void tell(MPI_Status *status, const MPI_Status *told) {
     status->nemesis_length = told->nemesis_length;
 }
 
-static const MPI_Status empty = {MPI_ANY_SOURCE, MPI_ANY_TAG, MPI_SUCCESS, 0, 0};
+/* What is told of no request, and of one that is not started (3.7.3). */
+static void tell_empty(MPI_Status *status) {
+    if (status) *status = (MPI_Status){MPI_ANY_SOURCE, MPI_ANY_TAG, MPI_SUCCESS, 0, 0};
+}
 
 static bool takes_part(MPI_Request it) { return it && it->state != INACTIVE; }
 
@@ -24,7 +27,7 @@ static bool is_over(MPI_Request it) {
 static int collect(MPI_Request *request, MPI_Status *status, MPI_Comm *comm) {
     struct nemesis_request *it = *request;
     if (!takes_part(it)) {
-        tell(status, &empty);
+        tell_empty(status);
         return MPI_SUCCESS;
     }
     tell(status, &it->status);
@@ -150,7 +153,10 @@ int MPI_Testsome(int count, MPI_Request all[], int *ended, int places[], MPI_Sta
 int MPI_Request_get_status(MPI_Request request, int *flag, MPI_Status *status) {
     if (!is_over(request)) turn();
     *flag = is_over(request);
-    if (*flag) tell(status, takes_part(request) ? &request->status : &empty);
+    if (*flag && takes_part(request))
+        tell(status, &request->status);
+    else if (*flag)
+        tell_empty(status);
     return MPI_SUCCESS;
 }
 
