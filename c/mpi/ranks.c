@@ -2,7 +2,6 @@
 #include "parts.h"
 #include <errno.h>
 #include <pthread.h>
-#include <sched.h>
 #include <stdatomic.h>
 #include <stdio.h>
 #include <stdlib.h>
@@ -11,8 +10,10 @@
 #include <time.h>
 #include <unistd.h>
 
-/* How many turns in which nothing moves a thread makes before it lets others have the processor. */
+/* How many turns in which nothing moves a thread makes before it sleeps, and for how many nanoseconds. On a busy machine
+ * one that yields is not back for milliseconds; one that sleeps is back first. */
 static unsigned patience;
+enum { NAP = 10000 };
 static atomic_int finalized;
 
 /* The program's `main`, by the linker's --wrap=main. */
@@ -122,7 +123,7 @@ static bool turn(void) {
 /* After a turn of a call that waits. */
 static void rest(unsigned *idle, bool moved) {
     *idle = moved ? 0 : *idle + 1;
-    if (*idle > patience) sched_yield();
+    if (*idle > patience) nanosleep(&(struct timespec){.tv_nsec = NAP}, NULL);
 }
 
 static _Noreturn void stop(int status) {
