@@ -14,9 +14,6 @@ static struct communicator *known(MPI_Comm comm) {
 
 static uint32_t context_of(MPI_Comm comm) { return 2 * (uint32_t)(comm - nemesis_comms); }
 
-/* A rank of the communicator, as one of the world. */
-static uint32_t in_world(MPI_Comm comm, int rank) { return (uint32_t)(known(comm)->is_self ? me->number : rank); }
-
 static int error_of(nm_code code) {
     switch (code) {
     case NM_OK: return MPI_SUCCESS;

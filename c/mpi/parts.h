@@ -113,7 +113,6 @@ static void drop_message(struct nemesis_message *message);
 /* communicators.c */
 static struct communicator *known(MPI_Comm comm);
 static uint32_t context_of(MPI_Comm comm);
-static uint32_t in_world(MPI_Comm comm, int rank);
 static int error_of(nm_code code);
 static int raised(MPI_Comm comm, int error, const char *call);
 

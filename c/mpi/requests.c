@@ -10,8 +10,7 @@ static size_t least(size_t a, size_t b) { return a < b ? a : b; }
 static bool is_long(size_t length) { return length == HEAD || length > NM_MAX_LENGTH; }
 
 /* What a caller of a send or a receive can get wrong (8.3). */
-static int wrong(enum mode mode, int count, MPI_Datatype type, int peer, int tag, MPI_Comm comm) {
-    struct communicator *of = known(comm);
+static int wrong(const struct communicator *of, enum mode mode, int count, MPI_Datatype type, int peer, int tag) {
     if (!of) return MPI_ERR_COMM;
     if (count < 0) return MPI_ERR_COUNT;
     if (!type) return MPI_ERR_TYPE;
@@ -21,19 +20,25 @@ static int wrong(enum mode mode, int count, MPI_Datatype type, int peer, int tag
     return MPI_SUCCESS;
 }
 
-/* The request of these arguments, not started. */
+/* The request of these arguments, not started. A start sets the rest. */
 static int prepare(struct nemesis_request *it, enum mode mode, const void *at, int count, MPI_Datatype type, int peer,
-            int tag, MPI_Comm comm) {
-    int error = wrong(mode, count, type, peer, tag, comm);
+                   int tag, MPI_Comm comm) {
+    const struct communicator *of = known(comm);
+    int error = wrong(of, mode, count, type, peer, tag);
     if (error) return error;
-    *it = (struct nemesis_request){.mode = mode, .comm = comm, .context = context_of(comm)};
-    it->is_self = known(comm)->is_self;
-    it->is_null = peer == MPI_PROC_NULL;
+    it->state = INACTIVE;
+    it->mode = mode;
+    it->is_persistent = it->is_freed = it->is_chore = false;
     it->is_copied = mode == BUFFERED;
-    it->other = peer < 0 ? NM_ANY : in_world(comm, peer);
+    it->is_self = of->is_self;
+    it->is_null = peer == MPI_PROC_NULL;
+    it->comm = comm;
+    it->context = context_of(comm);
+    it->other = peer < 0 ? NM_ANY : of->is_self ? (uint32_t)me->number : (uint32_t)peer;
     it->tag = tag < 0 ? NM_ANY : (uint32_t)tag;
     it->at = at ? (uint8_t *)at : nothing;
     it->length = (size_t)count * type->size;
+    it->own = NULL;
     return !at && it->length ? MPI_ERR_BUFFER : MPI_SUCCESS;
 }
 
