@@ -44,6 +44,14 @@ def program(name):
     return pathlib.Path(ran.stdout.rstrip()) if ran.returncode == 0 else sys.exit(ran.returncode)
 
 
+def static_libraries():
+    """The files that C links: those that LIBNEMESIS names, or the library of this checkout, built before its proof."""
+    if os.environ.get("LIBNEMESIS"):
+        return os.environ["LIBNEMESIS"].split()
+    ran = subprocess.run([TOP / ".ci" / "library", "--unproved"], stdout=subprocess.PIPE, text=True)
+    return [ran.stdout.rstrip()] if ran.returncode == 0 else sys.exit(70)
+
+
 def git(*words):
     ran = subprocess.run(["git", *words], cwd=TOP, stdout=subprocess.PIPE, stderr=subprocess.PIPE, text=True)
     return ran.stdout if ran.returncode == 0 else None

@@ -1,5 +1,10 @@
 /* nemesis_mpi.h: the part of MPI 3.1 that the core has, for C programs whose ranks are threads of one process.
  *
+ *     c/mpicc program.c -o program
+ *     c/mpiexec -n 4 ./program
+ *
+ * or, where no global variable matters:
+ *
  *     cc -Iinclude -Iinclude/mpi program.c c/nemesis_mpi.c libnemesis.a -pthread -Wl,--wrap=main -o program
  *     NEMESIS_RANKS=4 ./program
  *
@@ -8,7 +13,7 @@
  * cells of a rank and the bytes of the eager limit (nemesis.h). What is not declared here fails to compile.
  *
  * Its own rules:
- * - Global and static variables are shared by all ranks. c/each.c runs a program with a copy of them for each rank.
+ * - What mpicc links has a copy of its global and static variables for each rank; else all ranks share them.
  * - Only the thread of a rank calls MPI. A rank whose `main` is back without MPI_Finalize ends the process.
  * - Types are contiguous, of a fixed size, and all communicators have all ranks, but for MPI_COMM_SELF and its
  *   duplicates: 125 at a time.

@@ -139,12 +139,12 @@ int MPI_Barrier(MPI_Comm comm) {
 }
 
 /* The places of communicators that are free in all ranks: each rank tells rank 0 its own, which tells all. */
-typedef struct {
+struct free_places {
     bool is_free[COMMUNICATORS];
-} places;
+};
 
-static int gather(places *all, int size, MPI_Comm comm) {
-    places its;
+static int gather(struct free_places *all, int size, MPI_Comm comm) {
+    struct free_places its;
     int error = MPI_SUCCESS;
     for (int rank = 1; rank < size && !error; rank++) {
         error = passed(RECEIVE, &its, sizeof its, rank, MASK, comm);
@@ -155,7 +155,7 @@ static int gather(places *all, int size, MPI_Comm comm) {
     return error;
 }
 
-static int agree(places *all, MPI_Comm comm) {
+static int agree(struct free_places *all, MPI_Comm comm) {
     int rank, size;
     MPI_Comm_rank(comm, &rank);
     MPI_Comm_size(comm, &size);
@@ -167,7 +167,7 @@ static int agree(places *all, MPI_Comm comm) {
 
 /* All its ranks take the same place, so the same context (6.4.2). */
 int MPI_Comm_dup(MPI_Comm comm, MPI_Comm *made) {
-    places all;
+    struct free_places all;
     int place = 0, error = known(comm) ? agree(&all, comm) : MPI_ERR_COMM;
     *made = MPI_COMM_NULL;
     if (error) return raised(comm, error, __func__);
