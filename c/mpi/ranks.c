@@ -1,6 +1,5 @@
 /* ranks.c: a thread for each rank, which runs the program's `main`; what begins and ends it. */
 #include "parts.h"
-#include <errno.h>
 #include <pthread.h>
 #include <stdatomic.h>
 #include <stdio.h>
@@ -10,8 +9,8 @@
 #include <time.h>
 #include <unistd.h>
 
-/* How many turns in which nothing moves a thread makes before it sleeps, and for how many nanoseconds. On a busy machine
- * one that yields is not back for milliseconds; one that sleeps is back first. */
+/* How many turns in which nothing moves a thread makes before it sleeps, and for how many nanoseconds. On a busy
+ * machine one that yields is not back for milliseconds; one that sleeps is back first. */
 static unsigned patience;
 enum { NAP = 10000 };
 static atomic_int finalized;
@@ -21,6 +20,7 @@ int __real_main(int count, char **words);
 
 struct start {
     struct rank *rank;
+    pthread_t thread;
     int count, status;
     char **words;
 };
@@ -66,36 +66,45 @@ static struct rank *new_rank(nm_rank core) {
     return it;
 }
 
-static int free_rank(struct start *it) {
-    nm_rank_free(it->rank->core);
-    while (it->rank->spare) {
-        struct nemesis_request *spare = it->rank->spare;
-        it->rank->spare = spare->next;
+static void free_rank(struct rank *it) {
+    nm_rank_free(it->core);
+    while (it->spare) {
+        struct nemesis_request *spare = it->spare;
+        it->spare = spare->next;
         free(spare);
     }
-    free(it->rank);
-    return it->status;
+    free(it);
+}
+
+/* Starts a thread for each rank, which has the words of the command line. */
+static void start_all(struct start *starts, uint32_t ranks, int count, char **words) {
+    nm_rank cores[NM_MAX_RANKS];
+    uint32_t cells = setting("NEMESIS_CELLS", NM_WORLD_CELLS), eager = setting("NEMESIS_EAGER", NM_WORLD_EAGER);
+    if (nm_world_new(cores, ranks, cells, eager) != NM_OK)
+        fail("there is no such world: NEMESIS_RANKS is 1 to 64, NEMESIS_CELLS 1 to 64, NEMESIS_EAGER up to 4096");
+    for (uint32_t k = 0; k < ranks; k++) {
+        starts[k] = (struct start){.rank = new_rank(cores[k]), .count = count, .words = words};
+        if (pthread_create(&starts[k].thread, NULL, run, &starts[k])) fail("a thread was refused");
+    }
+}
+
+/* The status of the first rank that has one. */
+static int free_all(const struct start *starts, uint32_t ranks) {
+    int status = 0;
+    for (uint32_t k = 0; k < ranks; k++) {
+        free_rank(starts[k].rank);
+        if (!status) status = starts[k].status;
+    }
+    return status;
 }
 
 int __wrap_main(int count, char **words) {
-    nm_rank cores[NM_MAX_RANKS];
-    pthread_t threads[NM_MAX_RANKS];
     struct start starts[NM_MAX_RANKS];
-    uint32_t ranks = setting("NEMESIS_RANKS", 2), cells = setting("NEMESIS_CELLS", NM_WORLD_CELLS);
-    if (nm_world_new(cores, ranks, cells, setting("NEMESIS_EAGER", NM_WORLD_EAGER)) != NM_OK)
-        fail("there is no such world: NEMESIS_RANKS is 1 to 64, NEMESIS_CELLS 1 to 64");
+    uint32_t ranks = setting("NEMESIS_RANKS", 2);
     patience = ranks <= (uint32_t)sysconf(_SC_NPROCESSORS_ONLN) ? 2000 : 20;
-    for (uint32_t k = 0; k < ranks; k++) {
-        starts[k] = (struct start){new_rank(cores[k]), count, 0, words};
-        if (pthread_create(&threads[k], NULL, run, &starts[k])) fail("a thread was refused");
-    }
-    int status = 0;
-    for (uint32_t k = 0; k < ranks; k++) pthread_join(threads[k], NULL);
-    for (uint32_t k = 0; k < ranks; k++) {
-        int its = free_rank(&starts[k]);
-        if (!status) status = its;
-    }
-    return status;
+    start_all(starts, ranks, count, words);
+    for (uint32_t k = 0; k < ranks; k++) pthread_join(starts[k].thread, NULL);
+    return free_all(starts, ranks);
 }
 
 static bool take_number(struct numbers *numbers, uint32_t *number) {
@@ -171,19 +180,22 @@ static void wait_for_all(void) {
     while (turn()) {}
 }
 
-int MPI_Finalize(void) {
-    unsigned idle = 0;
-    while (has_to_send()) rest(&idle, turn());
-    wait_for_all();
-    while (me->chores) {
-        end(me->chores, MPI_SUCCESS);
-    }
+static void drop_held(void) {
     while (me->held) {
         struct nemesis_message *it = me->held;
         me->held = it->next;
         drop_message(it);
     }
+}
+
+/* All sends are completed; a receive that was freed and has no message is given up. */
+int MPI_Finalize(void) {
+    unsigned idle = 0;
     nm_left left;
+    while (has_to_send()) rest(&idle, turn());
+    wait_for_all();
+    while (me->chores) end(me->chores, MPI_SUCCESS);
+    drop_held();
     nm_close(&me->core, &left);
     me->is_over = true;
     return MPI_SUCCESS;
