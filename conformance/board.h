@@ -6,9 +6,12 @@
 #include <setjmp.h>
 #include <signal.h>
 #include <sys/mman.h>
-#include <sys/time.h>
 #include <time.h>
 #include <unistd.h>
+
+#ifndef sigev_notify_thread_id
+#define sigev_notify_thread_id _sigev_un._tid
+#endif
 
 #define RANKS 64
 #define TICK_MS 50
@@ -43,13 +46,12 @@ static int had_its_share(int other, const long *worked, const long *looks)
 }
 
 /* Runs each TICK_MS. Where the ranks are stuck, a blocked call is left for good. */
-static void tick(int signal)
+static void tick(void)
 {
     static long last = -1, still_ms, worked[RANKS], looks[RANKS];
     long ran = 0;
     int k, all = 1;
-    (void) signal;
-    board->worked[rank] = nanoseconds(CLOCK_PROCESS_CPUTIME_ID) / 1000000;
+    board->worked[rank] = nanoseconds(CLOCK_THREAD_CPUTIME_ID) / 1000000;
     for (k = 0; k < ranks; k++) ran += board->ran[k];
     if (ran != last) {
         last = ran;
@@ -71,15 +73,38 @@ static void tick(int signal)
     }
 }
 
+/* What a timer tells its thread: ranks that are threads of one process have this file once each, and one handler. */
+struct watchdog {
+    void (*tick)(void);
+};
+
+static void ring(int signal, siginfo_t *info, void *where)
+{
+    const struct watchdog *of = info->si_value.sival_ptr;
+    (void) signal;
+    (void) where;
+    of->tick();
+}
+
 static void watch(int on)
 {
-    struct itimerval each = { { 0, on ? TICK_MS * 1000 : 0 }, { 0, on ? TICK_MS * 1000 : 0 } };
+    static struct watchdog own = { tick };
+    static timer_t timer;
+    static int is_made;
+    struct itimerspec each = { { 0, on ? TICK_MS * 1000000L : 0 }, { 0, on ? TICK_MS * 1000000L : 0 } };
+    struct sigevent event;
     struct sigaction action;
     memset(&action, 0, sizeof action);
-    action.sa_handler = tick;
-    action.sa_flags = SA_RESTART;
+    action.sa_sigaction = ring;
+    action.sa_flags = SA_RESTART | SA_SIGINFO;
     sigaction(SIGALRM, &action, NULL);
-    setitimer(ITIMER_REAL, &each, NULL);
+    memset(&event, 0, sizeof event);
+    event.sigev_notify = SIGEV_THREAD_ID;
+    event.sigev_notify_thread_id = gettid();
+    event.sigev_signo = SIGALRM;
+    event.sigev_value.sival_ptr = &own;
+    is_made = is_made || timer_create(CLOCK_MONOTONIC, &event, &timer) == 0;
+    if (is_made) timer_settime(timer, 0, &each, NULL);
 }
 
 /* The board is a file; rank 0 makes it before the others open it. */

@@ -10,6 +10,7 @@
  * With SEED other than 0 there are pauses before commands. With PLACING 1 each line is written at once, and `at LINE` before each
  * command, to place a crash. Nothing here is proved.
  */
+#define _GNU_SOURCE 1
 #include <mpi.h>
 #include <errno.h>
 #include <sched.h>
