@@ -3,6 +3,7 @@
 #include "mpi/parts.h"
 
 #include "mpi/communicators.c"
+#include "mpi/layouts.c"
 #include "mpi/types.c"
 
 #include "mpi/requests.c"

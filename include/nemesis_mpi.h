@@ -1,4 +1,4 @@
-/* nemesis_mpi.h: the part of MPI 3.1 that the core has, for C programs whose ranks are threads of one process.
+/* nemesis_mpi.h: the part of MPI 3.1 that the core has, for C and C++ programs whose ranks are threads of one process.
  *
  *     c/mpicc program.c -o program
  *     c/mpiexec -n 4 ./program
@@ -15,8 +15,8 @@
  * Its own rules:
  * - What mpicc links has a copy of its global and static variables for each rank; else all ranks share them.
  * - Only the thread of a rank calls MPI. A rank whose `main` is back without MPI_Finalize ends the process.
- * - Types are contiguous, of a fixed size, and all communicators have all ranks, but for MPI_COMM_SELF and its
- *   duplicates: 125 at a time.
+ * - All communicators have all ranks, but for MPI_COMM_SELF and its duplicates: 125 at a time.
+ * - The elements of a type that is made of several named ones are not counted (MPI_Get_elements).
  * - Errors end the process, or are returned (MPI_ERRORS_RETURN).
  * - A ready send is a standard send. The core copies what is sent, so a buffered send only counts its buffer's bytes.
  *
@@ -28,7 +28,9 @@
 #include <stddef.h>
 #include <stdint.h>
 
-#if defined __GNUC__
+#ifdef __cplusplus
+extern "C" {
+#elif defined __GNUC__
 #pragma GCC diagnostic error "-Wimplicit-function-declaration"
 #endif
 
@@ -42,6 +44,7 @@ enum { MPI_THREAD_SINGLE, MPI_THREAD_FUNNELED, MPI_THREAD_SERIALIZED, MPI_THREAD
 #define MPI_BOTTOM ((void *)0)
 
 typedef ptrdiff_t MPI_Aint;
+typedef int64_t MPI_Count;
 
 /* Errors (8.4); each is its own class. */
 enum {
@@ -60,7 +63,13 @@ enum {
     MPI_ERR_IN_STATUS,
     MPI_ERR_PENDING,
     MPI_ERR_NO_MEM,
-    MPI_ERR_LASTCODE = MPI_ERR_NO_MEM
+    MPI_ERR_ROOT,
+    MPI_ERR_GROUP,
+    MPI_ERR_OP,
+    MPI_ERR_TOPOLOGY,
+    MPI_ERR_DIMS,
+    MPI_ERR_UNKNOWN,
+    MPI_ERR_LASTCODE = MPI_ERR_UNKNOWN
 };
 typedef enum { MPI_ERRORS_ARE_FATAL, MPI_ERRORS_RETURN } MPI_Errhandler;
 
@@ -89,8 +98,16 @@ extern struct nemesis_comm nemesis_comms[];
 #define MPI_COMM_WORLD (&nemesis_comms[0])
 #define MPI_COMM_SELF (&nemesis_comms[1])
 
+/* A type (4.1). Its pieces are runs of bytes, none if copies of it leave no gap. */
+struct nemesis_piece {
+    MPI_Aint at;
+    size_t length;
+};
 typedef const struct nemesis_type {
-    size_t size;
+    size_t size, unit; /* in bytes: of the type, and of the named one that it repeats, or 0 */
+    MPI_Aint lower, extent;
+    size_t align, count, users;
+    struct nemesis_piece *pieces;
 } *MPI_Datatype;
 extern const struct nemesis_type nemesis_types[];
 #define MPI_DATATYPE_NULL ((MPI_Datatype)0)
@@ -121,6 +138,18 @@ extern const struct nemesis_type nemesis_types[];
 #define MPI_UINT32_T (&nemesis_types[23])
 #define MPI_UINT64_T (&nemesis_types[24])
 #define MPI_AINT (&nemesis_types[25])
+#define MPI_COUNT (&nemesis_types[26])
+#define MPI_C_FLOAT_COMPLEX (&nemesis_types[27])
+#define MPI_C_COMPLEX MPI_C_FLOAT_COMPLEX
+#define MPI_C_DOUBLE_COMPLEX (&nemesis_types[28])
+#define MPI_C_LONG_DOUBLE_COMPLEX (&nemesis_types[29])
+#define MPI_PACKED MPI_BYTE
+
+/* Memory (8.2) */
+typedef struct nemesis_info *MPI_Info;
+#define MPI_INFO_NULL ((MPI_Info)0)
+int MPI_Alloc_mem(MPI_Aint size, MPI_Info info, void *at);
+int MPI_Free_mem(void *at);
 
 /* Ranks and errors (8.3, 8.4, 8.6, 8.7, 12.4.3) */
 int MPI_Init(int *count, char ***words);
@@ -137,7 +166,7 @@ int MPI_Get_processor_name(char *name, int *length);
 int MPI_Error_class(int error, int *class_of);
 int MPI_Error_string(int error, char *text, int *length);
 
-/* Communicators (6.4), of whose attributes there is MPI_TAG_UB (8.1.2), and a barrier (5.3) */
+/* Communicators (6.4), of whose attributes there is MPI_TAG_UB (8.1.2); a barrier and a broadcast (5.3, 5.4) */
 enum { MPI_TAG_UB = 1 };
 int MPI_Comm_rank(MPI_Comm comm, int *rank);
 int MPI_Comm_size(MPI_Comm comm, int *size);
@@ -147,16 +176,40 @@ int MPI_Comm_set_errhandler(MPI_Comm comm, MPI_Errhandler handler);
 int MPI_Comm_get_errhandler(MPI_Comm comm, MPI_Errhandler *handler);
 int MPI_Comm_get_attr(MPI_Comm comm, int key, void *value, int *flag);
 int MPI_Barrier(MPI_Comm comm);
+int MPI_Bcast(void *at, int count, MPI_Datatype type, int root, MPI_Comm comm);
 
-/* Types (4.1), and how many of one a message has (3.2.5) */
+/* Types (4.1), how many of one a message has (3.2.5), and statuses by hand (12.3) */
 int MPI_Type_contiguous(int count, MPI_Datatype type, MPI_Datatype *made);
+int MPI_Type_vector(int count, int length, int stride, MPI_Datatype type, MPI_Datatype *made);
+int MPI_Type_create_hvector(int count, int length, MPI_Aint stride, MPI_Datatype type, MPI_Datatype *made);
+int MPI_Type_indexed(int count, const int lengths[], const int indices[], MPI_Datatype type, MPI_Datatype *made);
+int MPI_Type_create_indexed_block(int count, int length, const int indices[], MPI_Datatype type, MPI_Datatype *made);
+int MPI_Type_create_hindexed(int count, const int lengths[], const MPI_Aint places[], MPI_Datatype type,
+                             MPI_Datatype *made);
+int MPI_Type_create_hindexed_block(int count, int length, const MPI_Aint places[], MPI_Datatype type,
+                                   MPI_Datatype *made);
+int MPI_Type_create_struct(int count, const int lengths[], const MPI_Aint places[], const MPI_Datatype types[],
+                           MPI_Datatype *made);
+enum { MPI_ORDER_C, MPI_ORDER_FORTRAN };
+int MPI_Type_create_subarray(int dims, const int sizes[], const int parts[], const int starts[], int order,
+                             MPI_Datatype type, MPI_Datatype *made);
+int MPI_Type_create_resized(MPI_Datatype type, MPI_Aint lower, MPI_Aint extent, MPI_Datatype *made);
 int MPI_Type_dup(MPI_Datatype type, MPI_Datatype *made);
 int MPI_Type_commit(MPI_Datatype *type);
 int MPI_Type_free(MPI_Datatype *type);
 int MPI_Type_size(MPI_Datatype type, int *size);
 int MPI_Type_get_extent(MPI_Datatype type, MPI_Aint *lower, MPI_Aint *extent);
+int MPI_Type_get_true_extent(MPI_Datatype type, MPI_Aint *lower, MPI_Aint *extent);
+int MPI_Get_address(const void *at, MPI_Aint *address);
+int MPI_Pack(const void *at, int count, MPI_Datatype type, void *out, int room, int *position, MPI_Comm comm);
+int MPI_Unpack(const void *in, int room, int *position, void *at, int count, MPI_Datatype type, MPI_Comm comm);
 int MPI_Pack_size(int count, MPI_Datatype type, MPI_Comm comm, int *size);
 int MPI_Get_count(const MPI_Status *status, MPI_Datatype type, int *count);
+int MPI_Get_elements(const MPI_Status *status, MPI_Datatype type, int *count);
+int MPI_Get_elements_x(const MPI_Status *status, MPI_Datatype type, MPI_Count *count);
+int MPI_Status_set_elements(MPI_Status *status, MPI_Datatype type, int count);
+int MPI_Status_set_elements_x(MPI_Status *status, MPI_Datatype type, MPI_Count count);
+int MPI_Status_set_cancelled(MPI_Status *status, int flag);
 
 /* Blocking calls (3.2, 3.4, 3.10) and buffers (3.6) */
 int MPI_Send(const void *at, int count, MPI_Datatype type, int to, int tag, MPI_Comm comm);
@@ -206,5 +259,9 @@ int MPI_Mprobe(int from, int tag, MPI_Comm comm, MPI_Message *message, MPI_Statu
 int MPI_Improbe(int from, int tag, MPI_Comm comm, int *flag, MPI_Message *message, MPI_Status *status);
 int MPI_Mrecv(void *at, int count, MPI_Datatype type, MPI_Message *message, MPI_Status *status);
 int MPI_Imrecv(void *at, int count, MPI_Datatype type, MPI_Message *message, MPI_Request *made);
+
+#ifdef __cplusplus
+}
+#endif
 
 #endif

@@ -8,6 +8,7 @@ static int begin(enum mode mode, const void *at, int count, MPI_Datatype type, i
     *made = MPI_REQUEST_NULL;
     if (!it) return raised(comm, MPI_ERR_NO_MEM, call);
     int error = prepare(it, mode, at, count, type, peer, tag, comm);
+    keep_type(it);
     if (!error) error = start(it);
     if (error)
         drop_request(it);
@@ -40,6 +41,7 @@ static int persistent(enum mode mode, const void *at, int count, MPI_Datatype ty
     *made = MPI_REQUEST_NULL;
     if (!it) return raised(comm, MPI_ERR_NO_MEM, call);
     int error = prepare(it, mode, at, count, type, peer, tag, comm);
+    keep_type(it);
     it->is_persistent = true;
     if (error)
         drop_request(it);

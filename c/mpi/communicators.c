@@ -1,4 +1,4 @@
-/* communicators.c: communicators, whose messages have contexts of their own; errors; a barrier. */
+/* communicators.c: communicators, whose messages have contexts of their own; errors; a barrier and a broadcast. */
 #include "parts.h"
 #include <stdio.h>
 #include <string.h>
@@ -45,6 +45,12 @@ static const char *const texts[] = {
     [MPI_ERR_IN_STATUS] = "an error is in a status",
     [MPI_ERR_PENDING] = "not complete",
     [MPI_ERR_NO_MEM] = "memory, names or contexts were refused",
+    [MPI_ERR_ROOT] = "no such root",
+    [MPI_ERR_GROUP] = "no such group",
+    [MPI_ERR_OP] = "no such operation",
+    [MPI_ERR_TOPOLOGY] = "no such topology",
+    [MPI_ERR_DIMS] = "dimensions are out of range",
+    [MPI_ERR_UNKNOWN] = "an unknown error",
 };
 
 int MPI_Error_class(int error, int *class_of) {
@@ -105,19 +111,27 @@ int MPI_Comm_get_attr(MPI_Comm comm, int key, void *value, int *flag) {
 }
 
 /* Tags of the messages of its own that a communicator has. */
-enum { BARRIER, MASK = 64, AGREED };
+enum { BARRIER, MASK = 64, AGREED, BROADCAST };
+
+/* What a message has. */
+struct body {
+    void *at;
+    int count;
+    MPI_Datatype type;
+};
+static const struct body empty = {NULL, 0, MPI_BYTE};
 
 /* A message among the communicator's own. */
-static int pass(enum mode mode, void *at, int length, int peer, int tag, MPI_Comm comm, struct nemesis_request *it) {
-    int error = prepare(it, mode, at, length, MPI_BYTE, peer, tag, comm);
+static int pass(enum mode mode, const struct body *of, int peer, int tag, MPI_Comm comm, struct nemesis_request *it) {
+    int error = prepare(it, mode, of->at, of->count, of->type, peer, tag, comm);
     if (error) return error;
     it->context++;
     return start(it);
 }
 
-static int passed(enum mode mode, void *at, int length, int peer, int tag, MPI_Comm comm) {
+static int passed(enum mode mode, const struct body *of, int peer, int tag, MPI_Comm comm) {
     struct nemesis_request it;
-    int error = pass(mode, at, length, peer, tag, comm, &it);
+    int error = pass(mode, of, peer, tag, comm, &it);
     if (error) return error;
     finish(&it);
     return it.error;
@@ -131,10 +145,33 @@ int MPI_Barrier(MPI_Comm comm) {
     MPI_Comm_rank(comm, &rank);
     MPI_Comm_size(comm, &size);
     for (int step = 0, far = 1; far < size && !error; step++, far *= 2) {
-        error = pass(STANDARD, NULL, 0, (rank + far) % size, BARRIER + step, comm, &told);
-        if (!error) error = passed(RECEIVE, NULL, 0, (rank + size - far) % size, BARRIER + step, comm);
+        error = pass(STANDARD, &empty, (rank + far) % size, BARRIER + step, comm, &told);
+        if (!error) error = passed(RECEIVE, &empty, (rank + size - far) % size, BARRIER + step, comm);
         if (!error) finish(&told);
     }
+    return raised(comm, error, __func__);
+}
+
+/* Sends to the ranks that are 2^k behind, by the numbers from the root on, for each 2^k below `far`. */
+static int spread(const struct body *of, int number, int far, int root, int size, MPI_Comm comm) {
+    int error = MPI_SUCCESS;
+    for (far /= 2; far > 0 && !error; far /= 2)
+        if (number + far < size) error = passed(STANDARD, of, (number + far + root) % size, BROADCAST, comm);
+    return error;
+}
+
+/* By the numbers from the root on: each rank has it from the one that lacks its number's last 1. */
+int MPI_Bcast(void *at, int count, MPI_Datatype type, int root, MPI_Comm comm) {
+    struct body of = {at, count, type};
+    int rank, size, far = 1, error = known(comm) ? MPI_SUCCESS : MPI_ERR_COMM;
+    if (error) return raised(comm, error, __func__);
+    MPI_Comm_rank(comm, &rank);
+    MPI_Comm_size(comm, &size);
+    if (root < 0 || root >= size) return raised(comm, MPI_ERR_ROOT, __func__);
+    int number = (rank + size - root) % size;
+    while (far < size && !(number & far)) far *= 2;
+    if (number) error = passed(RECEIVE, &of, (number - far + root) % size, BROADCAST, comm);
+    if (!error) error = spread(&of, number, far, root, size, comm);
     return raised(comm, error, __func__);
 }
 
@@ -147,22 +184,23 @@ static int gather(struct free_places *all, int size, MPI_Comm comm) {
     struct free_places its;
     int error = MPI_SUCCESS;
     for (int rank = 1; rank < size && !error; rank++) {
-        error = passed(RECEIVE, &its, sizeof its, rank, MASK, comm);
+        error = passed(RECEIVE, &(struct body){&its, sizeof its, MPI_BYTE}, rank, MASK, comm);
         for (int k = 0; k < COMMUNICATORS; k++) all->is_free[k] &= its.is_free[k];
     }
     for (int rank = 1; rank < size && !error; rank++)
-        error = passed(STANDARD, all, sizeof *all, rank, AGREED, comm);
+        error = passed(STANDARD, &(struct body){all, sizeof *all, MPI_BYTE}, rank, AGREED, comm);
     return error;
 }
 
 static int agree(struct free_places *all, MPI_Comm comm) {
+    struct body own = {all, sizeof *all, MPI_BYTE};
     int rank, size;
     MPI_Comm_rank(comm, &rank);
     MPI_Comm_size(comm, &size);
     for (int k = 0; k < COMMUNICATORS; k++) all->is_free[k] = !me->comms[k].is_used;
     if (!rank) return gather(all, size, comm);
-    int error = passed(STANDARD, all, sizeof *all, 0, MASK, comm);
-    return error ? error : passed(RECEIVE, all, sizeof *all, 0, AGREED, comm);
+    int error = passed(STANDARD, &own, 0, MASK, comm);
+    return error ? error : passed(RECEIVE, &own, 0, AGREED, comm);
 }
 
 /* All its ranks take the same place, so the same context (6.4.2). */

@@ -58,6 +58,9 @@ struct nemesis_request {
     uint32_t name, context, other, tag; /* as the core has them */
     uint8_t *at; /* the message, or the memory for it */
     size_t length;
+    MPI_Datatype spread; /* the type of the message, if it has gaps: then `at` has its bytes while it is active */
+    uint8_t *elements;   /* where the caller has them, `count` of this type */
+    int count;
     uint8_t *own;             /* memory of this request: a copy of the message, or a head on its way */
     size_t whole, done, part; /* bytes of the message, of its parts so far, of the part that is on its way */
     uint64_t serial;
@@ -94,6 +97,7 @@ static _Noreturn void stop(int status);
 /* requests.c */
 static int prepare(struct nemesis_request *it, enum mode mode, const void *at, int count, MPI_Datatype type, int peer,
             int tag, MPI_Comm comm);
+static void keep_type(const struct nemesis_request *it);
 static int start(struct nemesis_request *it);
 static int start_matched(struct nemesis_request *it, struct nemesis_message *message);
 static void advance(struct nemesis_request *it);
@@ -109,6 +113,12 @@ static void tell(MPI_Status *status, const MPI_Status *told);
 /* probes.c */
 static struct nemesis_message *take_held(uint32_t from, uint32_t tag, uint32_t context);
 static void drop_message(struct nemesis_message *message);
+
+/* layouts.c */
+static void use_type(MPI_Datatype type);
+static void leave_type(MPI_Datatype type);
+static void gather_bytes(MPI_Datatype type, int count, const uint8_t *at, uint8_t *out);
+static void scatter_bytes(MPI_Datatype type, uint8_t *at, const uint8_t *in, size_t left);
 
 /* communicators.c */
 static struct communicator *known(MPI_Comm comm);

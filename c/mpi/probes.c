@@ -225,6 +225,7 @@ int MPI_Imrecv(void *at, int count, MPI_Datatype type, MPI_Message *message, MPI
     *made = MPI_REQUEST_NULL;
     if (!it) return raised(MPI_COMM_WORLD, MPI_ERR_NO_MEM, __func__);
     int error = receive_of(it, at, count, type, message);
+    keep_type(it);
     if (error)
         drop_request(it);
     else

@@ -201,6 +201,17 @@ int MPI_Finalize(void) {
     return MPI_SUCCESS;
 }
 
+int MPI_Alloc_mem(MPI_Aint size, MPI_Info info, void *at) {
+    (void)info;
+    *(void **)at = size < 0 ? NULL : malloc(size ? (size_t)size : 1);
+    return raised(MPI_COMM_WORLD, *(void **)at ? MPI_SUCCESS : MPI_ERR_NO_MEM, __func__);
+}
+
+int MPI_Free_mem(void *at) {
+    free(at);
+    return MPI_SUCCESS;
+}
+
 int MPI_Abort(MPI_Comm comm, int status) {
     (void)comm;
     fprintf(stderr, "nemesis_mpi: rank %d aborts with %d\n", me->number, status);

@@ -5,6 +5,9 @@
 
 static uint8_t nothing[1];
 
+/* Below it nobody has memory: so without memory only a type of addresses has a place (MPI_BOTTOM, 4.1.5). */
+enum { LEAST_ADDRESS = 4096 };
+
 static size_t least(size_t a, size_t b) { return a < b ? a : b; }
 
 static bool is_long(size_t length) { return length == HEAD || length > NM_MAX_LENGTH; }
@@ -39,17 +42,29 @@ static int prepare(struct nemesis_request *it, enum mode mode, const void *at, i
     it->at = at ? (uint8_t *)at : nothing;
     it->length = (size_t)count * type->size;
     it->own = NULL;
-    return !at && it->length ? MPI_ERR_BUFFER : MPI_SUCCESS;
+    it->spread = type->pieces ? type : NULL;
+    it->elements = (uint8_t *)at;
+    it->count = count;
+    return !at && it->length && type->lower < LEAST_ADDRESS ? MPI_ERR_BUFFER : MPI_SUCCESS;
+}
+
+/* The type of a request that outlives a call lives as long, whether or not its caller frees it (4.1.9). */
+static void keep_type(const struct nemesis_request *it) {
+    if (it->spread) use_type(it->spread);
 }
 
 static struct nemesis_request *new_request(void) {
     struct nemesis_request *it = me->spare;
-    if (!it) return malloc(sizeof *it);
-    me->spare = it->next;
+    if (it)
+        me->spare = it->next;
+    else
+        it = malloc(sizeof *it);
+    if (it) it->spread = NULL;
     return it;
 }
 
 static void drop_request(struct nemesis_request *it) {
+    if (it->spread) leave_type(it->spread);
     it->next = me->spare;
     me->spare = it;
 }
@@ -69,9 +84,26 @@ static void end_chore(struct nemesis_request *it) {
     it->is_chore = false;
 }
 
+/* The bytes of a message with gaps are in one place while it is on its way. */
+static bool take_place(struct nemesis_request *it) {
+    if (!it->spread) return true;
+    it->at = malloc(it->length ? it->length : 1);
+    if (it->at && it->mode != RECEIVE) gather_bytes(it->spread, it->count, it->elements, it->at);
+    return it->at;
+}
+
+static void leave_place(struct nemesis_request *it, int error) {
+    if (!it->spread) return;
+    bool has_come = it->mode == RECEIVE && (!error || error == MPI_ERR_TRUNCATE) && !it->status.nemesis_cancelled;
+    if (has_come) scatter_bytes(it->spread, it->elements, it->at, least(it->whole, it->length));
+    free(it->at);
+    it->at = NULL;
+}
+
 /* The request has ended. One that was freed is gone. */
 static void end(struct nemesis_request *it, int error) {
     end_chore(it);
+    leave_place(it, error);
     give_number(&me->names, it->name);
     free(it->own);
     it->own = NULL;
@@ -87,11 +119,18 @@ static void detach(struct nemesis_request *it) {
     add_chore(it);
 }
 
+/* A message may be too long for its receive, or have a part of an element at its end. */
+static int error_at_end(const struct nemesis_request *it) {
+    if (it->mode != RECEIVE) return MPI_SUCCESS;
+    if (it->whole > it->length) return MPI_ERR_TRUNCATE;
+    return it->spread && it->spread->unit && it->whole % it->spread->unit ? MPI_ERR_TYPE : MPI_SUCCESS;
+}
+
 /* Starts the part that is due: of a send, it is sent; of a receive, it is awaited. */
 static void go_on(struct nemesis_request *it) {
     if (it->done >= it->whole) {
         it->status.nemesis_length = least(it->whole, it->length);
-        end(it, it->mode == RECEIVE && it->whole > it->length ? MPI_ERR_TRUNCATE : MPI_SUCCESS);
+        end(it, error_at_end(it));
         return;
     }
     uint32_t tag = (uint32_t)(it->serial % (NM_MAX_TAG + 1));
@@ -153,6 +192,7 @@ static void hand_over(struct nemesis_request *it) {
     if (!other) return;
     end_chore(it);
     *other = *it;
+    keep_type(other);
     detach(other);
     it->own = NULL;
     it->state = COMPLETE;
@@ -270,10 +310,13 @@ static void renew(struct nemesis_request *it) {
     it->status = (MPI_Status){MPI_ANY_SOURCE, MPI_ANY_TAG, MPI_SUCCESS, 0, 0};
 }
 
-/* What a start takes: a name, and of a buffered send room. */
+/* What a start takes: a place, a name, and of a buffered send room. */
 static int take_means(struct nemesis_request *it) {
-    if (!take_number(&me->names, &it->name)) return MPI_ERR_NO_MEM;
-    if (it->mode != BUFFERED || takes_room(it)) return MPI_SUCCESS;
+    if (!take_place(it)) return MPI_ERR_NO_MEM;
+    bool has_name = take_number(&me->names, &it->name);
+    if (has_name && (it->mode != BUFFERED || takes_room(it))) return MPI_SUCCESS;
+    leave_place(it, MPI_ERR_NO_MEM);
+    if (!has_name) return MPI_ERR_NO_MEM;
     give_number(&me->names, it->name);
     return MPI_ERR_BUFFER;
 }
