@@ -45,10 +45,10 @@ def program(name):
 
 
 def static_libraries():
-    """The files that C links: those that LIBNEMESIS names, or the library of this checkout, built before its proof."""
+    """The files that C links: those that LIBNEMESIS names, or the library of this checkout, proved or not."""
     if os.environ.get("LIBNEMESIS"):
         return os.environ["LIBNEMESIS"].split()
-    ran = subprocess.run([TOP / ".ci" / "library", "--unproved"], stdout=subprocess.PIPE, text=True)
+    ran = subprocess.run([TOP / ".ci" / "library", "--any"], stdout=subprocess.PIPE, text=True)
     return [ran.stdout.rstrip()] if ran.returncode == 0 else sys.exit(70)
 
 

@@ -8,6 +8,7 @@
 #include <stdio.h>
 #include <stdlib.h>
 #include <string.h>
+#include <sys/mman.h>
 #include <sys/sendfile.h>
 #include <sys/stat.h>
 #include <unistd.h>
@@ -47,21 +48,23 @@ static int find(struct place *at, const char *name) {
     return 0;
 }
 
-/* Copies the program to a new file, whose name is written. */
-static int copy(const struct place *at, char *name) {
+/* Copies the program to a file in memory. It stays open: the loader and debuggers know it by its number. */
+static int copy(const struct place *at) {
     off_t from = at->from, end = at->from + at->length;
-    int out = mkstemp(name);
+    int out = memfd_create("nemesis", MFD_CLOEXEC);
     while (out >= 0 && from < end)
         if (sendfile(out, at->file, &from, (size_t)(end - from)) <= 0) return -1;
-    return out < 0 ? out : close(out);
+    return out;
 }
 
 /* Loads a copy, and runs its `main`. */
 static int run(const struct place *at, int count, char **words) {
-    char name[] = "/tmp/nemesis_each_XXXXXX";
-    if (copy(at, name)) return fail(name);
+    char name[48];
+    int file = copy(at);
+    close(at->file);
+    if (file < 0) return fail("each: no memory for the program");
+    snprintf(name, sizeof name, "/proc/%d/fd/%d", (int)getpid(), file);
     void *program = dlopen(name, RTLD_NOW | RTLD_LOCAL);
-    unlink(name);
     int (*its_main)(int, char **) = program ? (int (*)(int, char **))dlsym(program, "main") : NULL;
     if (its_main) return its_main(count, words);
     fprintf(stderr, "each: %s\n", dlerror());
