@@ -92,6 +92,34 @@ static void turns(void) {
         for (int rank = 0; rank < RANKS; rank++) nm_progress(&ranks[rank]);
 }
 
+/* A wait that was given and has not ended: the rank takes no other command. */
+static void waits(void) {
+    ROW(nm_answer(&ranks[2], &status, body, 8), NM_NO_SUCH);
+    ROW(nm_wait(me, 65536), NM_BAD_NAME);
+    ROW(nm_irecv(me, 6, 1, 8, 0, 8), NM_OK);
+    ROW(nm_wait(me, 6), NM_OK);
+    ROW(nm_answer(me, &status, body, 8), NM_PENDING);
+    ROW(nm_wait(me, 6), NM_WAITS);
+    ROW(nm_isend(me, 7, 1, 8, 0, body, 8), NM_WAITS);
+    ROW(nm_irecv(me, 7, 1, 8, 0, 8), NM_WAITS);
+    ROW(nm_test(me, 6, &status, body, 8), NM_WAITS);
+    ROW(nm_cancel(me, 6), NM_WAITS);
+    ROW(nm_iprobe(me, 1, 8, 0, &status), NM_WAITS);
+    ROW(nm_improbe(me, 0, 1, 8, 0, &status), NM_WAITS);
+    ROW(nm_imrecv(me, 7, 0, 8), NM_WAITS);
+    turns();
+    ROW(nm_answer(me, &status, body, 8), NM_PENDING);
+    ROW(nm_isend(&ranks[1], 6, 0, 8, 0, (const uint8_t *)"awaited", 8), NM_OK);
+    turns();
+    ROW(nm_answer(me, &status, body, 8), NM_RECEIVED);
+    row("the body", (nm_code)memcmp(body, "awaited", 8), 0);
+    ROW(nm_test(me, 6, &status, body, 8), NM_NO_SUCH);
+    ROW(nm_wait(me, 6), NM_OK);
+    turns();
+    ROW(nm_answer(me, &status, body, 8), NM_NO_SUCH);
+    ROW(nm_test(&ranks[1], 6, &status, body, 8), NM_SENT);
+}
+
 /* Each rank sends to each, itself too; a long message and a short one. */
 static void send_all(void) {
     for (uint32_t from = 0; from < RANKS; from++)
@@ -168,6 +196,7 @@ int main(void) {
     sends();
     receives();
     names();
+    waits();
     send_all();
     for (uint32_t to = 0; to < RANKS; to++) receive_all(to);
     handles();
