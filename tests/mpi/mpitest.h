@@ -15,6 +15,13 @@
     (MPI_VERSION > (major) || (MPI_VERSION == (major) && MPI_SUBVERSION >= (minor)))
 #define MTEST_VG_MEM_INIT(at, size) memset(at, 0, size)
 
+/* Fortran's handles (17.2.4): one program asks whether there are such calls. There are none but these. */
+typedef int MPI_Fint;
+static inline MPI_Fint MPI_Message_c2f(MPI_Message it) { return it != MPI_MESSAGE_NULL; }
+static inline MPI_Message MPI_Message_f2c(MPI_Fint it) { return it ? MPI_MESSAGE_NO_PROC : MPI_MESSAGE_NULL; }
+#define PMPI_Message_c2f MPI_Message_c2f
+#define PMPI_Message_f2c MPI_Message_f2c
+
 static inline void MTest_Init(int *count, char ***words) { MPI_Init(count, words); }
 
 /* Each rank says how many errors it found; the first one says so of none, as the runner of these tests awaits. */
@@ -59,6 +66,28 @@ static inline int MTestGetIntracommGeneral(MPI_Comm *comm, int least, bool small
 }
 
 static inline int MTestGetIntracomm(MPI_Comm *comm, int least) { return MTestGetIntracommGeneral(comm, least, false); }
+
+#ifdef MTEST_OF_MPICH
+#include "mtest_common.h"
+int MTestIsBasicDtype(MPI_Datatype type);
+
+/* Whether a type has a name (4.1.13), of which alone MPICH's helpers ask. */
+enum { MPI_COMBINER_NAMED, OTHER_COMBINER };
+static inline int MPI_Type_get_envelope(MPI_Datatype type, int *numbers, int *places, int *types, int *combiner) {
+    *numbers = *places = *types = 0;
+    *combiner = type->users ? OTHER_COMBINER : MPI_COMBINER_NAMED;
+    return MPI_SUCCESS;
+}
+
+/* How much of a status is not as it should be. */
+static inline int MTestCheckStatus(MPI_Status *status, MPI_Datatype type, int count, int from, int tag, bool says) {
+    int got;
+    (void)says;
+    MPI_Get_count(status, type, &got);
+    return (MTestIsBasicDtype(type) && got != count) + (from != MPI_ANY_SOURCE && status->MPI_SOURCE != from) +
+           (tag != MPI_ANY_TAG && status->MPI_TAG != tag);
+}
+#endif
 
 static inline void MTestFreeComm(MPI_Comm *comm) {
     if (*comm != MPI_COMM_WORLD && *comm != MPI_COMM_SELF && *comm != MPI_COMM_NULL) MPI_Comm_free(comm);
