@@ -12,7 +12,18 @@ use Rattle.nm_c.specs.contracts.parts.Parts as Parts
 use Rattle.nm_c.specs.contracts.Rank as Rank
 
 abbrev pub E : Bx
-E = record { row = Handle.the_row; laws = handle.the_row_laws; al = record { row = Heap.the_row; laws = heap.the_row_laws; g = ghosts; d = dict; drops = impl [] tnil dnil } }
+E = record {
+  row = Handle.the_row;
+  laws = handle.the_row_laws;
+  al = record {
+    row = Heap.the_row;
+    laws =
+        heap.the_row_laws;
+    g = ghosts;
+    d = dict;
+    drops = impl [] tnil dnil;
+  };
+}
 
 abbrev pub FromParts : Slot 0
 FromParts = plain (λ _. Parts.the_row Handle.the_row Heap.the_row ghosts)

@@ -74,8 +74,9 @@ passed_next c d x commands last some many given none at gives =
 pub all_ahead : (c : CallsView) → AllInRange c.ranks c.given →
     IfSome c.next (λ x. (is_in_range c.ranks x ≡ true) × (c.at < 18446744073709551610)) → AllInRange c.ranks (ahead c)
 all_ahead c all runs =
-    all_append (λ (x : Command). is_in_range c.ranks x ≡ true) c.given (option_to_list c.next) all (one c.next runs) where
-      one : (o : Option Command) → IfSome o (λ x. (is_in_range c.ranks x ≡ true) × (c.at < 18446744073709551610)) →
-          AllInRange c.ranks (option_to_list o)
-      one None runs = tt
-      one (Some x) runs = (runs.0, tt)
+    all_append (λ (x : Command). is_in_range c.ranks x ≡ true) c.given (option_to_list c.next) all (one c.next runs)
+  where
+    one : (o : Option Command) → IfSome o (λ x. (is_in_range c.ranks x ≡ true) × (c.at < 18446744073709551610)) →
+        AllInRange c.ranks (option_to_list o)
+    one None runs = tt
+    one (Some x) runs = (runs.0, tt)

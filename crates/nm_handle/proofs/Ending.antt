@@ -59,11 +59,13 @@ ranges : (shape : Sizes) (f : Fabric Packet) (r : Rings) (k : ℕ) (hs : List Ha
 ranges shape f r k [] all place = tt
 ranges shape f r k (h ∷ hs) all place =
     let seat = place.1 in (
-      subst (λ (n : ℕ). AllInRange n (ahead (calls_of h))) (place.0.ranks ∙ ap (λ (s : Seat). s.sizes.ranks) seat) all.0,
+      subst (λ (n : ℕ). AllInRange n (ahead (calls_of h))) (place.0.ranks ∙ ap (λ (s : Seat). s.sizes.ranks) seat)
+          all.0,
       ranges shape f r (k + 1) hs all.1 place.2,
     )
 
-range_at : (n : ℕ) (hs : List Handle) → AllByRecursion (λ (h : Handle). AllInRange n (ahead (calls_of h))) hs → (i : ℕ) →
+range_at : (n : ℕ) (hs : List Handle) → AllByRecursion (λ (h : Handle). AllInRange n (ahead (calls_of h))) hs →
+    (i : ℕ) →
     AllInRange n (unwrap_or (slice_get (map (λ (h : Handle). ahead (calls_of h)) hs) i) [])
 range_at n [] all i = tt
 range_at n (h ∷ hs) all zero = all.0

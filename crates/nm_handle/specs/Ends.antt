@@ -46,7 +46,8 @@ pub record HaveRun (shape : Sizes) (handles : List Handle) (done : Bool) (accoun
   pub done_is : done ≡ are_done ends
 
 -- what becomes of players of a world of this shape that are at rest, whatever commands their sources gave
-pub record AreClosed (shape : Sizes) (players : List (Player CallsView Erased)) (x : Rested CallsView Erased) : Type 0 where
+pub record AreClosed (shape : Sizes) (players : List (Player CallsView Erased)) (x : Rested CallsView Erased)
+    : Type 0 where
   pub run :
       (commands : ℕ → List Numbered) → AreInRange shape.ranks commands →
       AreGiven gave commands 0 (map (λ p. p.source) players) →

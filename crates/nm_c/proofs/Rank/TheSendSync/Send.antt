@@ -13,5 +13,9 @@ use Rattle.nm_c.specs.contracts.Rank.{the_row, the_type}
 pub send : IsSend the_row
 send =
     let all : AllSend (fields the_type) = (search sendable, (handle.the_field_send, tt)) in
-    owning_send the_type all (λ d. (lies Handle.the_row handle_sends d.ptr d.value, heap.frees.frees d.alloc (raw (lone Handle.the_row.mir)) d.ptr))
+    owning_send the_type all (λ d. (
+      lies Handle.the_row handle_sends d.ptr d.value,
+      heap.frees.frees d.alloc (raw
+          (lone Handle.the_row.mir)) d.ptr,
+    ))
     (λ k. quiet (to the_type) (exits_of k (fields the_type)) ((struct_send (shape the_type) all).leaving k))

@@ -44,7 +44,8 @@ close_at_rest-requires c =
         ap (λ (r : Rings). r.ranks) rings ∙ c.requires.sizes.1,
         ap (λ (f : Fabric Packet). f.each) fabric ∙ c.requires.sizes.2,
       );
-      place = subst (λ (f : Fabric Packet). InPlace shown gave c.args.shape f c.in_ok-rings.rings 0 c.args.players.items)
+      place = subst (λ (f : Fabric Packet). InPlace shown gave c.args.shape f c.in_ok-rings.rings 0
+          c.args.players.items)
           (sym fabric)
           (subst (λ (r : Rings). InPlace shown gave c.args.shape (arc_value c.args.shared.fabric) r 0
           c.args.players.items) (sym rings) place);

@@ -47,7 +47,8 @@ close-requires c =
     let s = c.in_ok-shared.ensures.same c.args.shape w.fabric w.rings
     (subst (λ (hs : List Handle). AreRanksFrom c.args.shape w.fabric w.rings 0 hs) (sym same) w.each) in
     record {
-      many = ap length c.in_ok-players.ensures.same ∙ length-map c.args.handles.items (λ (h : Handle). h.player) ∙ w.many;
+      many = ap length c.in_ok-players.ensures.same ∙ length-map c.args.handles.items (λ (h : Handle). h.player) ∙
+          w.many;
       sizes = (
         ap (λ (f : Fabric Packet). f.ranks) s.0 ∙ w.ranks.0,
         ap (λ (r : Rings). r.ranks) s.1 ∙ w.ranks.1,

@@ -31,7 +31,8 @@ returns-clause-kept c =
     let bound : (at + 1) + 1 ≡ b = omega (arith, counted) in
     let before = subst (λ (k : ℕ). ProcessInvariant shape (all_numbered 2 given) k a.port.rank a.process was.past) bound
     (record { work = was.is.work; rank = was.is.stands }) in
-    let longer = c.a_call_to_come_changes_nothing.ensures shape given command a.port.rank a.process was.past all before in
+    let longer = c.a_call_to_come_changes_nothing.ensures shape given command a.port.rank a.process was.past all
+    before in
     let stands : ActorInvariant ys (at + 1) a = record {
       past = was.past;
       is = record {

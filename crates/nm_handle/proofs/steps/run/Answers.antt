@@ -68,12 +68,15 @@ returns-in-Ran c =
     let bound : (at + 1) + 1 ≡ b = omega (arith, counted) in
     let before = subst (λ (k : ℕ). ProcessInvariant shape (all_numbered 2 given) k a.port.rank a.process was.past) bound
     (record { work = was.is.work; rank = was.is.stands }) in
-    let longer = c.a_call_to_come_changes_nothing.ensures shape given command a.port.rank a.process was.past all before in
+    let longer = c.a_call_to_come_changes_nothing.ensures shape given command a.port.rank a.process was.past all
+    before in
     let next = subst (λ (k : ℕ). IsNext ys k b line command) (sym all)
-    (subst (λ (k : ℕ). IsNext ys (length given) b k command) line_is (c.a_call_to_come_is_next.ensures given command)) in
+    (subst (λ (k : ℕ). IsNext ys (length given) b k command) line_is (c.a_call_to_come_is_next.ensures given
+    command)) in
     let in_range = subst (λ (n : ℕ). is_in_range n command ≡ true) s.ranks c.requires.in_range in
     let right = rw c.rank.ensures at c.history.ensures.right in
-    let on = c.a_command_runs.ensures shape ys b line a.port.rank command a.process v was.past in_range right longer next
+    let on = c.a_command_runs.ensures shape ys b line a.port.rank command a.process v was.past in_range right longer
+    next
     stepped in
     let last = (at + 1) + 1 in
     let ends : line + 1 ≡ last + 1 = omega (arith, line_at) in
@@ -85,7 +88,11 @@ returns-in-Ran c =
     let began = s.at in
     let ran = stepped.at in
     record {
-      kept = subst (λ source. PlayerInvariant shown gave c.args.f.now c.args.r.now (record { actor = d; source = source }))
+      kept = subst (λ source. PlayerInvariant shown gave c.args.f.now c.args.r.now (record {
+        actor = d;
+        source =
+            source;
+      }))
           (sym c.note.ensures)
           (record {
             ports = record {

@@ -80,7 +80,8 @@ loop-port-preserved c =
     let own = before.cells 0 port (ap (λ (ps : List (Port Packet)). slice_get ps 0) split) in
     let place : port.rank ≡ 0 + length handles = own.1 ∙ omega arith in
     let grown = c.in_ok-add.ensures in
-    let longer : length c.add.new.list.items ≡ length handles + 1 = ap length grown ∙ length-append handles (handle ∷ []) in
+    let longer : length c.add.new.list.items ≡ length handles + 1 = ap length grown ∙ length-append handles (handle ∷
+    []) in
     let one = ap length split in
     let two = ap length other in
     let pairs = before.pairs in
