@@ -1,6 +1,6 @@
 -- The moves of a group of ranks that no other rank speaks to are enough.
-use Rattle.std.proofs.Common.{◌≡◌, ◌≢◌, ◌⊎◌, inl, inr, ℕ, zero, suc, ◌<◌, ◌==◌, ◌&&◌, ◌||◌, not, Bool, true, false, cond}
-use Rattle.std.proofs.Common.{Option, Some, None, List, [], ◌∷◌, ◌++◌, length, replicate, refl, sym, ◌∙◌, ap, subst}
+use Rattle.std.proofs.Common.{◌≡◌, ◌≢◌, ◌⊎◌, inl, inr, ℕ, zero, suc, ◌<◌, ◌==◌, ◌&&◌, not, Bool, true, false, cond}
+use Rattle.std.proofs.Common.{Option, Some, None, List, [], ◌∷◌, ◌++◌, replicate, refl, sym, ◌∙◌, ap, subst}
 use Rattle.std.specs.Prelude.{if◌then◌else◌, count_by, nat_lt, option_and_then, option_map}
 use Rattle.std.specs.List.{filter, find, list_any, slice_get, slice_set}
 use Rattle.std.specs.Option.{option_map_or}
@@ -14,10 +14,9 @@ use Rattle.nm_types.specs.Commands.{command_at, commands_of}
 use Rattle.nm_history.specs.declared.plain.Pair.{Pair}
 use Rattle.nm_history.specs.Completion.{Request}
 use Rattle.nm_history.specs.Completion.Request.{Receiving, Sending}
-use Rattle.nm_history.specs.Matching.{is_of_message, is_of_receive}
+use Rattle.nm_history.specs.Matching.{is_of_receive}
 use Rattle.nm_history.specs.Selection.{matches}
 use Rattle.nm_match.specs.Deeds.{is_message}
-use Rattle.nm_lookups.specs.Queues.{without_message}
 use Rattle.nm_types.proofs.ListLemmas.{find_passes, find_some, get_set_other, get_set_same, no_item, place_below}
 use Rattle.nm_types.proofs.NumberLemmas.{differ, eq_true, same_number}
 use Rattle.nm_types.proofs.OptionLemmas.{no_some, same_some}
@@ -38,7 +37,7 @@ use Rattle.nm_explored.specs.declared.choices.moves.Move.TheVariants as move
 use Rattle.nm_explored.specs.declared.choices.moves.Turn.{Turn}
 use Rattle.nm_explored.specs.Successors.{answer_in, arrival_by, got_by, is_withdrawn_next, message_next, result_in}
 use Rattle.nm_explored.specs.Successors.{sent_at, shown_at}
-use Rattle.nm_explored.specs.Moves.{IsAct, IsChoiceOf, IsDeedOf, IsNextMessage, IsRecalled, IsTurn, moved_at}
+use Rattle.nm_explored.specs.Moves.{IsChoiceOf, IsDeedOf, IsTurn, moved_at}
 use Rattle.nm_explored.specs.Chosen.{Goes}
 use Rattle.nm_explored.specs.Rests.{AreAtRest, IsAtRest, is_waiting}
 use Rattle.nm_explored.specs.Lines.{line_in}
@@ -52,14 +51,16 @@ use Rattle.nm_explored.proofs.RestedLemmas.{nothing_rests}
 use Rattle.nm_explored.proofs.StartedLemmas.{HasBegun, at_line, begun, started_next, way_started}
 
 -- a rank that is not strange is of the group
-same_group : (groups : List ℕ) (i from : ℕ) → is_strange groups i from ≡ false → group_of groups from ≡ group_of groups i
+same_group : (groups : List ℕ) (i from : ℕ) → is_strange groups i from ≡ false →
+    group_of groups from ≡ group_of groups i
 same_group groups i from own = same_number (group_of groups from) (group_of groups i) (by_test _ own)
   where
     by_test : (b : Bool) → not b ≡ false → b ≡ true
     by_test true so = refl
     by_test false so = absurd (false≢true (sym so))
 
-not_strange : (groups : List ℕ) (i from : ℕ) → group_of groups from ≡ group_of groups i → is_strange groups i from ≡ false
+not_strange : (groups : List ℕ) (i from : ℕ) → group_of groups from ≡ group_of groups i →
+    is_strange groups i from ≡ false
 not_strange groups i from same =
     ap (λ (b : Bool). not b) (eq_true (group_of groups from) (group_of groups i) same)
 
@@ -303,7 +304,8 @@ module _ (eager ranks : ℕ) (lines : List Line) (groups : List ℕ) (apart : Ar
           option_map_or (λ (spot : Spot). option_map_or (λ (other : Spot). list_any (is_message from n) spot.came
           && (free_lem spot from n && list_any (is_recall_by i n) other.deeds)) p false) o false
 
-      recalled_same : (from n : ℕ) → group_of groups from ≡ g → is_withdrawn_next w i from n ≡ is_withdrawn_next v i from n
+      recalled_same : (from n : ℕ) → group_of groups from ≡ g →
+          is_withdrawn_next w i from n ≡ is_withdrawn_next v i from n
       recalled_same from n inside =
           ap (λ (o : Option Spot). recalled_of from n o (slice_get u from)) (same i own)
           ∙ ap (λ (o : Option Spot). recalled_of from n (slice_get s i) o) (same from inside)
@@ -318,7 +320,8 @@ module _ (eager ranks : ℕ) (lines : List Line) (groups : List ℕ) (apart : Ar
         deed_of = by_deed act.deed_of;
       }
         where
-          by_deed : IsDeedOf eager lines v i x act.line act.command d → IsDeedOf eager lines w i x act.line act.command d
+          by_deed : IsDeedOf eager lines v i x act.line act.command d →
+              IsDeedOf eager lines w i x act.line act.command d
           by_deed (inl does) = inl does
           by_deed (inr (inl says)) =
               inr (inl (ap (λ (o : Option Reply). option_map (λ (r : Reply). deed.Ran act.line r) o)
@@ -464,7 +467,8 @@ module _ (eager ranks : ℕ) (lines : List Line) (groups : List ℕ) (g : ℕ) (
                 record {
                   spot = z;
                   here = still ∙ here;
-                  choice = choice_same eager ranks lines groups at.apart s (slice_set s i y) at.started (group_of groups j)
+                  choice = choice_same eager ranks lines groups at.apart s (slice_set s i y) at.started
+                      (group_of groups j)
                       (apart_from s i y (group_of groups j) not_g) j refl z here (at.inside j z here) m choice;
                 },
                 makes.4

@@ -55,7 +55,8 @@ Parts eager ranks lines groups g s u =
     × (turn : IsTurn eager ranks lines (λ k. slice_get s k) t) × (u ≡ slice_set s t.rank (moved_at turn.spot t.by))
 
 -- all moves of a group, of which one rank has one left, are among these
-pub record AreMovesOfGroup (eager ranks : ℕ) (lines : List Line) (v : ℕ → Option Spot) (turns : List Turn) : Type 0 where
+pub record AreMovesOfGroup (eager ranks : ℕ) (lines : List Line) (v : ℕ → Option Spot)
+    (turns : List Turn) : Type 0 where
   pub groups : List ℕ
   pub apart : AreApart groups lines
   pub rank : ℕ

@@ -45,7 +45,8 @@ pub record IsExpanded (eager ranks : ℕ) (lines : List Line) (store : Store) (i
   pub state : List Spot
   pub low : AreLow store.table ids
   pub is : states_in store.table ids ≡ state
-  pub leads : searches.IsExplored (Goes eager ranks lines) (AreEnoughAt ranks lines) (Makes eager ranks lines) (IsThere store)
+  pub leads : searches.IsExplored (Goes eager ranks lines) (AreEnoughAt ranks lines) (Makes eager ranks lines)
+      (IsThere store)
       state
 
 -- each of the first states is expanded
