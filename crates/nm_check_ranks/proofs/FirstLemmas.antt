@@ -1,15 +1,12 @@
 -- The event at which a rule of the messages between two ranks breaks first.
-use Rattle.std.proofs.Common.{◌≡◌, ◌⊎◌, inl, inr, ℕ, ◌+◌, ◌<◌, ◌≤◌, Bool, true, false, cond, Option, Some, None, List, take}
+use Rattle.std.proofs.Common.{◌≡◌, ◌⊎◌, inl, inr, ℕ, ◌+◌, ◌<◌, ◌≤◌, Bool, true, false, cond, Option, Some, None, List}
 use Rattle.std.proofs.Common.{refl, sym, ◌∙◌, subst, arith}
 use Rattle.std.specs.Prelude.{MatchBool}
 use Rattle.nm_types.specs.declared.scripts.Line.{Line}
-use Rattle.nm_types.specs.Commands.{commands_of}
 use Rattle.nm_history.specs.declared.events.Event.{Event}
 use Rattle.nm_history.specs.AtEach.{AtEach}
-use Rattle.nm_history.specs.Delivery.{ArriveInOrder, BodyAt, OutAfterPair, UndoneAfterWithdraw, WithdrawAfterRecall}
+use Rattle.nm_history.specs.Delivery.{UndoneAfterWithdraw, WithdrawAfterRecall}
 use Rattle.nm_history.specs.Quiescence.{Ended, history_of}
-use Rattle.nm_history.specs.RankRun.{Always}
-use Rattle.nm_history.specs.Sends.{arrivals, sends}
 use Rattle.nm_history.proofs.EachLemmas.{each_event}
 use Rattle.nm_check_rank.specs.Breaks.{BreaksFirstAt}
 use Rattle.nm_check_ranks.specs.CarriedBreaks.{BreaksBetweenAt, FirstAt, IsFirstBetween, PartAt, first_read}
@@ -29,6 +26,15 @@ not_late : (s t : Spot) (x : ℕ) → s.rank ≡ x → NotBefore s t → (t.rank
 not_late s t x here (inl low) = inl (omega (arith, low, here))
 not_late s t x here (inr same) = inr (same.0 ∙ here, same.1)
 
+-- of what is read up to an event of this rank
+first_own : (R : List Event → Event → Type 0) (x : ℕ) (h : List Event) (spot : Spot) → spot.rank ≡ x →
+    BreaksFirstAt (AtEach R) h spot.at →
+    AtEach R (read_of spot.rank spot.at x h) × (AtEach R (read_of spot.rank (spot.at + 1) x h) → ⊥)
+first_own R x h spot here first = (
+  subst (λ (g : List Event). AtEach R g) (sym (read_own spot.rank spot.at x h here)) first.kept,
+  λ each. first.broken (subst (λ (g : List Event). AtEach R g) (read_own spot.rank (spot.at + 1) x h here) each),
+)
+
 module _ (lines : List Line) (ranks : List Ended) (i j : ℕ) where
   abbrev hi : List Event
   hi = history_of ranks i
@@ -39,74 +45,59 @@ module _ (lines : List Line) (ranks : List Ended) (i j : ℕ) where
   pub messages_first : (found : Option Spot) → FirstAt lines ranks part.Arrivals j i found →
       IsFirstBetween lines ranks i j carried.Messages found
   messages_first None each = in_order i j hi hj each
-  messages_first (Some spot) first = record {
-    inside = inr (first.0, first.1.inside);
-    kept = subst (λ (g : List Event). ArriveInOrder i (sends hi j) (arrivals g i))
-        (sym (read_own spot.rank spot.at j hj first.0)) (in_order i j hi (take spot.at hj) first.1.kept);
-    broken = λ right. first.1.broken (each_next i j hi (take (spot.at + 1) hj)
-        (subst (λ (g : List Event). ArriveInOrder i (sends hi j) (arrivals g i))
-        (read_own spot.rank (spot.at + 1) j hj first.0) right));
-  }
+  messages_first (Some spot) first =
+      let own = first_own (PartAt part.Arrivals lines ranks j i) j hj spot first.0 first.1 in
+      record {
+        inside = inr (first.0, first.1.inside);
+        kept = in_order i j hi (read_of spot.rank spot.at j hj) own.0;
+        broken = λ right. own.1 (each_next i j hi (read_of spot.rank (spot.at + 1) j hj) right);
+      }
 
   pub bodies_first : (found : Option Spot) → FirstAt lines ranks part.Bodies j i found →
       IsFirstBetween lines ranks i j carried.Bodies found
   bodies_first None each = each
-  bodies_first (Some spot) first = record {
-    inside = inr (first.0, first.1.inside);
-    kept = subst (λ (g : List Event). Always (BodyAt i (commands_of i lines) (sends hi j) (commands_of j lines)) g)
-        (sym (read_own spot.rank spot.at j hj first.0)) first.1.kept;
-    broken = λ right. first.1.broken
-        (subst (λ (g : List Event). Always (BodyAt i (commands_of i lines) (sends hi j) (commands_of j lines)) g)
-        (read_own spot.rank (spot.at + 1) j hj first.0) right);
-  }
+  bodies_first (Some spot) first =
+      let own = first_own (PartAt part.Bodies lines ranks j i) j hj spot first.0 first.1 in
+      record { inside = inr (first.0, first.1.inside); kept = own.0; broken = own.1 }
 
   pub outs_first : (found : Option Spot) → FirstAt lines ranks part.Outs i j found →
       IsFirstBetween lines ranks i j carried.Outs found
   outs_first None each = each
-  outs_first (Some spot) first = record {
-    inside = inl (first.0, first.1.inside);
-    kept = subst (λ (g : List Event). AtEach (λ before e. OutAfterPair i j hj before e.stamp e.what) g)
-        (sym (read_own spot.rank spot.at i hi first.0)) first.1.kept;
-    broken = λ right. first.1.broken
-        (subst (λ (g : List Event). AtEach (λ before e. OutAfterPair i j hj before e.stamp e.what) g)
-        (read_own spot.rank (spot.at + 1) i hi first.0) right);
-  }
+  outs_first (Some spot) first =
+      let own = first_own (PartAt part.Outs lines ranks i j) i hi spot first.0 first.1 in
+      record { inside = inl (first.0, first.1.inside); kept = own.0; broken = own.1 }
 
   -- a withdrawal that is not asked for, where the answers that are read were given
   asked_first : (spot : Spot) → spot.rank ≡ j → BreaksFirstAt (AtEach (PartAt part.Withdrawals lines ranks j i)) hj
       spot.at → AtEach (PartAt part.Answers lines ranks i j) (read_of spot.rank spot.at i hi) →
       BreaksBetweenAt lines ranks i j carried.Withdrawals spot
-  asked_first spot here first others = record {
-    inside = inr (here, first.inside);
-    kept = (
-      each_event (WithdrawAfterRecall i j hi) (read_of spot.rank spot.at j hj)
-          (subst (λ (g : List Event). AtEach (PartAt part.Withdrawals lines ranks j i) g)
-          (sym (read_own spot.rank spot.at j hj here)) first.kept),
-      each_event (UndoneAfterWithdraw i j hj) (read_of spot.rank spot.at i hi) others,
-    );
-    broken = λ right. first.broken
-        (subst (λ (g : List Event). AtEach (PartAt part.Withdrawals lines ranks j i) g)
-        (read_own spot.rank (spot.at + 1) j hj here)
-        (at_each_event (WithdrawAfterRecall i j hi) (read_of spot.rank (spot.at + 1) j hj) right.0));
-  }
+  asked_first spot here first others =
+      let own = first_own (PartAt part.Withdrawals lines ranks j i) j hj spot here first in
+      record {
+        inside = inr (here, first.inside);
+        kept = (
+          each_event (WithdrawAfterRecall i j hi) (read_of spot.rank spot.at j hj) own.0,
+          each_event (UndoneAfterWithdraw i j hj) (read_of spot.rank spot.at i hi) others,
+        );
+        broken = λ right.
+            own.1 (at_each_event (WithdrawAfterRecall i j hi) (read_of spot.rank (spot.at + 1) j hj) right.0);
+      }
 
   -- an answer that was not given, where the withdrawals that are read were asked for
   answered_first : (spot : Spot) → spot.rank ≡ i → BreaksFirstAt (AtEach (PartAt part.Answers lines ranks i j)) hi
       spot.at → AtEach (PartAt part.Withdrawals lines ranks j i) (read_of spot.rank spot.at j hj) →
       BreaksBetweenAt lines ranks i j carried.Withdrawals spot
-  answered_first spot here first others = record {
-    inside = inl (here, first.inside);
-    kept = (
-      each_event (WithdrawAfterRecall i j hi) (read_of spot.rank spot.at j hj) others,
-      each_event (UndoneAfterWithdraw i j hj) (read_of spot.rank spot.at i hi)
-          (subst (λ (g : List Event). AtEach (PartAt part.Answers lines ranks i j) g)
-          (sym (read_own spot.rank spot.at i hi here)) first.kept),
-    );
-    broken = λ right. first.broken
-        (subst (λ (g : List Event). AtEach (PartAt part.Answers lines ranks i j) g)
-        (read_own spot.rank (spot.at + 1) i hi here)
-        (at_each_event (UndoneAfterWithdraw i j hj) (read_of spot.rank (spot.at + 1) i hi) right.1));
-  }
+  answered_first spot here first others =
+      let own = first_own (PartAt part.Answers lines ranks i j) i hi spot here first in
+      record {
+        inside = inl (here, first.inside);
+        kept = (
+          each_event (WithdrawAfterRecall i j hi) (read_of spot.rank spot.at j hj) others,
+          each_event (UndoneAfterWithdraw i j hj) (read_of spot.rank spot.at i hi) own.0,
+        );
+        broken = λ right.
+            own.1 (at_each_event (UndoneAfterWithdraw i j hj) (read_of spot.rank (spot.at + 1) i hi) right.1);
+      }
 
   pub withdrawals_first : (a b : Option Spot) → FirstAt lines ranks part.Withdrawals j i a →
       FirstAt lines ranks part.Answers i j b →

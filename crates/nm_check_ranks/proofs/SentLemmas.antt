@@ -1,15 +1,14 @@
 -- A message's send, by the first place of its number; and arrivals in order, one after another.
-use Rattle.std.proofs.Common.{not, ◌≡◌, ℕ, ◌+◌, ◌<◌, ◌≤◌, ◌==◌, ◌&&◌, ◌||◌, Bool, true, false, cond, Some, None, List}
+use Rattle.std.proofs.Common.{not, ◌≡◌, ℕ, ◌+◌, ◌<◌, ◌==◌, ◌&&◌, ◌||◌, Bool, true, false, cond, Option, Some, None, List}
 use Rattle.std.proofs.Common.{[], ◌∷◌, ◌++◌, length, take, drop, get_or, refl, sym, ◌∙◌, ap, subst, arith}
 use Rattle.std.proofs.Common.{append_assoc, append-nil}
 use Rattle.std.specs.Prelude.{IsSomeAnd, filter_map, nat_lt, position}
 use Rattle.std.specs.List.{cons_option, filter, list_any, slice_get}
 use Rattle.std.specs.Bool.{OnTrue}
-use Rattle.std.proofs.lemmas.Bool.{ltb-false, ltb-true}
-use Rattle.std.proofs.lemmas.Bool.Decides.{nat_tests}
+use Rattle.std.proofs.lemmas.Bool.{false≢true, ltb-false, ltb-true}
 use Rattle.std.proofs.lemmas.List.Elements.{filter_map-append, filter-append}
 use Rattle.std.proofs.lemmas.List.Quantifiers.{position-Some}
-use Rattle.std.proofs.lemmas.Option.{get_or_from_slice_get, slice_get_past, slice_get_within}
+use Rattle.std.proofs.lemmas.Option.{get_or_from_slice_get, slice_get_within}
 use Rattle.nm_types.specs.declared.messages.Envelope.{Envelope}
 use Rattle.nm_types.specs.declared.messages.How.{How}
 use Rattle.nm_history.specs.declared.events.Event.{Event}
@@ -24,63 +23,49 @@ use Rattle.nm_history.specs.Sends.{Arrived, Sent, arrivals, arrived_of, envelope
 use Rattle.nm_lookups.specs.Deciding.{Decides}
 use Rattle.nm_history.proofs.AtEachLemmas.{AtEach-split}
 use Rattle.nm_history.proofs.OnceLemmas.{arrivals-push}
-use Rattle.nm_check_rank.proofs.CountLemmas.{sends_count, sends_same}
+use Rattle.nm_history.proofs.Sent.{any_at, sends_numbered}
 use Rattle.nm_types.proofs.NumberLemmas.{differ, same_number}
-use Rattle.nm_types.proofs.TruthLemmas.{not_left, and_left, and_right}
+use Rattle.nm_types.proofs.TruthLemmas.{and_left, and_right}
 use Rattle.nm_types.proofs.ListLemmas.{split_at, get_behind as behind}
 
-or_right : (x y : Bool) → (x || y) ≡ false → y ≡ false
-or_right true y none = cc
-or_right false y none = none
-
 module _ (ranks j n : ℕ) where
-  next_below : (before : List Event) (stamp : ℕ) (what : Happened) → length (sends before j) ≤ n →
-      NumberAt ranks before what →
-      is_send j n what ≡ false → length (sends (before ++ record { stamp = stamp; what = what } ∷ []) j) ≤ n
-  next_below before stamp (Send to m tag ctx len how line) low number apart = by_rank (to == j) refl apart
+  -- the numbers of the sends, by the events
+  sent_any : (h : List Event) →
+      list_any (λ (s : Sent). s.n == n && true) (sends h j) ≡ list_any (λ (e : Event). is_send j n e.what) h
+  sent_any [] = refl
+  sent_any (e ∷ h) = by_what e.what (sent_any h)
     where
-      by_rank : (b : Bool) → (to == j) ≡ b → (b && m == n) ≡ false →
-          length (sends (before ++ record { stamp = stamp; what = Send to m tag ctx len how line } ∷ []) j) ≤ n
-      by_rank true same other =
-          let counted : length (sends (before ++ record { stamp = stamp; what = Send to m tag ctx len how line } ∷ [])
-          j) ≡ length (sends before j) + cond (to == j) 1 0 =
-          sends_count before (record { stamp = stamp; what = Send to m tag ctx len how line })
-          (record { stamp = stamp; to = to; n = m; tag = tag; ctx = ctx; len = len; how = how; line = line }) j refl
-          in
-          let one : ◌≡◌ {A = ℕ} (cond (to == j) 1 0) 1 = ap (λ (b : Bool). cond b 1 0) same in
-          let own : m ≡ length (sends before j) = subst (λ (k : ℕ). m ≡ length (sends before k))
-          (same_number to j same) number in
-          let apart : m ≡ n → ⊥ = λ (e : m ≡ n). let equal : (m == n) ≡ true = grind (arith, nat_tests) in cc in
-          omega (arith, counted, one, own, low, apart)
-      by_rank false same other =
-          let counted : length (sends (before ++ record { stamp = stamp; what = Send to m tag ctx len how line } ∷ [])
-          j) ≡ length (sends before j) + cond (to == j) 1 0 =
-          sends_count before (record { stamp = stamp; what = Send to m tag ctx len how line })
-          (record { stamp = stamp; to = to; n = m; tag = tag; ctx = ctx; len = len; how = how; line = line }) j refl
-          in
-          let none : ◌≡◌ {A = ℕ} (cond (to == j) 1 0) 0 = ap (λ (b : Bool). cond b 1 0) same in
-          omega (arith, counted, none, low)
-  next_below before stamp what low number apart =
-      let same : length (sends (before ++ record { stamp = stamp; what = what } ∷ []) j) ≡ length (sends before j) =
-      sends_same before (record { stamp = stamp; what = what }) j refl in
-      omega (arith, same, low)
+      by_number : (b : Bool) (x y : Bool) → x ≡ y → ((b && true) || x) ≡ (b || y)
+      by_number true x y same = refl
+      by_number false x y same = same
 
-  few_below : (before events : List Event) → length (sends before j) ≤ n →
-      AtEachAfter (λ b e. NumberAt ranks b e.what) before events →
-      list_any (λ e. is_send j n e.what) events ≡ false → length (sends (before ++ events) j) ≤ n
-  few_below before [] low each none = rw append-nil low
-  few_below before (e ∷ events) low each none =
-      subst (λ (g : List Event). length (sends g j) ≤ n) (append_assoc before (e ∷ []) events)
-      (few_below (before ++ e ∷ []) events
-      (next_below before e.stamp e.what low each.0
-      (not_left (is_send j n e.what) (list_any (λ e. is_send j n e.what) events) none)) each.1
-      (or_right (is_send j n e.what) (list_any (λ e. is_send j n e.what) events) none))
+      by_rank : (b : Bool) (s : Sent) →
+          list_any (λ (s : Sent). s.n == n && true) (sends h j) ≡ list_any (λ (e : Event). is_send j n e.what) h →
+          list_any (λ (s : Sent). s.n == n && true) (cond b (s ∷ sends h j) (sends h j))
+          ≡ ((b && s.n == n) || list_any (λ (e : Event). is_send j n e.what) h)
+      by_rank true s same = by_number (s.n == n) _ _ same
+      by_rank false s same = same
+
+      by_what : (w : Happened) →
+          list_any (λ (s : Sent). s.n == n && true) (sends h j) ≡ list_any (λ (e : Event). is_send j n e.what) h →
+          list_any (λ (s : Sent). s.n == n && true) (filter (λ s. s.to == j)
+          (cons_option (sent_of e.stamp w) (filter_map (λ (e : Event). sent_of e.stamp e.what) h)))
+          ≡ (is_send j n w || list_any (λ (e : Event). is_send j n e.what) h)
+      by_what (Send to m tag ctx len how line) same =
+          by_rank (to == j)
+          (record { stamp = e.stamp; to = to; n = m; tag = tag; ctx = ctx; len = len; how = how; line = line }) same
+      by_what w same = same
 
   -- a message whose number no send has was not sent
   pub never_sent : (h : List Event) → Always (NumberAt ranks) h → list_any (λ e. is_send j n e.what) h ≡ false →
       slice_get (sends h j) n ≡ None
-  unfolding AtEach
-  never_sent h each none = slice_get_past (sends h j) n (few_below [] h (omega arith) each none)
+  never_sent h each none = by_send (slice_get (sends h j) n) refl
+    where
+      by_send : (o : Option Sent) → slice_get (sends h j) n ≡ o → o ≡ None
+      by_send None is = refl
+      by_send (Some s) is = absurd (false≢true (sym none ∙ sym (sent_any h)
+          ∙ any_at (λ (s : Sent). s.n) (λ s. true) 0 n n (sends h j) s (omega arith) (sends_numbered ranks j h each)
+          is))
 
   sent_at : (before after : List Event) (stamp : ℕ) (what : Happened) → NumberAt ranks before what →
       is_send j n what ≡ true →
