@@ -21,7 +21,7 @@
 //!   those up to it are not. If it names a rank, all answers are possible, and the ranks below it can rest as
 //!   reported, but not this one with them.
 //! # What is only tested
-//! That reports which MPI allows are lawful, and others are not (`nm_rows::lawful`).
+//! That reports which MPI allows are lawful, and others are not (`.ci/conform`).
 #![tactic(auto)]
 
 mod hashes;
