@@ -17,7 +17,7 @@
 //! That `read_up_to` and `MemorySink::new` succeed with ample memory; how large the buffers of `read_up_to`
 //! are; that a read of a `RealSource` is one read of its std reader, a write of a `RealSink` one write of all
 //! its bytes, and that each of their errors is counted, since std's contracts name no errors; that
-//! `PairGate::met` is true only after both ranks met (`nm_rows`, `nm_rows::cli`).
+//! `PairGate::met` is true only after both ranks met (`nm_rows::ends`, `nm_rows::at_once`).
 #![tactic(auto)]
 
 mod gate;
