@@ -1,5 +1,4 @@
 mod AgainstLemmas
-mod EndLemmas
 mod EventLemmas
 mod ExactLemmas
 mod FedLemmas
@@ -7,7 +6,6 @@ mod HeldLemmas
 mod LastLemmas
 mod LineLemmas
 mod OtherLemmas
-mod QuoteLemmas
 mod RangeLemmas
 mod RankLemmas
 mod RankedLemmas

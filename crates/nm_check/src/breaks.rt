@@ -33,8 +33,8 @@ pub mod counts;
 mod finding;
 pub mod judgements;
 mod others;
-pub(crate) mod places;
-pub(crate) mod stops;
+pub mod places;
+pub mod stops;
 
 pub use finding::{Found, find};
 pub use judgements::Judgement;

@@ -1,7 +1,8 @@
 //! Whether a given record is of a run of a script, and if not, the first rule that it breaks.
 //!
-//! `breaks` judges a script and a trace in one text, and finds where the trace first breaks a rule. `verdict`
-//! puts it in a sentence, and `texts` in a line. `written` has laws: the trace of a run is read back.
+//! `breaks` judges a script and a trace in one text, and finds where the trace first breaks a rule. `texts`
+//! puts it in a line. `words` reads the words that ask for it. `written` has laws: the trace of a run is read
+//! back.
 //!
 //! # What a contract sees
 //! `specs/Verdicts.antt` says what each verdict means, by the definitions of a run in `nm_history` and
@@ -21,8 +22,8 @@ pub mod breaks;
 mod judging;
 mod ranking;
 pub mod texts;
-pub mod verdict;
 mod verdicts;
+pub mod words;
 pub mod written;
 
 pub use judging::judge;

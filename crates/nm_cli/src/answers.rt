@@ -10,8 +10,7 @@ ghost use Rattle.nm_cli.specs.Plans.{plan_fault_text as plan_fault_text_lem, pla
 ghost use Rattle.nm_cli.specs.Plains.{free_text as free_text_lem};
 
 use nm_check::breaks::Found;
-use nm_check::texts::{trace_fault_text, verdict_text};
-use nm_check::verdict::found_status;
+use nm_check::texts::{found_status, trace_fault_text, verdict_text};
 use nm_multi::CallLog;
 use nm_persist::{Plan, PlanKind};
 use nm_report::RunRecord;

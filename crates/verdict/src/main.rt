@@ -1,9 +1,9 @@
 //! Scripts and traces on standard input, verdicts on standard output.
 #![tactic(auto)]
 
-use nm_check::verdict::verdict;
 use nm_outside::{RealSink, RealSource};
 use nm_shell::{WANT_OF_MEMORY, words};
+use nm_verdict::verdict;
 use std::io;
 use std::process::ExitCode;
 use std::rt::Env;

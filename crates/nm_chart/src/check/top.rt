@@ -12,7 +12,7 @@ ghost use Rattle.nm_check.specs.Answers.{NotAsked};
 use crate::check::findings::{Finding, status, text};
 use crate::check::places::flag_of;
 use nm_check::breaks::{Found, find};
-use nm_check::verdict::asked;
+use nm_check::words::asked;
 use nm_outside::{Sink, Source, Unread, read_up_to};
 use nm_script::command_line::CommandLine;
 use nm_shell::{MAX_INPUT, WANT_OF_MEMORY, deliver};

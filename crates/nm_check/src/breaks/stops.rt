@@ -55,7 +55,7 @@ fn first_of(bytes: &[u8]) -> Option<&[u8]>
 }
 
 /// A line, counted from 0, if there are so many.
-pub(crate) fn line_at(bytes: &[u8], at: u64) -> Option<&[u8]>
+pub fn line_at(bytes: &[u8], at: u64) -> Option<&[u8]>
     ensures { option_map (λ line. line.now) result ≡ slice_get (lines_of bytes.now) at }
 {
     let mut rest = bytes;

@@ -1,4 +1,0 @@
-use Rattle.nm_check.proofs.verdict.events.event_words.Goals as goal
-
-pub returns : goal.returns
-returns c = rw c.event_at.ensures at c.happened_words.ensures

@@ -1,0 +1,9 @@
+pub mod Answers
+pub mod Called
+pub mod Counts
+pub mod Dues
+pub mod Endings
+pub mod Events
+pub mod Quotes
+pub mod Sentences
+pub mod Texts
