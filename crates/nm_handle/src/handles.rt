@@ -254,6 +254,9 @@ impl Handle {
         ensures ok { IfOk result (λ _. (self.old.state ≡ state_is.Open)
             × (self.new ≡ record self.old { state = state_is.Closed })) }
         ensures err { OnErr result (self.new ≡ self.old) }
+        ensures cause { IfErr result (λ e.
+            ((e ≡ fault.Closed) × (self.old.state ≡ state_is.Closed))
+            ⊎ ((e ≡ fault.Failed) × (self.old.state ≡ state_is.Failed))) }
     {
         match self.state {
             State::Open => {
