@@ -1,5 +1,6 @@
 -- What the calls of C answer: codes, and their numbers in include/nemesis.h.
-use Rattle.std.specs.Prelude.{◌≡◌, ◌≢◌, ℕ, ◌==◌, if◌then◌else◌, Bool, true, false, Option, Some, None, Result, Ok, Err}
+use Rattle.std.specs.Prelude.{◌≡◌, ◌≢◌, ℕ, ◌==◌, if◌then◌else◌, Bool, true, false, Option, Some, None}
+use Rattle.std.specs.Prelude.{Result, Ok, Err, IfErr, IfOk}
 use Rattle.std.specs.Arc.{arc_value}
 use Rattle.nm_types.specs.declared.answers.Answer.{Answer}
 use Rattle.nm_types.specs.declared.answers.Answer.TheVariants as answer
@@ -137,13 +138,12 @@ abbrev pub number_said : Result Code Code → ℕ
 number_said (Ok c) = number_of c
 number_said (Err e) = number_of e
 
--- a call came to this: it did so and answered a code, or it was refused
-pub data Comes (P : Handle → Handle → Code → Type 0) (a b : Handle) (r : Result Code Code) : Type 0 where
-  done : (c : Code) → r ≡ Ok c → P a b c → Comes P a b r
-  refused : (e : Code) → r ≡ Err e → IsRefused a b e → Comes P a b r
-
--- an export answered this number: that of what its call came to
-pub record Answers (P : Handle → Handle → Code → Type 0) (a b : Handle) (n : ℕ) : Type 0 where
+-- An export answered this number, that of what its call came to: it did so and answered a code, or it was refused,
+-- for such a cause.
+pub record Answers (P : Handle → Handle → Code → Type 0) (Q : Handle → Code → Type 0) (a b : Handle) (n : ℕ)
+    : Type 0 where
   pub called : Result Code Code
   pub number : n ≡ number_said called
-  pub comes : Comes P a b called
+  pub done : IfOk called (P a b)
+  pub refused : IfErr called (IsRefused a b)
+  pub cause : IfErr called (Q a)

@@ -1,13 +1,19 @@
 //! The calls of C on a handle.
 
-ghost use Rattle.std.specs.Prelude.{◌≡◌};
+ghost use Rattle.std.specs.Prelude.{◌≡◌, false, IfErr, IfOk, Some, is_some, option_map};
 ghost use Rattle.nm_types.specs.declared.scripts.Body.TheVariants as body_is;
 ghost use Rattle.nm_types.specs.declared.scripts.Command.TheVariants as command_is;
-ghost use Rattle.nm_handle.specs.Standing.{Stands};
-ghost use Rattle.nm_c.specs.Codes.{Comes, HasAnswered, IsAhead, IsClosed, IsTurn};
+ghost use Rattle.nm_process.specs.LastAnswer.{last_answer};
+ghost use Rattle.nm_handle.specs.Standing.{Stands, calls_of, process_of};
+ghost use Rattle.nm_c.specs.Asked.{after_asked, after_whole, asked, asked_whole, bytes_in};
+ghost use Rattle.nm_c.specs.Asked.{ended_so, to_tell, unless, whole_of};
+ghost use Rattle.nm_c.specs.Causes.{IsReason, IsReasonOfClose, IsReasonOfTurn};
+ghost use Rattle.nm_c.specs.Codes.{HasAnswered, IsAhead, IsClosed, IsRefused, IsTurn};
 ghost use Rattle.nm_c.specs.Codes.{code_of_turn, peer_of, pick_of};
+ghost use Rattle.nm_c.specs.Told.{HasShown, HasTold, LeavesBoth, LeavesStatus, body_said, status_said};
 
 use crate::codes::{Code, code_of, said};
+use crate::told::{bytes_of, copy, show, tell};
 use crate::{Left, Status, commands};
 use nm_handle::{Handle, State};
 use nm_types::{Answer, Command};
@@ -17,7 +23,9 @@ use std::alloc::Global;
 fn run(handle: &mut Handle, command: &Command) -> Result<Code, Code>
     requires stands { Stands handle.old }
     ensures kept { Stands handle.new }
-    ensures comes { Comes (HasAnswered command.now) handle.old handle.new result }
+    ensures ran { IfOk result (HasAnswered command.now handle.old handle.new) }
+    ensures refused { IfErr result (IsRefused handle.old handle.new) }
+    ensures cause { IfErr result (IsReason command.now handle.old) }
 {
     let _step = handle.call(command)?;
     Ok(said(handle.answer()))
@@ -36,9 +44,13 @@ pub(crate) fn send(
 ) -> Result<Code, Code>
     requires stands { Stands handle.old }
     ensures kept { Stands handle.new }
-    ensures comes { Comes
-        (HasAnswered (command_is.Send to request label group sync (body_is.Hex bytes.now)))
-        handle.old handle.new result }
+    ensures ran { IfOk result (HasAnswered
+        (command_is.Send to request label group sync (body_is.Hex bytes.now))
+        handle.old handle.new) }
+    ensures refused { IfErr result (IsRefused handle.old handle.new) }
+    ensures cause { IfErr result (IsReason
+        (command_is.Send to request label group sync (body_is.Hex bytes.now))
+        handle.old) }
 {
     let command = commands::send(alloc, request, to, label, group, sync, bytes)?;
     run(handle, &command)
@@ -55,60 +67,16 @@ pub(crate) fn receive(
 ) -> Result<Code, Code>
     requires stands { Stands handle.old }
     ensures kept { Stands handle.new }
-    ensures comes { Comes
-        (HasAnswered (command_is.Recv request (peer_of from) (pick_of label) group cap))
-        handle.old handle.new result }
+    ensures ran { IfOk result (HasAnswered
+        (command_is.Recv request (peer_of from) (pick_of label) group cap)
+        handle.old handle.new) }
+    ensures refused { IfErr result (IsRefused handle.old handle.new) }
+    ensures cause { IfErr result (IsReason
+        (command_is.Recv request (peer_of from) (pick_of label) group cap)
+        handle.old) }
 {
     let command = commands::receive(request, from, label, group, cap)?;
     run(handle, &command)
-}
-
-// A length in 32 bits.
-fn length_of(bytes: usize) -> u32 {
-    if bytes <= 0xffff_ffff {
-        bytes as u32
-    } else {
-        0xffff_ffff
-    }
-}
-
-// Copies as much as there is room for.
-fn copy(bytes: &[u8], into: &mut [u8]) {
-    let count = if bytes.len() < into.len() {
-        bytes.len()
-    } else {
-        into.len()
-    };
-    into[..count].copy_from_slice(&bytes[..count]);
-}
-
-// Tells what an answer has of a message.
-fn tell(answer: Option<&Answer>, status: &mut Status, body: &mut [u8]) {
-    match answer {
-        Some(
-            Answer::Got {
-                from,
-                tag,
-                body: bytes,
-            },
-        ) => {
-            status.from = *from as u32;
-            status.tag = *tag as u32;
-            status.length = length_of(bytes.len());
-            copy(bytes.as_slice(), body);
-        }
-        Some(Answer::Cut { from, tag, len }) => {
-            status.from = *from as u32;
-            status.tag = *tag as u32;
-            status.length = *len;
-        }
-        Some(Answer::Seen(seen)) => {
-            status.from = seen.from as u32;
-            status.tag = seen.tag as u32;
-            status.length = seen.len;
-        }
-        _ => {}
-    }
 }
 
 /// Whether a request is complete.
@@ -120,62 +88,108 @@ pub(crate) fn test(
 ) -> Result<Code, Code>
     requires stands { Stands handle.old }
     ensures kept { Stands handle.new }
-    ensures comes { Comes (HasAnswered (command_is.Test request)) handle.old handle.new result }
+    ensures ran { IfOk result (HasTold (command_is.Test request)
+        status.old status.new body.old body.new handle.old handle.new) }
+    ensures refused { IfErr result (IsRefused handle.old handle.new) }
+    ensures cause { IfErr result (LeavesBoth (command_is.Test request)
+        status.old status.new body.old body.new handle.old) }
 {
     let command = commands::test(request)?;
-    let came = run(handle, &command);
-    if came.is_ok() {
-        tell(handle.answer(), status, body);
-    }
-    came
+    let code = run(handle, &command)?;
+    tell(handle, status, body);
+    Ok(code)
 }
 
 /// Gives a wait, which turns run as soon as the request is complete.
 pub(crate) fn wait(handle: &mut Handle, request: u32) -> Result<Code, Code>
     requires stands { Stands handle.old }
     ensures kept { Stands handle.new }
-    ensures comes { Comes (IsAhead (command_is.Wait request)) handle.old handle.new result }
+    ensures ran { IfOk result (IsAhead (command_is.Wait request) handle.old handle.new) }
+    ensures refused { IfErr result (IsRefused handle.old handle.new) }
+    ensures cause { IfErr result (IsReason (command_is.Wait request) handle.old) }
 {
     let command = commands::wait(request)?;
     handle.give(command)?;
     Ok(Code::Done)
 }
 
-/// What the last command came to.
-pub(crate) fn answer(handle: &Handle, status: &mut Status, body: &mut [u8]) -> Result<Code, Code> {
-    if let State::Failed = handle.state() {
-        return Err(Code::Failed);
+// What the last command came to, where none waits.
+fn came_to(answer: Option<&Answer>) -> Result<Code, Code>
+    ensures { result ≡ ended_so false (option_map (λ a. a.now) answer.entry) }
+{
+    match answer {
+        Some(answer) => Ok(code_of(answer)),
+        None => Err(Code::NoSuch),
     }
-    if handle.waits() {
+}
+
+// What the last command came to, of a rank that has not failed.
+fn ended(handle: &Handle, status: &mut Status, body: &mut [u8]) -> Result<Code, Code>
+    ensures came { result ≡ ended_so (is_some (calls_of handle.now).next)
+        (last_answer (process_of handle.now).rank.events) }
+    ensures status { status.new ≡ status_said (unless (is_some (calls_of handle.now).next)
+        (last_answer (process_of handle.now).rank.events)) status.old }
+    ensures body { body.new ≡ body_said (unless (is_some (calls_of handle.now).next)
+        (last_answer (process_of handle.now).rank.events)) body.old }
+{
+    let waits = handle.waits();
+    if waits {
         return Ok(Code::Pending);
     }
-    let Some(answer) = handle.answer() else {
+    tell(handle, status, body);
+    came_to(handle.answer())
+}
+
+/// What the last command came to.
+pub(crate) fn answer(handle: &Handle, status: &mut Status, body: &mut [u8]) -> Result<Code, Code>
+    ensures came { result ≡ asked handle.now }
+    ensures status { status.new ≡ status_said (to_tell handle.now) status.old }
+    ensures body { body.new ≡ body_said (to_tell handle.now) body.old }
+{
+    match handle.state() {
+        State::Failed => Err(Code::Failed),
+        State::Open => ended(handle, status, body),
+        State::Closed => ended(handle, status, body),
+    }
+}
+
+// Writes a whole body, if there is room.
+fn write_whole(bytes: &[u8], into: &mut [u8]) -> Result<Code, Code>
+    ensures came { result ≡ whole_of (Some bytes.now) into.old }
+    ensures body { into.new ≡ after_whole (Some bytes.now) into.old }
+{
+    let fits = bytes.len() <= into.len();
+    if !fits {
+        return Err(Code::Short);
+    }
+    copy(bytes, into);
+    Ok(Code::Done)
+}
+
+// Writes the whole body that an answer gives.
+fn whole(answer: Option<&Answer>, into: &mut [u8]) -> Result<Code, Code>
+    ensures came { result ≡ whole_of (bytes_in (option_map (λ a. a.now) answer.entry)) into.old }
+    ensures body { into.new ≡ after_whole (bytes_in (option_map (λ a. a.now) answer.entry)) into.old }
+{
+    let Some(answer) = answer else {
         return Err(Code::NoSuch);
     };
-    tell(handle.answer(), status, body);
-    Ok(code_of(answer))
+    let Some(bytes) = bytes_of(answer) else {
+        return Err(Code::NoSuch);
+    };
+    write_whole(bytes.as_slice(), into)
 }
 
 /// The body of the last answer.
-pub(crate) fn body(handle: &Handle, into: &mut [u8]) -> Result<Code, Code> {
-    if let State::Failed = handle.state() {
-        return Err(Code::Failed);
+pub(crate) fn body(handle: &Handle, into: &mut [u8]) -> Result<Code, Code>
+    ensures came { result ≡ asked_whole handle.now into.old }
+    ensures body { into.new ≡ after_asked handle.now into.old }
+{
+    match handle.state() {
+        State::Failed => Err(Code::Failed),
+        State::Open => whole(handle.answer(), into),
+        State::Closed => whole(handle.answer(), into),
     }
-    let Some(
-        Answer::Got {
-            from: _,
-            tag: _,
-            body: bytes,
-        },
-    ) = handle.answer()
-    else {
-        return Err(Code::NoSuch);
-    };
-    if bytes.len() > into.len() {
-        return Err(Code::Short);
-    }
-    copy(bytes.as_slice(), into);
-    Ok(Code::Done)
 }
 
 /// Whether there is a message.
@@ -188,16 +202,18 @@ pub(crate) fn probe(
 ) -> Result<Code, Code>
     requires stands { Stands handle.old }
     ensures kept { Stands handle.new }
-    ensures comes { Comes
-        (HasAnswered (command_is.Probe (peer_of from) (pick_of label) group))
-        handle.old handle.new result }
+    ensures ran { IfOk result (HasShown
+        (command_is.Probe (peer_of from) (pick_of label) group)
+        status.old status.new handle.old handle.new) }
+    ensures refused { IfErr result (IsRefused handle.old handle.new) }
+    ensures cause { IfErr result (LeavesStatus
+        (command_is.Probe (peer_of from) (pick_of label) group)
+        status.old status.new handle.old) }
 {
     let command = commands::probe(from, label, group)?;
-    let came = run(handle, &command);
-    if came.is_ok() {
-        tell(handle.answer(), status, &mut []);
-    }
-    came
+    let code = run(handle, &command)?;
+    show(handle, status);
+    Ok(code)
 }
 
 /// Whether there is a message, which is claimed.
@@ -211,16 +227,18 @@ pub(crate) fn claim(
 ) -> Result<Code, Code>
     requires stands { Stands handle.old }
     ensures kept { Stands handle.new }
-    ensures comes { Comes
-        (HasAnswered (command_is.Mprobe message (peer_of from) (pick_of label) group))
-        handle.old handle.new result }
+    ensures ran { IfOk result (HasShown
+        (command_is.Mprobe message (peer_of from) (pick_of label) group)
+        status.old status.new handle.old handle.new) }
+    ensures refused { IfErr result (IsRefused handle.old handle.new) }
+    ensures cause { IfErr result (LeavesStatus
+        (command_is.Mprobe message (peer_of from) (pick_of label) group)
+        status.old status.new handle.old) }
 {
     let command = commands::claim(message, from, label, group)?;
-    let came = run(handle, &command);
-    if came.is_ok() {
-        tell(handle.answer(), status, &mut []);
-    }
-    came
+    let code = run(handle, &command)?;
+    show(handle, status);
+    Ok(code)
 }
 
 /// Starts a receive of a claimed message.
@@ -232,9 +250,9 @@ pub(crate) fn receive_claimed(
 ) -> Result<Code, Code>
     requires stands { Stands handle.old }
     ensures kept { Stands handle.new }
-    ensures comes { Comes
-        (HasAnswered (command_is.Mrecv request message cap))
-        handle.old handle.new result }
+    ensures ran { IfOk result (HasAnswered (command_is.Mrecv request message cap) handle.old handle.new) }
+    ensures refused { IfErr result (IsRefused handle.old handle.new) }
+    ensures cause { IfErr result (IsReason (command_is.Mrecv request message cap) handle.old) }
 {
     let command = commands::receive_claimed(request, message, cap)?;
     run(handle, &command)
@@ -244,7 +262,9 @@ pub(crate) fn receive_claimed(
 pub(crate) fn cancel(handle: &mut Handle, request: u32) -> Result<Code, Code>
     requires stands { Stands handle.old }
     ensures kept { Stands handle.new }
-    ensures comes { Comes (HasAnswered (command_is.Cancel request)) handle.old handle.new result }
+    ensures ran { IfOk result (HasAnswered (command_is.Cancel request) handle.old handle.new) }
+    ensures refused { IfErr result (IsRefused handle.old handle.new) }
+    ensures cause { IfErr result (IsReason (command_is.Cancel request) handle.old) }
 {
     let command = commands::cancel(request)?;
     run(handle, &command)
@@ -254,7 +274,9 @@ pub(crate) fn cancel(handle: &mut Handle, request: u32) -> Result<Code, Code>
 pub(crate) fn progress(handle: &mut Handle) -> Result<Code, Code>
     requires stands { Stands handle.old }
     ensures kept { Stands handle.new }
-    ensures comes { Comes IsTurn handle.old handle.new result }
+    ensures ran { IfOk result (IsTurn handle.old handle.new) }
+    ensures refused { IfErr result (IsRefused handle.old handle.new) }
+    ensures cause { IfErr result (IsReasonOfTurn handle.old) }
 {
     let moved = handle.progress()?;
     Ok(turned(moved))
@@ -286,7 +308,9 @@ pub(crate) fn tell_left(handle: &Handle, left: &mut Left) -> Result<Code, Code> 
 pub(crate) fn close(handle: &mut Handle, left: &mut Left) -> Result<Code, Code>
     requires stands { Stands handle.old }
     ensures kept { Stands handle.new }
-    ensures comes { Comes IsClosed handle.old handle.new result }
+    ensures ran { IfOk result (IsClosed handle.old handle.new) }
+    ensures refused { IfErr result (IsRefused handle.old handle.new) }
+    ensures cause { IfErr result (IsReasonOfClose handle.old) }
 {
     handle.close()?;
     write_left(handle, left);

@@ -1,9 +1,11 @@
 //! Commands by numbers and bytes of C.
 
-ghost use Rattle.std.specs.Prelude.{◌≡◌, true, IfErr, IfOk};
+ghost use Rattle.std.specs.Prelude.{◌≡◌, ◌⊎◌, true, IfErr, IfOk};
 ghost use Rattle.nm_types.specs.declared.scripts.Body.TheVariants as body_is;
 ghost use Rattle.nm_types.specs.declared.scripts.Command.TheVariants as command;
+ghost use Rattle.nm_c.specs.Causes.{IsAbove};
 ghost use Rattle.nm_c.specs.Codes.{is_refusal, peer_of, pick_of};
+ghost use Rattle.nm_c.specs.declared.codes.Code.TheVariants as code;
 
 use crate::codes::Code;
 use crate::words::{check_length, context, name, peer, pick, rank, tag};
@@ -31,12 +33,14 @@ pub(crate) fn send(
     ensures ok { IfOk result (λ x.
         x ≡ command.Send to request label group sync (body_is.Hex bytes.now)) }
     ensures err { IfErr result (λ e. is_refusal e ≡ true) }
+    ensures cause { IfErr result (λ e.
+        IsAbove (command.Send to request label group sync (body_is.Hex bytes.now)) e ⊎ (e ≡ code.Memory)) }
 {
     let q = name(request)?;
     let to = rank(to)?;
     let tag = tag(label)?;
     let ctx = context(group)?;
-    check_length(bytes.len())?;
+    check_length(bytes)?;
     let body = body_of(alloc, bytes)?;
     Ok(Command::Send {
         to,
@@ -59,6 +63,7 @@ pub(crate) fn receive(
     ensures ok { IfOk result (λ x.
         x ≡ command.Recv request (peer_of from) (pick_of label) group cap) }
     ensures err { IfErr result (λ e. is_refusal e ≡ true) }
+    ensures cause { IfErr result (IsAbove (command.Recv request (peer_of from) (pick_of label) group cap)) }
 {
     let q = name(request)?;
     let from = peer(from)?;
@@ -77,6 +82,7 @@ pub(crate) fn receive(
 pub(crate) fn probe(from: u32, label: u32, group: u32) -> Result<Command, Code>
     ensures ok { IfOk result (λ x. x ≡ command.Probe (peer_of from) (pick_of label) group) }
     ensures err { IfErr result (λ e. is_refusal e ≡ true) }
+    ensures cause { IfErr result (IsAbove (command.Probe (peer_of from) (pick_of label) group)) }
 {
     let from = peer(from)?;
     let tag = pick(label)?;
@@ -89,6 +95,7 @@ pub(crate) fn claim(message: u32, from: u32, label: u32, group: u32) -> Result<C
     ensures ok { IfOk result (λ x.
         x ≡ command.Mprobe message (peer_of from) (pick_of label) group) }
     ensures err { IfErr result (λ e. is_refusal e ≡ true) }
+    ensures cause { IfErr result (IsAbove (command.Mprobe message (peer_of from) (pick_of label) group)) }
 {
     let m = name(message)?;
     let from = peer(from)?;
@@ -101,6 +108,7 @@ pub(crate) fn claim(message: u32, from: u32, label: u32, group: u32) -> Result<C
 pub(crate) fn receive_claimed(request: u32, message: u32, cap: u32) -> Result<Command, Code>
     ensures ok { IfOk result (λ x. x ≡ command.Mrecv request message cap) }
     ensures err { IfErr result (λ e. is_refusal e ≡ true) }
+    ensures cause { IfErr result (IsAbove (command.Mrecv request message cap)) }
 {
     let q = name(request)?;
     let m = name(message)?;
@@ -111,22 +119,28 @@ pub(crate) fn receive_claimed(request: u32, message: u32, cap: u32) -> Result<Co
 pub(crate) fn test(request: u32) -> Result<Command, Code>
     ensures ok { IfOk result (λ x. x ≡ command.Test request) }
     ensures err { IfErr result (λ e. is_refusal e ≡ true) }
+    ensures cause { IfErr result (IsAbove (command.Test request)) }
 {
-    Ok(Command::Test { q: name(request)? })
+    let q = name(request)?;
+    Ok(Command::Test { q })
 }
 
 /// A wait.
 pub(crate) fn wait(request: u32) -> Result<Command, Code>
     ensures ok { IfOk result (λ x. x ≡ command.Wait request) }
     ensures err { IfErr result (λ e. is_refusal e ≡ true) }
+    ensures cause { IfErr result (IsAbove (command.Wait request)) }
 {
-    Ok(Command::Wait { q: name(request)? })
+    let q = name(request)?;
+    Ok(Command::Wait { q })
 }
 
 /// A cancel.
 pub(crate) fn cancel(request: u32) -> Result<Command, Code>
     ensures ok { IfOk result (λ x. x ≡ command.Cancel request) }
     ensures err { IfErr result (λ e. is_refusal e ≡ true) }
+    ensures cause { IfErr result (IsAbove (command.Cancel request)) }
 {
-    Ok(Command::Cancel { q: name(request)? })
+    let q = name(request)?;
+    Ok(Command::Cancel { q })
 }

@@ -9,24 +9,31 @@
 //! # What is proved
 //! - Each export is safe, and ends, for all numbers and all memory that its types speak of.
 //! - A call does to its rank what the command does that it names, and answers the number of that command's answer;
-//!   or it is refused, and then nothing was done but where memory was refused (`answered`: `Answers`). What a command
-//!   does is what `nm_handle` says.
+//!   or it is refused, for a reason, and then nothing was done but where memory was refused (`answered`: `Answers`).
+//!   What a command does is what `nm_handle` says.
+//! - A test and a probe write what the answer tells of a message into the status, and a test its bytes into the
+//!   memory, as many as there is room for. Where there is no message, and where the call is refused, nothing is
+//!   written (`answered`). So it is with what a rank is asked of its last command (`nm_answer`, `nm_body`: `came`,
+//!   `status`, `body`).
 //! - A rank that stands goes on standing, whatever is called (`kept`): so what its handle is asked for
 //!   (`requires stands`) is no more than that it is one that `nm_world_new` wrote.
 //! # What is only tested
-//! What is written into a status and a body (`tests/c`).
+//! What `nm_left_of` and `nm_close` write (`tests/c`).
 //! # What is not
 //! - C gets no clause on memory from `nm_world_new`: that the pointers which it writes are ranks is not said. Nor is
 //!   anything of code in C checked: that a rank is used by one call at a time, and not after `nm_rank_free`.
 #![tactic(auto)]
 
 ghost use Rattle.std.specs.Prelude.{◌≡◌, false, true};
-ghost use Rattle.nm_handle.specs.Standing.{Stands};
+ghost use Rattle.nm_handle.specs.Standing.{Stands, calls_of, process_of};
 ghost use Rattle.nm_handle.specs.declared.handles.Handle.{Handle};
 ghost use Rattle.nm_types.specs.declared.scripts.Body.TheVariants as body_is;
 ghost use Rattle.nm_types.specs.declared.scripts.Command.TheVariants as command;
-ghost use Rattle.nm_c.specs.Codes.{Answers, HasAnswered, IsAhead, IsClosed, IsTurn, peer_of, pick_of};
+ghost use Rattle.nm_c.specs.Asked.{after_asked, asked, asked_whole, to_tell};
+ghost use Rattle.nm_c.specs.Causes.{IsReason, IsReasonOfClose, IsReasonOfTurn};
+ghost use Rattle.nm_c.specs.Codes.{Answers, HasAnswered, IsAhead, IsClosed, IsTurn, number_said, peer_of, pick_of};
 ghost use Rattle.nm_c.specs.Held.{handle_coded, rank_owns};
+ghost use Rattle.nm_c.specs.Told.{HasShown, HasTold, LeavesBoth, LeavesStatus, body_said, status_said};
 
 mod calls;
 mod codes;
@@ -34,6 +41,7 @@ mod commands;
 mod lend;
 mod parts;
 mod raw;
+mod told;
 mod words;
 mod worlds;
 
@@ -117,6 +125,7 @@ pub extern "C" fn nm_world_new(
 #[unsafe(no_mangle)]
 pub extern "C" fn nm_number(rank: &mut Rank) -> u32
     ensures same { rank.new.value ≡ rank.old.value }
+    ensures number { result ≡ (process_of rank.old.value).rank.me }
 {
     rank.handle().me() as u32
 }
@@ -125,6 +134,7 @@ pub extern "C" fn nm_number(rank: &mut Rank) -> u32
 #[unsafe(no_mangle)]
 pub extern "C" fn nm_count(rank: &mut Rank) -> u32
     ensures same { rank.new.value ≡ rank.old.value }
+    ensures count { result ≡ (calls_of rank.old.value).ranks }
 {
     rank.handle().ranks() as u32
 }
@@ -144,6 +154,7 @@ pub extern "C" fn nm_isend(
     ensures kept { Stands rank.new.value }
     ensures answered { Answers
         (HasAnswered (command.Send to name tag context false (body_is.Hex body.now)))
+        (IsReason (command.Send to name tag context false (body_is.Hex body.now)))
         rank.old.value rank.new.value result }
 {
     number(calls::send(alloc, rank.handle(), name, to, tag, context, false, body))
@@ -164,6 +175,7 @@ pub extern "C" fn nm_issend(
     ensures kept { Stands rank.new.value }
     ensures answered { Answers
         (HasAnswered (command.Send to name tag context true (body_is.Hex body.now)))
+        (IsReason (command.Send to name tag context true (body_is.Hex body.now)))
         rank.old.value rank.new.value result }
 {
     number(calls::send(alloc, rank.handle(), name, to, tag, context, true, body))
@@ -183,6 +195,7 @@ pub extern "C" fn nm_irecv(
     ensures kept { Stands rank.new.value }
     ensures answered { Answers
         (HasAnswered (command.Recv name (peer_of from) (pick_of tag) context capacity))
+        (IsReason (command.Recv name (peer_of from) (pick_of tag) context capacity))
         rank.old.value rank.new.value result }
 {
     number(calls::receive(rank.handle(), name, from, tag, context, capacity))
@@ -194,7 +207,8 @@ pub extern "C" fn nm_test(rank: &mut Rank, name: u32, status: &mut Status, body:
     requires stands { Stands rank.old.value }
     ensures kept { Stands rank.new.value }
     ensures answered { Answers
-        (HasAnswered (command.Test name))
+        (HasTold (command.Test name) status.old status.new body.old body.new)
+        (LeavesBoth (command.Test name) status.old status.new body.old body.new)
         rank.old.value rank.new.value result }
 {
     number(calls::test(rank.handle(), name, status, body))
@@ -205,7 +219,10 @@ pub extern "C" fn nm_test(rank: &mut Rank, name: u32, status: &mut Status, body:
 pub extern "C" fn nm_wait(rank: &mut Rank, name: u32) -> u32
     requires stands { Stands rank.old.value }
     ensures kept { Stands rank.new.value }
-    ensures answered { Answers (IsAhead (command.Wait name)) rank.old.value rank.new.value result }
+    ensures answered { Answers
+        (IsAhead (command.Wait name))
+        (IsReason (command.Wait name))
+        rank.old.value rank.new.value result }
 {
     number(calls::wait(rank.handle(), name))
 }
@@ -214,6 +231,9 @@ pub extern "C" fn nm_wait(rank: &mut Rank, name: u32) -> u32
 #[unsafe(no_mangle)]
 pub extern "C" fn nm_answer(rank: &mut Rank, status: &mut Status, body: &mut [u8]) -> u32
     ensures same { rank.new.value ≡ rank.old.value }
+    ensures came { result ≡ number_said (asked rank.old.value) }
+    ensures status { status.new ≡ status_said (to_tell rank.old.value) status.old }
+    ensures body { body.new ≡ body_said (to_tell rank.old.value) body.old }
 {
     number(calls::answer(rank.handle(), status, body))
 }
@@ -222,6 +242,8 @@ pub extern "C" fn nm_answer(rank: &mut Rank, status: &mut Status, body: &mut [u8
 #[unsafe(no_mangle)]
 pub extern "C" fn nm_body(rank: &mut Rank, body: &mut [u8]) -> u32
     ensures same { rank.new.value ≡ rank.old.value }
+    ensures came { result ≡ number_said (asked_whole rank.old.value body.old) }
+    ensures body { body.new ≡ after_asked rank.old.value body.old }
 {
     number(calls::body(rank.handle(), body))
 }
@@ -238,7 +260,8 @@ pub extern "C" fn nm_iprobe(
     requires stands { Stands rank.old.value }
     ensures kept { Stands rank.new.value }
     ensures answered { Answers
-        (HasAnswered (command.Probe (peer_of from) (pick_of tag) context))
+        (HasShown (command.Probe (peer_of from) (pick_of tag) context) status.old status.new)
+        (LeavesStatus (command.Probe (peer_of from) (pick_of tag) context) status.old status.new)
         rank.old.value rank.new.value result }
 {
     number(calls::probe(rank.handle(), from, tag, context, status))
@@ -257,7 +280,8 @@ pub extern "C" fn nm_improbe(
     requires stands { Stands rank.old.value }
     ensures kept { Stands rank.new.value }
     ensures answered { Answers
-        (HasAnswered (command.Mprobe handle (peer_of from) (pick_of tag) context))
+        (HasShown (command.Mprobe handle (peer_of from) (pick_of tag) context) status.old status.new)
+        (LeavesStatus (command.Mprobe handle (peer_of from) (pick_of tag) context) status.old status.new)
         rank.old.value rank.new.value result }
 {
     number(calls::claim(rank.handle(), handle, from, tag, context, status))
@@ -270,6 +294,7 @@ pub extern "C" fn nm_imrecv(rank: &mut Rank, name: u32, handle: u32, capacity: u
     ensures kept { Stands rank.new.value }
     ensures answered { Answers
         (HasAnswered (command.Mrecv name handle capacity))
+        (IsReason (command.Mrecv name handle capacity))
         rank.old.value rank.new.value result }
 {
     number(calls::receive_claimed(rank.handle(), name, handle, capacity))
@@ -282,6 +307,7 @@ pub extern "C" fn nm_cancel(rank: &mut Rank, name: u32) -> u32
     ensures kept { Stands rank.new.value }
     ensures answered { Answers
         (HasAnswered (command.Cancel name))
+        (IsReason (command.Cancel name))
         rank.old.value rank.new.value result }
 {
     number(calls::cancel(rank.handle(), name))
@@ -292,7 +318,7 @@ pub extern "C" fn nm_cancel(rank: &mut Rank, name: u32) -> u32
 pub extern "C" fn nm_progress(rank: &mut Rank) -> u32
     requires stands { Stands rank.old.value }
     ensures kept { Stands rank.new.value }
-    ensures answered { Answers IsTurn rank.old.value rank.new.value result }
+    ensures answered { Answers IsTurn IsReasonOfTurn rank.old.value rank.new.value result }
 {
     number(calls::progress(rank.handle()))
 }
@@ -310,7 +336,7 @@ pub extern "C" fn nm_left_of(rank: &mut Rank, left: &mut Left) -> u32
 pub extern "C" fn nm_close(rank: &mut Rank, left: &mut Left) -> u32
     requires stands { Stands rank.old.value }
     ensures kept { Stands rank.new.value }
-    ensures answered { Answers IsClosed rank.old.value rank.new.value result }
+    ensures answered { Answers IsClosed IsReasonOfClose rank.old.value rank.new.value result }
 {
     number(calls::close(rank.handle(), left))
 }

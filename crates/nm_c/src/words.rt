@@ -1,7 +1,8 @@
 //! Numbers of C as what the core takes.
 
-ghost use Rattle.std.specs.Prelude.{◌≡◌, ◌<◌, IfErr, IfOk};
+ghost use Rattle.std.specs.Prelude.{◌≡◌, ◌<◌, IfErr, IfOk, length};
 ghost use Rattle.nm_types.specs.declared.limits.TheConstants.{MAX_BODY, MAX_CONTEXT, MAX_NAME, MAX_TAG};
+ghost use Rattle.nm_c.specs.Causes.{IsNoPeer, IsNoPick};
 ghost use Rattle.nm_c.specs.Codes.{peer_of, pick_of};
 ghost use Rattle.nm_c.specs.declared.codes.Code.TheVariants as code;
 
@@ -39,11 +40,13 @@ pub(crate) fn rank(number: u32) -> Result<u8, Code>
 pub(crate) fn peer(number: u32) -> Result<Peer, Code>
     ensures ok { IfOk result (λ n. n ≡ peer_of number) }
     ensures err { IfErr result (λ e. (e ≡ code.BadRank) × (255 < number)) }
+    ensures none { IfErr result (IsNoPeer (peer_of number)) }
 {
     if number == ANY {
         Ok(Peer::Any)
     } else {
-        Ok(Peer::One(rank(number)?))
+        let one = rank(number)?;
+        Ok(Peer::One(one))
     }
 }
 
@@ -63,11 +66,13 @@ pub(crate) fn tag(number: u32) -> Result<u16, Code>
 pub(crate) fn pick(number: u32) -> Result<TagPick, Code>
     ensures ok { IfOk result (λ n. n ≡ pick_of number) }
     ensures err { IfErr result (λ e. (e ≡ code.BadTag) × (MAX_TAG < number)) }
+    ensures none { IfErr result (IsNoPick (pick_of number)) }
 {
     if number == ANY {
         Ok(TagPick::Any)
     } else {
-        Ok(TagPick::One(tag(number)?))
+        let one = tag(number)?;
+        Ok(TagPick::One(one))
     }
 }
 
@@ -95,10 +100,10 @@ pub(crate) fn shape(ranks: usize, cells: u32, eager: u32) -> Result<Shape, Code>
 }
 
 /// That a body is within its limit.
-pub(crate) fn check_length(length: usize) -> Result<(), Code>
-    ensures err { IfErr result (λ e. (e ≡ code.BadLength) × (MAX_BODY < length)) }
+pub(crate) fn check_length(bytes: &[u8]) -> Result<(), Code>
+    ensures err { IfErr result (λ e. (e ≡ code.BadLength) × (MAX_BODY < length bytes.now)) }
 {
-    if length <= MAX_BODY as usize {
+    if bytes.len() <= MAX_BODY as usize {
         Ok(())
     } else {
         Err(Code::BadLength)

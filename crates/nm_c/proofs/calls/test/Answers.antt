@@ -1,17 +1,47 @@
--- The command is that of these numbers.
-use Rattle.std.proofs.Common.{refl, ap, ◌∙◌, subst}
+-- The command is that of these numbers, and what it answers is told.
+use Rattle.std.proofs.Common.{refl, subst}
 use Rattle.std.proofs.lemmas.Result.{err_from_is_err_and}
 use Rattle.nm_types.specs.declared.scripts.Command.{Command}
-use Rattle.nm_c.specs.Codes.{Comes, HasAnswered, is_refusal}
-use Rattle.nm_c.specs.Codes.Comes.{refused}
+use Rattle.nm_c.specs.Causes.IsReason.{above}
+use Rattle.nm_c.specs.Codes.{HasAnswered}
+use Rattle.nm_c.proofs.Reasons.{of_same}
 use Rattle.nm_c.proofs.calls.test.Goals as goal
 
-pub returns-clause-comes : goal.returns-clause-comes
-returns-clause-comes c =
-    subst (λ (x : Command). Comes (HasAnswered x) c.args.handle.now c.run-came.new.handle c.run-came.result)
-    c.in_ok-command.ensures.ok c.run-came.ensures.comes
+pub returns-clause-ran : goal.returns-clause-ran
+returns-clause-ran c = record {
+  shown = record {
+    answered = subst (λ (x : Command). HasAnswered x c.args.handle.now c.run.new.handle c.in_ok-code.code)
+        c.in_ok-command.ensures.ok c.in_ok-code.ensures.ran;
+    status = c.tell.ensures.status;
+  };
+  body = c.tell.ensures.body;
+}
 
-pub returns-in_err-command-clause-comes : goal.returns-in_err-command-clause-comes
-returns-in_err-command-clause-comes c =
+pub returns-in_err-command-clause-refused : goal.returns-in_err-command-clause-refused
+returns-in_err-command-clause-refused c =
     let p = err_from_is_err_and c.from_residual.result c.from_residual.ensures.1 in
-    refused p.0 p.1 (record { kind = ap is_refusal p.2 ∙ c.in_err-command.ensures.err; same = λ ne. refl })
+    rw (p.1, p.2) (record { kind = c.in_err-command.ensures.err; same = λ ne. refl })
+
+pub returns-in_err-command-clause-cause : goal.returns-in_err-command-clause-cause
+returns-in_err-command-clause-cause c =
+    let p = err_from_is_err_and c.from_residual.result c.from_residual.ensures.1 in
+    rw (p.1, p.2) (record {
+      status = record { reason = above c.in_err-command.ensures.cause; status = refl };
+      body = refl;
+    })
+
+pub returns-in_err-code-clause-refused : goal.returns-in_err-code-clause-refused
+returns-in_err-code-clause-refused c =
+    let p = err_from_is_err_and c.from_residual-in_err-code.result c.from_residual-in_err-code.ensures.1 in
+    rw (p.1, p.2) c.in_err-code.ensures.refused
+
+pub returns-in_err-code-clause-cause : goal.returns-in_err-code-clause-cause
+returns-in_err-code-clause-cause c =
+    let p = err_from_is_err_and c.from_residual-in_err-code.result c.from_residual-in_err-code.ensures.1 in
+    rw (p.1, p.2) (record {
+      status = record {
+        reason = of_same _ _ _ _ c.in_ok-command.ensures.ok c.in_err-code.ensures.cause;
+        status = refl;
+      };
+      body = refl;
+    })

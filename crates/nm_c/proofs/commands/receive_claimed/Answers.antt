@@ -1,0 +1,14 @@
+-- The number that is above its limit.
+use Rattle.std.proofs.Common.{inl, inr}
+use Rattle.std.proofs.lemmas.Result.{err_from_is_err_and}
+use Rattle.nm_c.proofs.commands.receive_claimed.Goals as goal
+
+pub returns-in_err-q-clause-cause : goal.returns-in_err-q-clause-cause
+returns-in_err-q-clause-cause c =
+    let p = err_from_is_err_and c.from_residual.result c.from_residual.ensures.1 in
+    rw (p.1, p.2) (inl c.in_err-q.ensures.err)
+
+pub returns-in_err-m-clause-cause : goal.returns-in_err-m-clause-cause
+returns-in_err-m-clause-cause c =
+    let p = err_from_is_err_and c.from_residual-in_err-m.result c.from_residual-in_err-m.ensures.1 in
+    rw (p.1, p.2) (inr c.in_err-m.ensures.err)
