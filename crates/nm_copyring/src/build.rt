@@ -15,6 +15,10 @@ use nm_chain::seats::GivesFirst;
 use nm_types::{Memory, Shape};
 use std::alloc::Global;
 
+// Room for so many counts more, which no port uses: two ports count at the same time, and it keeps what one counts
+// out of the lines of memory of the other.
+const APART: usize = 4;
+
 // Nothing was pushed to any of the ranks, and nothing pulled from them.
 fn new_tallies(alloc: Global, ranks: u64) -> Result<Vec<Tally>, Memory>
     requires { ranks ≤ 64 }
@@ -26,7 +30,9 @@ fn new_tallies(alloc: Global, ranks: u64) -> Result<Vec<Tally>, Memory>
         full: 0,
         empty: 0,
     };
-    Ok(vec![in alloc; none; ranks as usize]?)
+    let mut tallies = vec![in alloc; none; ranks as usize]?;
+    tallies.reserve_exact(APART)?;
+    Ok(tallies)
 }
 
 // The port of the lowest rank that `rest` speaks for.
