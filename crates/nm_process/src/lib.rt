@@ -6,8 +6,8 @@
 //! and receives), 3.7 (requests) and 3.8 (probes and cancels). What records its history is a parameter
 //! (`nm_rank::journal::Recorder`), a `History` where none is named.
 //!
-//! A `Source` gives a rank its commands, one after another: a `Scripted` those of a rank of a script, a `Given`
-//! those of a `Program`, which is told each answer.
+//! A `Source` gives a rank its commands, one after another: a `Scripted` those of a rank of a script.
+//! `specs/Playing.antt` says what one gives that asks a program, which is told each answer (`nm_programs`).
 //!
 //! # What a contract sees
 //! A `ProcessView`: the view of the rank, how many commands ran, and what each name and each handle stands
@@ -22,24 +22,18 @@
 //!   or the command can't go on: clauses `stepped` and `waits`.
 //! - A source gives each command in order, with its line, and none again: clauses `next` and `pass` of
 //!   `Source`, which a `Scripted` meets with the commands of its rank in the script.
-//! - A program is told exactly the answers of its commands, one after another (`Given::into_parts`: `played`).
 #![tactic(auto)]
 
 mod commands;
-mod given;
 pub mod laws;
 mod names;
 mod pages;
 mod passing;
 mod processes;
-mod programs;
-mod ranges;
 pub mod scripted;
 pub mod sources;
 mod steps;
 
-pub use given::{Given, Played};
 pub use processes::{Leavings, Process};
-pub use programs::Program;
 pub use sources::Source;
 pub use steps::{Handle, Step, looks};

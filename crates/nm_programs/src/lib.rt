@@ -18,6 +18,8 @@
 //!   (`run_unrecorded`: `run`).
 //! - A command that is out of range never runs: the run has no outcome, and the error tells the rank and the
 //!   command (`stopped`).
+//! - A program is told exactly the answers of its commands, one after another, by the source that asks it
+//!   (`Given::into_parts`: `played`).
 //! - A call makes the command that it names, and a number is read back from its body (`bodies`).
 //! # What is only tested
 //! That whole programs end with the right results (crate `programs`).
@@ -25,9 +27,12 @@
 
 pub mod bodies;
 pub mod calls;
+mod given;
+mod programs;
+mod ranges;
 mod running;
 mod stops;
 
-pub use nm_process::Program;
+pub use programs::Program;
 pub use running::{Finished, Kept, Outcome, Unrecorded, run_kept, run_programs, run_unrecorded};
 pub use stops::Stop;

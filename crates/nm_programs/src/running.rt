@@ -10,9 +10,10 @@ ghost use Rattle.nm_report.specs.Ends.{are_done, ends_of, packets_of};
 ghost use Rattle.nm_world.specs.Players.{BeginsAt};
 ghost use Rattle.nm_world.specs.Records.{ends_by};
 
+use crate::given::{Given, Played};
+use crate::programs::Program;
 use crate::stops::Stop;
 use nm_outside::Gate;
-use nm_process::{Given, Played, Program};
 use nm_rank::journal::{Erased, Recorder};
 use nm_report::{Pairs, RunRecord};
 use nm_types::{Account, Command, Memory, Shape};

@@ -7,7 +7,7 @@ use Rattle.nm_types.specs.declared.scripts.Command.{Command}
 use Rattle.nm_process.specs.Playing.{AllInRange, GivenView, IsCounted, NeverRuns, gives_on}
 use Rattle.nm_process.specs.Sources.{PassedOn}
 use Rattle.nm_process.proofs.PlayLemmas.{counted_more, counted_some, in_range_more, passed_given, played_more, some_given}
-use Rattle.nm_process.proofs.given.GivenSource.pass.Goals as goal
+use Rattle.nm_programs.proofs.given.GivenSource.pass.Goals as goal
 
 is_some : (o : Option Command) → IsSome o → (x : Command) × (o ≡ Some x)
 is_some None some = cc

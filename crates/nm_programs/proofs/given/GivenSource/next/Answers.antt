@@ -4,7 +4,7 @@ use Rattle.std.specs.Prelude.{slice_get}
 use Rattle.nm_process.specs.Playing.{GivenView, gives_on}
 use Rattle.nm_process.specs.Work.{IsNext}
 use Rattle.nm_process.proofs.PlayLemmas.{ended_given, next_given}
-use Rattle.nm_process.proofs.given.GivenSource.next.Goals as goal
+use Rattle.nm_programs.proofs.given.GivenSource.next.Goals as goal
 
 pub returns-clause-next : goal.returns-clause-next
 returns-clause-next g c commands last given =

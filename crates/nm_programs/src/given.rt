@@ -8,8 +8,8 @@ ghost use Rattle.nm_process.specs.Playing.{AllInRange, HasPlayed, IsCounted, Nev
 
 use crate::programs::Program;
 use crate::ranges::in_range;
-use crate::sources::Source;
 use nm_ghost::Trace;
+use nm_process::Source;
 use nm_types::{Answer, Command, Memory};
 use std::marker::Model;
 
