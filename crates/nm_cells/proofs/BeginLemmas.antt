@@ -14,7 +14,7 @@ use Rattle.nm_chain.specs.Spoken.{view}
 use Rattle.nm_chain.specs.declared.table.table.Hand.{Hand}
 use Rattle.nm_chain.specs.declared.table.table.Hand.TheVariants.{Away, Loose, Held}
 use Rattle.nm_chain.specs.declared.table.table.Entry.{Entry}
-use Rattle.nm_chain.specs.Rule.{Load, hand, first_hands, newcomer, beginner}
+use Rattle.nm_chain.specs.Rule.{Load, Opens, hand, first_hands, newcomer, beginner}
 use Rattle.nm_chain.specs.Plays.{Knowing, mine, with_hand, load_in}
 use Rattle.nm_chain.proofs.OpeningLemmas.{first_long, first_at}
 use Rattle.nm_chain.proofs.QueueLemmas.{pick_yes, pick_no}
@@ -153,6 +153,14 @@ module _ (A : Type 0) (each r : ℕ) (some : 0 < each) where
         no_slot : {j : ℕ} (d : Dec (j ≡ r)) → slots_with (pick d stays leaves) ≡ 0
         no_slot (yes _) = refl
         no_slot (no _) = refl
+
+-- words that are all 0 are those at the start
+pub zeros_open : (n each : ℕ) (words : List ℕ) → words ≡ replicate (4 * n + n * each + 4 * (n * n)) 0
+    → Opens n each words
+zeros_open n each words is = let count = 4 * n + n * each + 4 * (n * n) in
+    let long = length-replicate count 0 in
+    subst (λ ws. Opens n each ws) (sym is)
+    (long, λ i low. get_or-replicate count i 0 0 (subst (λ (k : ℕ). i < k) long low))
 
 -- nothing is counted at the start
 same_all : {A : Type 0} (n d : ℕ) (a : A) → slice_index_or (replicate n a) d a ≡ a

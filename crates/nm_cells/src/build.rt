@@ -6,7 +6,7 @@ ghost use Rattle.std.specs.Prelude.{length, slice_get, replicate};
 ghost use Rattle.nm_cells.specs.declared.port.Port.{Port};
 ghost use Rattle.nm_chain.specs.Spoken.{view};
 ghost use Rattle.nm_chain.specs.declared.table.table.Hand.TheVariants.{Away, Loose};
-ghost use Rattle.nm_chain.specs.Rule.{beginners, hand, Opens};
+ghost use Rattle.nm_chain.specs.Rule.{beginners, hand};
 ghost use Rattle.nm_chain.specs.Plays.{with_hand, with_put};
 ghost use Rattle.nm_cells.specs.Ports.{Owns, Stays, HasCell, knows, holding, cells_of};
 ghost use Rattle.nm_cells.specs.Ports.{IsFresh, IsNew, IsNewLoose, Begins};
@@ -24,16 +24,23 @@ use std::alloc::Global;
 use std::marker::Brand;
 use std::sync::ledger::{Blank, Ledger};
 
-// What is counted of each rank at the start.
+// What is counted of each rank at the start: nothing was sent and nothing came.
 fn new_peers(alloc: Global, ranks: u64) -> Result<Vec<Tally>, Memory>
     requires { ranks ≤ 64 }
     ensures { IfOk result (λ v. v.items ≡ replicate ranks new_tally) }
 {
-    let mut peers = Vec::new(alloc);
-    for _rank in 0..ranks {
-        peers.push(Tally::new())?;
-    }
-    Ok(peers)
+    let none = Tally {
+        sent: 0,
+        taken: 0,
+        box_put: 0,
+        box_got: 0,
+        filling: false,
+        emptying: false,
+        unpassed: 0,
+        box_full: 0,
+        box_miss: 0,
+    };
+    Ok(vec![in alloc; none; ranks as usize]?)
 }
 
 // The port of the lowest rank that `rest` speaks for. No cell's slot is taken yet.
@@ -134,16 +141,14 @@ fn begin<I: Item>(f: &Fabric<I>, port: &mut Port<I>, loose: bool)
     }
 }
 
+// The words, all 0.
 fn first_words(alloc: Global, ranks: u64, each: u64) -> Result<Vec<u64>, Memory>
     requires { (ranks ≤ 64) × (0 < each) × (each ≤ 64) }
-    ensures { IfOk result (λ v. Opens ranks each v.items) }
+    ensures { IfOk result
+        (λ v. v.items ≡ replicate (4 * ranks + ranks * each + 4 * (ranks * ranks)) 0) }
 {
     let count = 4 * ranks + ranks * each + 4 * (ranks * ranks);
-    let mut words = Vec::new(alloc);
-    for _i in 0..count {
-        words.push(0)?;
-    }
-    Ok(words)
+    Ok(vec![in alloc; 0; count as usize]?)
 }
 
 // So many slots, all empty.

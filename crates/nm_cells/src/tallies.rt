@@ -1,6 +1,6 @@
 //! What a port counts of each rank, and how that changes.
 
-ghost use Rattle.std.specs.Prelude.{◌≡◌, ◌<◌, ◌^◌, false, length};
+ghost use Rattle.std.specs.Prelude.{◌≡◌, ◌<◌, ◌^◌, length};
 ghost use Rattle.nm_cells.specs.Counted.{peer_in, with_peer, one_sent, one_arrived, one_boxed};
 ghost use Rattle.nm_cells.specs.Counted.{one_opened, one_begun, one_unboxed, one_full, one_miss};
 ghost use Rattle.nm_cells.specs.Counted.{one_passed};
@@ -28,35 +28,6 @@ pub struct Tally {
     pub box_full: u64,
     /// How often the next box of it didn't have the awaited number.
     pub box_miss: u64,
-}
-
-impl Tally {
-    /// Nothing was sent and nothing came.
-    pub(crate) fn new() -> Tally
-        ensures { result ≡ record {
-          sent = 0;
-          taken = 0;
-          box_put = 0;
-          box_got = 0;
-          filling = false;
-          emptying = false;
-          unpassed = 0;
-          box_full = 0;
-          box_miss = 0;
-        } }
-    {
-        Tally {
-            sent: 0,
-            taken: 0,
-            box_put: 0,
-            box_got: 0,
-            filling: false,
-            emptying: false,
-            unpassed: 0,
-            box_full: 0,
-            box_miss: 0,
-        }
-    }
 }
 
 /// One more parcel was sent to a rank by cell.
