@@ -4,9 +4,10 @@
 //! another end.
 //!
 //! With two words, a length and a number of batches, it runs a flood of messages of that length, with no record
-//! (`flood`). With one word, the name of a program, it prints the script and the trace of its run (`transcripts`); with
-//! `stuck`, those of the end of a run that got stuck after a million messages (`stuck`); with `dice:` and five numbers,
-//! those of ranks that throw dice (`dice`).
+//! (`flood`); with `mix` and a number of rounds, 16 ranks that send and take in every way (`mix`). With one word, the
+//! name of a program, it prints the script and the trace of its run (`transcripts`); with `stuck`, those of the end of
+//! a run that got stuck after a million messages (`stuck`); with `dice:` and five numbers, those of ranks that throw
+//! dice (`dice`).
 #![tactic(auto)]
 
 ghost use Rattle.std.specs.Prelude.{◌≡◌, ◌<◌, IfOk, length};
@@ -15,6 +16,7 @@ mod dice;
 mod ends;
 mod farm;
 mod flood;
+mod mix;
 mod ping_pong;
 mod ring;
 mod rod;
@@ -25,6 +27,7 @@ use dice::Dice;
 use ends::Rank;
 use farm::{Hand, Role};
 use flood::Flooded;
+use mix::Mixed;
 use nm_outside::OpenGate;
 use nm_programs::{Finished, Program, Stop, run_programs, run_unrecorded};
 use nm_transcript::Transcript;
@@ -39,6 +42,9 @@ use std::test::Fail;
 use std::thread::Threads;
 use stuck::{FEW, MANY, talkers};
 use transcripts::{holds, print, transcribe, transcribe_end};
+
+// How many ranks mix.
+const MIXED: u8 = 16;
 
 // Whether a run keeps a record.
 #[derive(Clone, Copy)]
@@ -296,17 +302,49 @@ fn run_flood<R: Threads + Wait + Sync>(
     show_flood(rt, left.as_slice())
 }
 
+fn show_mix(rt: &HostRuntime, ranks: &[Finished<Mixed>]) -> Result<(), Fail> {
+    let mut came: u64 = 0;
+    let mut cancelled: u64 = 0;
+    for finished in ranks {
+        came = came.saturating_add(finished.program.came);
+        cancelled = cancelled.saturating_add(finished.program.cancelled);
+    }
+    println!(rt; "mix: {came} messages came, and {cancelled} requests were cancelled")?;
+    Ok(())
+}
+
+fn run_mix<R: Threads + Wait + Sync>(
+    rt: &HostRuntime,
+    threads: &R,
+    alloc: Global,
+    rounds: &str,
+) -> Result<(), Fail> {
+    let ranks = mix::ranks(alloc, MIXED, rounds.parse::<u64>()?)?;
+    let left = run(threads, alloc, shape_of(MIXED)?, ranks, Keeps::Nothing)?;
+    show_mix(rt, left.as_slice())
+}
+
+// A run of many messages, by two words.
+fn run_many<R: Threads + Wait + Sync>(
+    rt: &HostRuntime,
+    threads: &R,
+    alloc: Global,
+    first: &str,
+    second: &str,
+) -> Result<(), Fail> {
+    match first {
+        "mix" => run_mix(rt, threads, alloc, second),
+        bytes => run_flood(rt, threads, alloc, bytes, second),
+    }
+}
+
 fn main(rt: HostRuntime) -> Result<(), Fail> {
     let alloc = rt.alloc();
     let mut words = env::args(&rt)?.skip(1);
     match (words.next(), words.next()) {
-        (Some(bytes), Some(batches)) => run_flood(
-            &rt,
-            &rt,
-            alloc,
-            bytes.as_str(),
-            batches.as_str(),
-        ),
+        (Some(first), Some(second)) => {
+            run_many(&rt, &rt, alloc, first.as_str(), second.as_str())
+        }
         (Some(name), None) => print(&rt, alloc, transcript_of(&rt, alloc, name.as_str())?),
         _ => show_all(&rt, &rt, alloc),
     }
