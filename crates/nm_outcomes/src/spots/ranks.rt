@@ -178,6 +178,7 @@ impl Rank {
     fn pair(&mut self, pair: Pair) -> Result<(), Memory>
         ensures { OnOk result (self.new ≡ record self.old { pairs = with_pair pair self.old.pairs }) }
     {
+        self.pairs.reserve_exact(1)?;
         if self.is_paired(pair.number) {
             self.pairs.push(pair)?;
         } else {
@@ -236,6 +237,7 @@ impl Rank {
             }
             None => {
                 if !self.is_closed(receive.number) {
+                    self.receives.reserve_exact(1)?;
                     self.receives.push(receive)?;
                 }
                 Ok(())
@@ -302,6 +304,7 @@ impl Rank {
         ensures { OnOk result (self.new ≡ spot_after self.old deed) }
     {
         self.settle(&deed)?;
+        self.deeds.reserve_exact(1)?;
         self.deeds.push(deed)?;
         Ok(())
     }
@@ -321,6 +324,7 @@ impl Rank {
             }
             None => {
                 if self.is_free(a.env.from, a.n) {
+                    self.free.reserve_exact(1)?;
                     self.free.push(a)?;
                 }
                 Ok(())
@@ -333,6 +337,7 @@ impl Rank {
     fn note(&mut self, a: Arrival) -> Result<(), Memory>
         ensures { OnOk result (self.new ≡ record self.old { came = with_arrival a self.old.came }) }
     {
+        self.came.reserve_exact(1)?;
         if self.has(a.env.from, a.n) {
             self.came.push(a)?;
         } else {
