@@ -192,7 +192,7 @@ fn history(alloc: Global, lines: &[Line], deeds: &[Deed]) -> Result<History, Mem
     ensures { IfOk result (λ history. filter_map (λ e. told_by e.what) history.events
         ≡ filter_map (λ d. told_by (happening_lem lines.now d)) deeds.now) }
 {
-    let mut events = Vec::new(alloc);
+    let mut events = Vec::with_capacity(alloc, ran(deeds))?;
     for deed in deeds {
         push_answer(alloc, lines, *deed, &mut events)?;
     }
@@ -239,7 +239,7 @@ fn told(alloc: Global, view: View, ranks: u8) -> Result<Accounts, Memory>
     ensures { IfOk result (λ told. map told_of_rank told ≡ all_told view.entry.lines.now
         (spot_in view.entry.table.now view.entry.ids.now) ranks) }
 {
-    let mut accounts = Vec::new(alloc);
+    let mut accounts = Vec::with_capacity(alloc, ranks as usize)?;
     for i in 0..ranks {
         push_account(alloc, view.lines, i, view.rank(i), &mut accounts)?;
     }
