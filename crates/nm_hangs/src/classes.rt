@@ -268,7 +268,7 @@ fn classes_of(
     requires near { AreNear lines.now table.now near.now classes.now }
     ensures { IfOk result (λ all. AreAlikeIn lines.now table.now ids.now all.items) }
 {
-    let mut all = Vec::new(alloc);
+    let mut all = Vec::with_capacity(alloc, ids.len())?;
     for place in 0..ids.len() {
         let class = class_in(firsts, alloc, lines, table, near, classes, ids, place)?;
         all.push(class)?;

@@ -5,7 +5,7 @@ use Rattle.nm_hangs.proofs.classes.classes_of.Goals as goal
 
 pub loop-place-init : goal.loop-place-init
 loop-place-init c = record {
-  count = ap (λ (xs : List ℕ). length xs) c.new-all.ensures.items;
+  count = ap (λ (xs : List ℕ). length xs) c.in_ok-all.ensures.items;
   low = omega arith;
   alike = λ j low. absurd (omega (arith, low));
 }
