@@ -9,6 +9,8 @@ import kit
 
 MORE = kit.TOP / "tests" / "wrong_bodies"
 FUNCTION = re.compile(r"\s*(?:pub(?:\([a-z]+\))? )?(?:const )?fn (\w+)")
+# A line above a function that is of it: a word of its page, an attribute, or one that goes on.
+ABOVE = re.compile(r"\s*(?://|#\[)|.*[^{};\s]\s*$")
 # What the prover says of a place, and of a function; and words of a fault that only misses a name.
 SAID = re.compile(r"^(?:note: )?(?:\./)?((?:src|proofs)/\S+?):(\d+):\d+:(.*)", re.M)
 PROVED = re.compile(r"^fn (\S+): proved$", re.M)
@@ -29,6 +31,13 @@ class How(enum.Enum):
 class Result(typing.NamedTuple):
     how: How
     said: str
+
+
+def head(rows, at):
+    """Where the words and attributes above a function begin, which stands there. The prover names the first of them."""
+    while at > 0 and ABOVE.match(rows[at - 1]):
+        at -= 1
+    return at
 
 
 class Body:
@@ -67,9 +76,10 @@ class Body:
 
     def errors(self, text, said):
         """What the prover said against its function, where this text of the file was tried: not for a name alone."""
-        name, first = self.function()
+        name, line = self.function()
         rows = text.split("\n")
-        last = next((at for at in range(first, len(rows)) if FUNCTION.match(rows[at])), len(rows))
+        first = head(rows, line - 1) + 1
+        last = next((head(rows, at) for at in range(line, len(rows)) if FUNCTION.match(rows[at])), len(rows))
         module = self.file.removeprefix("src/").removesuffix(".rt").replace("/", "::")
         if any(f"::{module}::" in it[1] and it[1].endswith(f"::{name}") for it in PROVED.finditer(said)):
             return
