@@ -80,12 +80,13 @@ class Body:
         rows = text.split("\n")
         first = head(rows, line - 1) + 1
         last = next((head(rows, at) for at in range(line, len(rows)) if FUNCTION.match(rows[at])), len(rows))
-        module = self.file.removeprefix("src/").removesuffix(".rt").replace("/", "::")
+        place = self.file.removeprefix("src/").removesuffix(".rt")
+        module, proofs = place.replace("/", "::"), "proofs/" if place in ("lib", "main") else f"proofs/{place}/"
         if any(f"::{module}::" in it[1] and it[1].endswith(f"::{name}") for it in PROVED.finditer(said)):
             return
         for it in SAID.finditer(said):
             inside = it[1] == self.file and first <= int(it[2]) <= last
-            if inside or it[1].startswith("proofs/") and name in it[1].split("/") and not NAMES.search(it[3]):
+            if inside or it[1].startswith(proofs) and name in it[1].split("/") and not NAMES.search(it[3]):
                 yield it[0]
 
     def sum(self, stamp):
