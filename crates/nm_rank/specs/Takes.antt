@@ -1,5 +1,5 @@
 -- What a packet that continues its stream does.
-use Rattle.std.specs.Prelude.{◌≡◌, ℕ, ◌+◌, ◌<◌, ◌≤◌, ◌&&◌, Bool, true, not, if◌then◌else◌, List, [], ◌++◌, length}
+use Rattle.std.specs.Prelude.{◌≡◌, ℕ, ◌+◌, ◌<◌, ◌≤◌, Bool, true, if◌then◌else◌, List, [], ◌++◌, length}
 use Rattle.nm_types.specs.declared.limits.TheConstants.{MAX_PACKETS}
 use Rattle.nm_types.specs.declared.packets.Packet.{Packet}
 use Rattle.nm_types.specs.declared.packets.What.{What}
@@ -8,17 +8,14 @@ use Rattle.nm_history.specs.declared.events.Event.{Event}
 use Rattle.nm_history.specs.Outgoing.{Called}
 use Rattle.nm_history.specs.Agreement.{Agrees}
 use Rattle.nm_history.specs.Bytes.{bytes_in}
-use Rattle.nm_history.specs.Continues.{continues, has}
-use Rattle.nm_history.specs.Delivery.{is_asked}
+use Rattle.nm_history.specs.Continues.{continues}
 use Rattle.nm_history.specs.Effects.{happenings, packet_events}
 use Rattle.nm_history.specs.Known.{Known, learned}
 use Rattle.nm_history.specs.Rules.{AreRight}
-use Rattle.nm_history.specs.Sends.{sends}
 use Rattle.nm_sending.specs.Departures.{SendingView, cleared_to}
 use Rattle.nm_sending.specs.Sent.{AreSent, only_to}
 use Rattle.nm_receiving.specs.Receipts.{AddsBytes, ReceivingView, of_eager, stream_of}
 use Rattle.nm_receiving.specs.Received.{AreReceived, PreservesSender}
-use Rattle.nm_receiving.specs.StreamViews.{is_called_for}
 use Rattle.nm_rank.specs.Calls.{offers_by}
 use Rattle.nm_rank.specs.Fields.{endings}
 
@@ -26,13 +23,6 @@ use Rattle.nm_rank.specs.Fields.{endings}
 pub record Tells (known : Known) (from : ℕ) (s : SendingView) (r : ReceivingView) : Type 0 where
   pub told : PreservesSender r from known
   pub cleared : known.cleared ≡ cleared_to s from
-
--- A rank with this history awaits the packet, where this is known of its sender: it clears a message that was
--- sent by asking, and was neither cleared nor withdrawn, or answers a recall.
-abbrev pub is_awaited : Known → List Event → ℕ → What → Bool
-is_awaited known h from (what.Clear n) =
-    is_asked (sends h from) n && not (has known.cleared n) && not (has known.undone n)
-is_awaited known h from w = is_called_for h from w
 
 -- The packet continues its stream, by some history and by what is known of its sender.
 pub record MayBeAccepted (s : SendingView) (r : ReceivingView) (p : Packet) : Type 0 where

@@ -12,7 +12,7 @@ ghost use Rattle.nm_history.specs.Effects.{packet_events, whole_if};
 ghost use Rattle.nm_history.specs.Agreement.{Agrees};
 ghost use Rattle.nm_history.specs.Known.{Known};
 ghost use Rattle.nm_sending.specs.Outboxes.{put_to};
-ghost use Rattle.nm_receiving.specs.StreamViews.{is_done_at_once};
+ghost use Rattle.nm_receiving.specs.StreamViews.{is_awaited as is_awaited_lem, is_done_at_once};
 ghost use Rattle.nm_sending.specs.Departures.{cleared_to};
 ghost use Rattle.nm_sending.specs.Sent.{AreSent, Puts};
 ghost use Rattle.nm_receiving.specs.Made.{all_made};
@@ -20,7 +20,7 @@ ghost use Rattle.nm_receiving.specs.Receipts.{stream_of};
 ghost use Rattle.nm_receiving.specs.Received.{AreReceived};
 ghost use Rattle.nm_rank.specs.Calls.{TakesPacket, TakesPiece, strays_after as strays_after_lem, taken_of};
 ghost use Rattle.nm_rank.specs.Ranks.{IsFresh, count_of};
-ghost use Rattle.nm_rank.specs.Takes.{MayBeAccepted, Accepts, is_awaited as is_awaited_lem, reply_of};
+ghost use Rattle.nm_rank.specs.Takes.{MayBeAccepted, Accepts, reply_of};
 
 use crate::Rank;
 use crate::journal::{Journal, Recorder};
@@ -131,7 +131,8 @@ fn note_packet<H: Recorder>(
     note_events(journal, stream, p, done_at_once);
 }
 
-/// Whether this rank awaits a packet: it clears a message that waits for that, or answers a recall.
+/// Whether this rank awaits a packet: it clears a message that waits for that, or answers a recall that has no
+/// answer.
 fn is_awaited(sending: &Sending, p: &Packet) -> bool
     requires { p.now.from < length sending.now.outbox.popped }
     ensures { (h : List Event) (known : Known) → AreSent sending.now h → Agrees p.now.from h known
@@ -140,7 +141,7 @@ fn is_awaited(sending: &Sending, p: &Packet) -> bool
 {
     match p.what {
         What::Clear { n } => sending.is_waiting(p.from, n),
-        What::Withdrawn { n, .. } => sending.was_recalled(p.from, n),
+        What::Withdrawn { n, .. } => sending.awaits_answer(p.from, n),
         What::Head { .. } | What::More { .. } | What::Ask { .. } | What::Withdraw { .. } => false,
     }
 }

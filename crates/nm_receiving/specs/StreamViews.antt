@@ -1,5 +1,5 @@
 -- What contracts see of what a rank knows of another, and what must be asked of its own history.
-use Rattle.std.specs.Prelude.{◌≡◌, ℕ, ◌<◌, Bool, true, false, is_some, List}
+use Rattle.std.specs.Prelude.{◌≡◌, ℕ, ◌<◌, ◌&&◌, Bool, true, false, not, is_some, List}
 use Rattle.nm_types.specs.declared.messages.How.TheVariants as how
 use Rattle.nm_types.specs.declared.packets.Packet.{Packet}
 use Rattle.nm_types.specs.declared.packets.What.{What}
@@ -10,7 +10,7 @@ use Rattle.nm_history.specs.Delivery.{is_asked}
 use Rattle.nm_history.specs.Happens.{happened, is_recall}
 use Rattle.nm_history.specs.Matching.{first_receive, is_free_message, matched_pairs}
 use Rattle.nm_history.specs.Sends.{sends}
-use Rattle.nm_history.specs.Continues.{continues}
+use Rattle.nm_history.specs.Continues.{continues, has}
 use Rattle.nm_history.specs.Effects.{is_empty_send}
 use Rattle.nm_history.specs.Known.{Known}
 
@@ -19,12 +19,10 @@ pub record Noted : Type 0 where
   pub numbers : List ℕ
   pub spare : ℕ
 
--- the room for more in each list of what is known
+-- the room for more in each list of what is known that is in memory
 pub record Room : Type 0 where
   pub withdrawn : ℕ
   pub cleared : ℕ
-  pub answered : ℕ
-  pub undone : ℕ
 
 -- what the packets of a rank told, and the room for more
 pub record Told : Type 0 where
@@ -35,7 +33,6 @@ pub record Told : Type 0 where
 abbrev pub HasRoom : Room → What → Type 0
 HasRoom room (Clear n) = 0 < room.cleared
 HasRoom room (Withdraw n) = 0 < room.withdrawn
-HasRoom room (Withdrawn n done) = (0 < room.answered) × (0 < room.undone)
 HasRoom room _ = Unit {0}
 
 -- the packet continues its stream: by this eager limit, at a rank with this history
@@ -44,12 +41,14 @@ pub record IsContinued (known : Known) (p : Packet) : Type 0 where
   pub history : List Event
   pub continued : continues eager known history p ≡ true
 
--- The rank with this history called for the packet: it clears a message that was sent by asking, or
--- answers a recall. No packet of its sender's own messages was called for.
-abbrev pub is_called_for : List Event → ℕ → What → Bool
-is_called_for h from (Clear n) = is_asked (sends h from) n
-is_called_for h from (Withdrawn n done) = happened (is_recall from n) h
-is_called_for h from _ = false
+-- A rank with this history awaits the packet, where this is known of its sender: it clears a message that was
+-- sent by asking, and was neither cleared nor withdrawn, or answers a recall that has no answer (MPI 3.1, 3.8.4).
+-- No packet of its sender's own messages is awaited.
+abbrev pub is_awaited : Known → List Event → ℕ → What → Bool
+is_awaited known h from (Clear n) =
+    is_asked (sends h from) n && not (has known.cleared n) && not (has known.undone n)
+is_awaited known h from (Withdrawn n done) = happened (is_recall from n) h && not (has known.answered n)
+is_awaited known h from _ = false
 
 -- What the packet asks of the rank with this history is done at once: an open receive takes the
 -- announced message, the cleared one has an empty body, the one to be withdrawn is free. No other

@@ -8,7 +8,7 @@
 //! # What a contract sees
 //! A `Stream` is seen as what the packets told, by the words of the protocol (`nm_history::protocol`), and as
 //! the room for more. What only the rank's own history says is passed as an answer of yes or no:
-//! whether the rank called for the packet, and whether what the packet asks for is done at once.
+//! whether the rank awaits the packet, and whether what the packet asks for is done at once.
 //! What is still due of a sender's grants (`nm_rndv`) is seen as the protocol's list of due pieces.
 //! # What is proved
 //! - `continues` is the protocol's answer, on every history of which the answer that was passed is
@@ -16,6 +16,7 @@
 //! - `learn` is the protocol's step, and takes no memory after `reserve`.
 //! - `events` gives what the protocol says that a packet of a message makes happen, on every such history.
 //! - Whether a message is whole with a piece that continues it is the protocol's.
+//! - Memory holds the withdrawals and the clearances; no answer to a recall stays in it.
 //! - After want of memory nothing that is known has changed.
 //! # What is only tested
 //! That calls which take memory succeed with ample memory.

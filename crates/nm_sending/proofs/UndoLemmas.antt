@@ -1,5 +1,5 @@
 -- The answer to a recall comes back.
-use Rattle.std.proofs.Common.{◌≡◌, ℕ, ◌<◌, ◌≤◌, ◌==◌, Bool, true, false, not, ◌&&◌, cond}
+use Rattle.std.proofs.Common.{◌≡◌, ℕ, ◌<◌, ◌≤◌, ◌==◌, Bool, true, false, not, ◌&&◌, ◌||◌, cond}
 use Rattle.std.proofs.Common.{Option, Some, None, List, [], ◌∷◌, ◌++◌, length, is_some}
 use Rattle.std.proofs.Common.{refl, sym, nat_eq, sum_by}
 use Rattle.std.specs.Map.{lookup, set_value, values_of}
@@ -11,7 +11,7 @@ use Rattle.nm_types.specs.declared.messages.How.{How}
 use Rattle.nm_types.specs.declared.messages.How.TheVariants.{Eager, Ask}
 use Rattle.nm_history.specs.declared.events.Event.{Event}
 use Rattle.nm_history.specs.declared.events.Happened.TheVariants.{Undone}
-use Rattle.nm_history.specs.Happens.{at, is_same}
+use Rattle.nm_history.specs.Happens.{at, happened, is_recall, is_same, is_undone}
 use Rattle.nm_history.proofs.Basic.{or_false}
 use Rattle.nm_history.specs.Continues.{has}
 use Rattle.nm_rndv.specs.declared.asked.State.{State}
@@ -25,7 +25,7 @@ use Rattle.nm_rndv.proofs.StateLemmas.{withdrawal_leaves}
 use Rattle.nm_sending.specs.declared.departures.Departure.{Departure}
 use Rattle.nm_sending.specs.Departures.{SendingView, with_departure, departure_of, passes, cleared_to}
 use Rattle.nm_sending.specs.Departures.{was_undone}
-use Rattle.nm_sending.specs.Sent.{Preserves, MayBeAnswered}
+use Rattle.nm_sending.specs.Sent.{AreSent, Preserves, MayBeAnswered}
 use Rattle.nm_sending.specs.Tables.{TablesAgree, IsOffer, IsOfferBy, allowance, allowed, recall_of}
 use Rattle.nm_sending.proofs.EventLemmas.{sends-same, pushed_out-same}
 use Rattle.nm_sending.proofs.LeavingLemmas.{turn-still}
@@ -68,6 +68,35 @@ is_recall_open v to n done may = by_there (departure_of v to n) refl where
       is_none None each = refl
       is_none (Some true) each = absurd (true≢false (each true))
       is_none (Some false) each = absurd (true≢false (each false))
+
+-- a recall without an answer, by what became of its message
+open_by : (recalled : Bool) (undone : Option Bool)
+    → option_map_or is_unanswered (cond recalled (Some undone) None) false
+    ≡ (recalled && not (option_map_or (is_same true) undone false || option_map_or (is_same false) undone false))
+open_by true None = refl
+open_by true (Some true) = refl
+open_by true (Some false) = refl
+open_by false undone = refl
+
+unanswered_is : (o : Option Departure)
+    → option_map_or is_unanswered (option_and_then recall_of o) false
+    ≡ (passes (λ d. d.recalled) o && not (passes (was_undone true) o || passes (was_undone false) o))
+unanswered_is None = refl
+unanswered_is (Some d) = open_by d.recalled d.undone
+
+-- and by what happened
+pub awaits_is : (me ranks : ℕ) (v : SendingView) → TablesAgree me ranks v → (h : List Event) → AreSent v h
+    → (to n : ℕ) → is_recalled v.offers to n
+    ≡ (happened (is_recall to n) h && not (happened (is_undone to n true) h || happened (is_undone to n false) h))
+awaits_is me ranks v tables h was to n =
+    let o = departure_of v to n in
+    ap (λ (r : Option (Option Bool)). option_map_or is_unanswered r false) (tables.recalls to n)
+    ∙ unanswered_is o
+    ∙ ap (λ (b : Bool). b && not (passes (was_undone true) o || passes (was_undone false) o)) (was.recalled to n)
+    ∙ ap (λ (b : Bool). happened (is_recall to n) h && not (b || passes (was_undone false) o))
+    (was.undone to n true)
+    ∙ ap (λ (b : Bool). happened (is_recall to n) h && not (happened (is_undone to n true) h || b))
+    (was.undone to n false)
 
 -- the state after the answer
 abbrev pub answered_state : Bool → State → State

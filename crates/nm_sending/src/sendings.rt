@@ -1,7 +1,7 @@
 //! The sending side of a rank.
 
-ghost use Rattle.std.specs.Prelude.{◌≡◌, ◌+◌, ◌-◌, ◌<◌, ◌≤◌, ◌↔◌, ◌&&◌, ℕ, true, false, not, None, List, []};
-ghost use Rattle.std.specs.Prelude.{if◌then◌else◌, length, min, slice_get, IfOk, IfSome};
+ghost use Rattle.std.specs.Prelude.{◌≡◌, ◌+◌, ◌-◌, ◌<◌, ◌≤◌, ◌↔◌, ◌&&◌, ◌||◌, ℕ, true, false, not, None};
+ghost use Rattle.std.specs.Prelude.{List, [], if◌then◌else◌, length, min, slice_get, IfOk, IfSome};
 ghost use Rattle.std.specs.Prelude.{IsSome, IsSomeAnd, IsNone, MatchOption, OnOk, OnErr, option_map};
 ghost use Rattle.std.specs.List.{AllByRecursion};
 ghost use Rattle.nm_types.specs.declared.limits.TheConstants.{MAX_BODY, MAX_EAGER, MAX_PACKETS};
@@ -273,6 +273,16 @@ impl Sending {
         self.departures
             .get(to, n)
             .is_some_and(|departure| departure.recalled)
+    }
+
+    /// Whether message `n` to a rank was recalled, and the answer to that has not come back.
+    pub fn awaits_answer(&self, to: u8, n: u64) -> bool
+        requires { to < length self.now.outbox.popped }
+        ensures { (h : List Event) → AreSent self.now h →
+            result ≡ (happened (is_recall to n) h && not (happened (is_undone to n true) h
+            || happened (is_undone to n false) h)) }
+    {
+        self.offers.is_recalled(to, n)
     }
 
     /// Whether the send is complete (MPI 3.1, section 3.7.3).

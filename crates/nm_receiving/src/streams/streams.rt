@@ -9,11 +9,12 @@ ghost use Rattle.nm_history.specs.Effects.{packet_events};
 ghost use Rattle.nm_history.specs.Known.{learned, nothing_known};
 ghost use Rattle.nm_eager.specs.Streams.{is_kept};
 ghost use Rattle.nm_receiving.specs.Made.{all_made};
-ghost use Rattle.nm_receiving.specs.StreamViews.{HasRoom, IsContinued, is_called_for, is_done_at_once};
+ghost use Rattle.nm_receiving.specs.StreamViews.{HasRoom, IsContinued, is_awaited, is_done_at_once};
 
 use crate::streams::effects::{Made, arrival};
 use crate::streams::numbers::Numbers;
 use nm_eager::continues;
+use nm_ghost::Trace;
 use nm_types::{How, MAX_STAMP, Memory, Packet, What};
 use std::alloc::Global;
 use std::marker::Model;
@@ -30,9 +31,10 @@ pub struct Stream {
     missing: u32,
     withdrawn: Numbers,
     cleared: Numbers,
-    answered: Numbers,
-    // those answered that were withdrawn
-    undone: Numbers,
+    // The recalls that were answered, and those of them whose messages were withdrawn, only proofs read: what is
+    // awaited the messages themselves tell.
+    answered: Trace<u64>,
+    undone: Trace<u64>,
 }
 
 impl Drop for Stream {
@@ -49,8 +51,6 @@ impl Drop for Stream {
 }
 
 impl Model for Stream {
-    ghost use Rattle.std.specs.Prelude.{◌≡◌, ℕ, true};
-    ghost use Rattle.nm_history.specs.Continues.{has};
     ghost use Rattle.nm_receiving.specs.StreamViews.{Told};
 
     ghost Value = { Told };
@@ -62,19 +62,21 @@ impl Model for Stream {
             missing = s.missing;
             withdrawn = s.withdrawn.numbers;
             cleared = s.cleared.numbers;
-            answered = s.answered.numbers;
-            undone = s.undone.numbers;
+            answered = s.answered.items;
+            undone = s.undone.items;
           };
           room = record {
             withdrawn = s.withdrawn.spare;
             cleared = s.cleared.spare;
-            answered = s.answered.spare;
-            undone = s.undone.spare;
           };
         } };
+}
 
-    ghost invariant = { λ s.
-        (n : ℕ) → has s.undone.numbers n ≡ true → has s.answered.numbers n ≡ true };
+/// Whether a clearance continues: it is awaited, and has no bytes.
+fn can_clear(awaited: bool, size: usize) -> bool
+    ensures { result ≡ (awaited && size == 0) }
+{
+    awaited && size == 0
 }
 
 impl Stream {
@@ -87,8 +89,8 @@ impl Stream {
             missing: 0,
             withdrawn: Numbers::new(alloc),
             cleared: Numbers::new(alloc),
-            answered: Numbers::new(alloc),
-            undone: Numbers::new(alloc),
+            answered: Trace::new(),
+            undone: Trace::new(),
         }
     }
 
@@ -100,41 +102,33 @@ impl Stream {
     }
 
     /// Whether a packet continues its stream, at a rank with this eager limit, in bytes.
-    /// `called_for` is whether the rank called for the packet, which only the rank's own history
-    /// says: it clears a message that was sent by asking, or answers a recall.
-    pub fn continues(&self, eager: u16, packet: &Packet, called_for: bool) -> bool
+    /// `awaited` is whether the rank awaits the packet, which only its own messages say: it clears
+    /// one that waits for that, or answers a recall that has no answer.
+    pub fn continues(&self, eager: u16, packet: &Packet, awaited: bool) -> bool
         ensures value { (h : List Event)
-            → called_for ≡ is_called_for h packet.now.from packet.now.what
+            → awaited ≡ is_awaited self.now.known h packet.now.from packet.now.what
             → result ≡ continues_lem eager self.now.known h packet.now }
-        ensures continued { IsTrue result → IsContinued self.now.known packet.now }
+        ensures continued { (h : List Event)
+            → awaited ≡ is_awaited self.now.known h packet.now.from packet.now.what
+            → IsTrue result → IsContinued self.now.known packet.now }
     {
         let size = packet.payload.as_slice().len();
         if packet.stamp >= WORN {
             return false;
         }
         match packet.what {
-            What::Clear { n } => called_for && self.can_clear(n, size),
-            What::Withdrawn { n, done } => called_for && self.can_answer(n, done, size),
+            What::Clear { .. } => can_clear(awaited, size),
+            What::Withdrawn { n, done } => self.can_answer(awaited, n, done, size),
             _ => self.continues_own(eager, packet.what, size),
         }
     }
 
-    /// Whether a message can be cleared: it is not, and was not withdrawn.
-    fn can_clear(&self, n: u64, size: usize) -> bool
+    /// Whether a recall can be answered so: that is awaited, and no cleared message is withdrawn.
+    fn can_answer(&self, awaited: bool, n: u64, done: bool, size: usize) -> bool
         ensures { result
-            ≡ (not (has self.now.known.cleared n) && not (has self.now.known.undone n)
-            && size == 0) }
+            ≡ (awaited && not (done && has self.now.known.cleared n) && size == 0) }
     {
-        !self.cleared.has(n) && !self.undone.has(n) && size == 0
-    }
-
-    /// Whether a recall can be answered so: it has no answer, and no cleared message is withdrawn.
-    fn can_answer(&self, n: u64, done: bool, size: usize) -> bool
-        ensures { result
-            ≡ (not (has self.now.known.answered n)
-            && not (done && has self.now.known.cleared n) && size == 0) }
-    {
-        !self.answered.has(n) && !(done && self.cleared.has(n)) && size == 0
+        awaited && !(done && self.cleared.has(n)) && size == 0
     }
 
     /// Whether a packet of its sender's own messages continues, with a payload of this size.
@@ -157,11 +151,7 @@ impl Stream {
         match what {
             What::Clear { .. } => self.cleared.reserve()?,
             What::Withdraw { .. } => self.withdrawn.reserve()?,
-            What::Withdrawn { .. } => {
-                self.answered.reserve()?;
-                self.undone.reserve()?;
-            }
-            What::Head { .. } | What::More { .. } | What::Ask { .. } => {}
+            What::Head { .. } | What::More { .. } | What::Ask { .. } | What::Withdrawn { .. } => {}
         }
         Ok(())
     }
@@ -186,9 +176,9 @@ impl Stream {
             What::Clear { n } => self.cleared.add(n),
             What::Withdraw { n } => self.withdrawn.add(n),
             What::Withdrawn { n, done } => {
-                self.answered.add(n);
+                self.answered = self.answered.then(&n);
                 if done {
-                    self.undone.add(n);
+                    self.undone = self.undone.then(&n);
                 }
             }
         }

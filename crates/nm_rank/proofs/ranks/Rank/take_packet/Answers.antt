@@ -1,4 +1,4 @@
-use Rattle.std.proofs.Common.{◌≡◌, ◌<◌, ◌∙◌, ◌+◌, ℕ, List, length, sym, ap, subst, true}
+use Rattle.std.proofs.Common.{◌≡◌, ◌<◌, ◌∙◌, ◌+◌, ℕ, length, sym, ap, subst, true}
 use Rattle.std.specs.Prelude.{map, slice_set}
 use Rattle.nm_history.specs.Continues.{continues}
 use Rattle.nm_history.specs.Agreement.{Agrees}
@@ -7,7 +7,6 @@ use Rattle.nm_rank.specs.Calls.{TakesPacket, taken_of}
 use Rattle.nm_sending.specs.Departures.{cleared_to}
 use Rattle.nm_rank.specs.Ranks.{RankView, known_from, count_of, seen}
 use Rattle.nm_rank.proofs.AcceptedLemmas.{streams-low}
-use Rattle.nm_rank.proofs.AwaitLemmas.{continues_awaited}
 use Rattle.nm_rank.proofs.TakeLemmas.{known-at, known_of}
 use Rattle.nm_rank.proofs.TakenLemmas.{takes-stray}
 use Rattle.nm_rank.proofs.ranks.Rank.take_packet.Goals as goal
@@ -28,8 +27,7 @@ take_next-requires-clause-continues g c = let a = c.self.inside in
     in
     let cont = ap (λ (k : Known). continues a.shape.eager k a.journal.events p) here
     ∙ ap (λ (e : ℕ). continues e c.index.result.now.known a.journal.events p) (sym c.eager-eager.ensures.value)
-    ∙ sym (continues_awaited _ k a.journal.events p c.is_awaited-awaited.result c.continues.result
-    c.continues.ensures.value awaited) ∙ c.if-continues.true in
+    ∙ sym (c.continues.ensures.value a.journal.events awaited) ∙ c.if-continues.true in
     subst (λ (v : RankView). (taken_of v p).continued ≡ true) c.self.view_is cont
 
 pub returns-else-continues-clause-taken : goal.returns-else-continues-clause-taken
@@ -51,8 +49,7 @@ returns-else-continues-clause-taken g c = let a = c.self.inside in
     in
     let cont = ap (λ (k : Known). continues a.shape.eager k a.journal.events p) here
     ∙ ap (λ (e : ℕ). continues e c.index.result.now.known a.journal.events p) (sym c.eager-eager.ensures.value)
-    ∙ sym (continues_awaited _ k a.journal.events p c.is_awaited-awaited.result c.continues.result
-    c.continues.ensures.value awaited) ∙ c.if-continues.false in
+    ∙ sym (c.continues.ensures.value a.journal.events awaited) ∙ c.if-continues.false in
     subst (λ (v : RankView). TakesPacket c.args.p.now v
     (seen a.me a.shape c.raise.new.self a.sending a.receiving (map known_of a.streams.items) a.requests
     (slice_set a.took.items c.args.p.now.from (c.args.p.now.seq + 1)) a.pulled.items

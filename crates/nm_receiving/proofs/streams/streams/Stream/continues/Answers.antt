@@ -1,19 +1,42 @@
 use Rattle.std.proofs.Common.{[], sym, ◌∙◌}
-use Rattle.nm_receiving.proofs.ContinueLemmas.{clear-continued, withdrawn-continued, own-continues, own-of}
+use Rattle.nm_receiving.proofs.ContinueLemmas.{clear-continues, withdrawn-continues, own-continues, own-of}
 use Rattle.nm_receiving.proofs.streams.streams.Stream.continues.Goals as goal
 
-pub returns-then-called_for-clause-continued : goal.returns-then-called_for-clause-continued
-returns-then-called_for-clause-continued c = λ yes.
+pub returns-in-Clear : goal.returns-in-Clear
+returns-in-Clear c =
+    let p = c.args.packet.now in
     let k = c.args.self.now.known in
+    let fresh = c.if-packet-ge-WORN.false in
     let is = rw c.as_slice-size.ensures.value at c.can_clear.ensures in
-    clear-continued k c.args.packet.now c.in-Clear.n c.if-packet-ge-WORN.false c.in-Clear.is (sym is ∙ yes)
+    record {
+      value = λ h same. is ∙ clear-continues c.args.eager k h p _ c.args.awaited fresh c.in-Clear.is same;
+      continued = λ h same yes. record {
+        eager = c.args.eager;
+        history = h;
+        continued = sym (clear-continues c.args.eager k h p _ c.args.awaited fresh c.in-Clear.is same)
+            ∙ sym is ∙ yes;
+      };
+    }
 
-pub returns-then-called_for-2-clause-continued : goal.returns-then-called_for-2-clause-continued
-returns-then-called_for-2-clause-continued c = λ yes.
+pub returns-in-Withdrawn : goal.returns-in-Withdrawn
+returns-in-Withdrawn c =
+    let p = c.args.packet.now in
     let k = c.args.self.now.known in
+    let n = c.in-Withdrawn.n in
+    let done = c.in-Withdrawn.done in
+    let fresh = c.if-packet-ge-WORN.false in
     let is = rw c.as_slice-size.ensures.value at c.can_answer.ensures in
-    withdrawn-continued k c.args.packet.now c.in-Withdrawn.n c.in-Withdrawn.done c.if-packet-ge-WORN.false
-    c.in-Withdrawn.is (sym is ∙ yes)
+    record {
+      value = λ h same. is
+          ∙ withdrawn-continues c.args.eager k h p n done c.args.awaited fresh c.in-Withdrawn.is same;
+      continued = λ h same yes. record {
+        eager = c.args.eager;
+        history = h;
+        continued = sym
+            (withdrawn-continues c.args.eager k h p n done c.args.awaited fresh c.in-Withdrawn.is same)
+            ∙ sym is ∙ yes;
+      };
+    }
 
 pub returns-in_default : goal.returns-in_default
 returns-in_default c =
@@ -24,7 +47,7 @@ returns-in_default c =
     let is = rw c.as_slice-size.ensures.value at c.continues_own.ensures in
     record {
       value = λ h _. is ∙ sym (at h p c.if-packet-ge-WORN.false own);
-      continued = λ yes. record {
+      continued = λ h same yes. record {
         eager = c.args.eager;
         history = [];
         continued = at [] p c.if-packet-ge-WORN.false
