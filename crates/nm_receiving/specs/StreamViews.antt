@@ -1,5 +1,5 @@
 -- What contracts see of what a rank knows of another, and what must be asked of its own history.
-use Rattle.std.specs.Prelude.{◌≡◌, ℕ, ◌<◌, ◌&&◌, Bool, true, false, not, is_some, List}
+use Rattle.std.specs.Prelude.{◌≡◌, ℕ, ◌<◌, ◌&&◌, ◌||◌, Bool, true, false, not, is_some, nat_lt, List}
 use Rattle.nm_types.specs.declared.messages.How.TheVariants as how
 use Rattle.nm_types.specs.declared.packets.Packet.{Packet}
 use Rattle.nm_types.specs.declared.packets.What.{What}
@@ -18,6 +18,14 @@ use Rattle.nm_history.specs.Known.{Known}
 pub record Noted : Type 0 where
   pub numbers : List ℕ
   pub spare : ℕ
+
+-- a number is below the next one, or stands apart
+abbrev pub counts : ℕ → List ℕ → ℕ → Bool
+counts next apart n = nat_lt n next || has apart n
+
+-- these numbers are those that are below the next one, or stand apart
+abbrev pub IsCounted : List ℕ → ℕ → List ℕ → Type 0
+IsCounted numbers next apart = (n : ℕ) → has numbers n ≡ counts next apart n
 
 -- the room for more in each list of what is known that is in memory
 pub record Room : Type 0 where

@@ -1,53 +1,39 @@
 //! Numbers of messages.
 
-ghost use Rattle.std.specs.Prelude.{◌≡◌, ◌<◌, ◌≤◌, ◌∷◌, [], ◌++◌, false, IfOk, OnOk};
-ghost use Rattle.indexmap.specs.IndexSet.{spare};
+ghost use Rattle.std.specs.Prelude.{◌≡◌, ◌<◌, ◌∷◌, [], ◌++◌, false, OnOk};
 ghost use Rattle.nm_history.specs.Continues.{has as has_lem};
 
-use indexmap::IndexSet;
+use crate::streams::counted::Counted;
+use nm_ghost::Trace;
 use nm_types::Memory;
 use std::alloc::Global;
 use std::marker::Model;
 
-/// Numbers of messages, each once, in the order in which they came.
-#[derive(Drop)]
+/// Numbers of messages, each once, in the order in which they came, which only proofs read. Those that came in
+/// order, counted from 0, take no memory.
 pub struct Numbers {
-    // made for the first of them
-    set: Option<Box<IndexSet<u64>>>,
-    alloc: Global,
+    all: Trace<u64>,
+    counted: Counted,
+}
+
+impl Drop for Numbers {
+    fn drop(self) {
+        let Numbers { all: _, counted: _ } = self;
+    }
 }
 
 impl Model for Numbers {
-    ghost use Rattle.std.specs.Prelude.{[]};
-    ghost use Rattle.std.specs.Option.{option_map_or};
-    ghost use Rattle.indexmap.specs.IndexSet.{spare};
-    ghost use Rattle.nm_receiving.specs.StreamViews.{Noted};
+    ghost use Rattle.nm_receiving.specs.StreamViews.{IsCounted, Noted};
 
     ghost Value = { Noted };
 
     ghost view = { λ a.
         record {
-          numbers = option_map_or (λ b. b.value.keys) a.set [];
-          spare = option_map_or (λ b. spare b.value) a.set 0;
+          numbers = a.all.items;
+          spare = a.counted.apart.spare;
         } };
-}
 
-/// A set without numbers, with room for one.
-fn new_set(alloc: Global) -> Result<Box<IndexSet<u64>>, Memory>
-    ensures empty { IfOk result (λ b. b.value.keys ≡ []) }
-    ensures room { IfOk result (λ b. 0 < spare b.value) }
-{
-    Ok(Box::new(alloc, IndexSet::with_capacity(alloc, 1)?)?)
-}
-
-/// Puts a new number behind those of a set.
-#[inline(always)]
-fn insert(set: &mut IndexSet<u64>, n: u64)
-    requires new { has_lem set.old.keys n ≡ false }
-    requires room { 0 < spare set.old }
-    ensures { set.new.keys ≡ set.old.keys ++ n ∷ [] }
-{
-    set.insert(n).unwrap();
+    ghost invariant = { λ a. IsCounted a.all.items a.counted.next a.counted.apart.numbers };
 }
 
 impl Numbers {
@@ -55,17 +41,17 @@ impl Numbers {
     pub fn new(alloc: Global) -> Self
         ensures { result.numbers ≡ [] }
     {
-        Numbers { set: None, alloc }
+        Numbers {
+            all: Trace::new(),
+            counted: Counted::new(alloc),
+        }
     }
 
     /// Whether the number is among them.
     pub fn has(&self, n: u64) -> bool
         ensures { result ≡ has_lem self.now.numbers n }
     {
-        match &self.set {
-            Some(set) => set.contains(&n),
-            None => false,
-        }
+        self.counted.has(n)
     }
 
     /// Makes room for one more.
@@ -74,11 +60,7 @@ impl Numbers {
         ensures room { OnOk result (0 < self.new.spare) }
         ensures same { self.new.numbers ≡ self.old.numbers }
     {
-        match &mut self.set {
-            Some(set) => set.reserve(1)?,
-            None => self.set = Some(new_set(self.alloc)?),
-        }
-        Ok(())
+        self.counted.reserve()
     }
 
     /// Puts a new one behind them.
@@ -88,8 +70,7 @@ impl Numbers {
         requires room { 0 < self.old.spare }
         ensures { self.new.numbers ≡ self.old.numbers ++ n ∷ [] }
     {
-        if let Some(set) = &mut self.set {
-            insert(set, n);
-        }
+        self.all = self.all.then(&n);
+        self.counted.add(n);
     }
 }

@@ -24,7 +24,8 @@ const WORN: u64 = MAX_STAMP - 15;
 
 /// What the packets of one rank tell the rank that takes them.
 ///
-/// Each call takes constant time, whatever came before.
+/// Each call takes constant time, whatever came before; but a clearance or a withdrawal counts those that wait for
+/// it, too, each of them once.
 pub struct Stream {
     count: u64,
     // how many bytes the last message still lacks

@@ -1,6 +1,6 @@
 use Rattle.std.proofs.Common.{◌∙◌}
 use Rattle.nm_receiving.proofs.NumberLemmas.{insert_key-new}
-use Rattle.nm_receiving.proofs.streams.numbers.insert.Goals as goal
+use Rattle.nm_receiving.proofs.streams.apart.insert.Goals as goal
 
 pub returns : goal.returns
 returns c =
