@@ -52,6 +52,16 @@ module _ (v : SendingView) (h : List Event) (was : AreSent v h) (to n : ℕ) whe
       by_there None = refl
       by_there (Some d) = refl
 
+-- whether it is over, also where it is not said whether one that was withdrawn has left
+pub over-told : (d : Departure) → is_over (fate d) ≡ is_over d
+over-told d = by d.recalled d.out (was_undone true d) (was_undone false d) where
+  by : (r o u l : Bool) → cond r (u || (l && (o || (r && u)))) (o || (r && u)) ≡ cond r (u || (l && o)) o
+  by true o true l = refl
+  by true true false l = refl
+  by true false false l = refl
+  by false true u l = refl
+  by false false u l = refl
+
 -- what is said of a message is the same, whether or not its length is known
 module _ (o p : Option Departure) (same : option_map fate o ≡ option_map fate p) where
   pub passes-told : (test : Departure → Bool) → ((d : Departure) → test (fate d) ≡ test d)
@@ -66,4 +76,4 @@ module _ (o p : Option Departure) (same : option_map fate o ≡ option_map fate 
     bare : (q : Option Departure)
         → option_and_then ending_of (option_map fate q) ≡ option_and_then ending_of q
     bare None = refl
-    bare (Some d) = refl
+    bare (Some d) = ap (λ (b : Bool). ended b (was_undone true d)) (over-told d)

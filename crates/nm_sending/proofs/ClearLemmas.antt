@@ -274,6 +274,7 @@ module _ (me ranks : ℕ) (old : SendingView) (tables : TablesAgree me ranks old
           ask.offer.3,
           has_bytes
               (body_len ask.body) ask.departure.len ask.offer.0 full,
+          ask.offer.4,
         )))
         (omega (arith, counted))
       where

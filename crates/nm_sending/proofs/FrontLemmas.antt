@@ -1,5 +1,5 @@
 -- The first packet goes, and an eager message leaves with its last one.
-use Rattle.std.proofs.Common.{◌≡◌, ℕ, ◌+◌, ◌<◌, ◌==◌, Bool, true, false, not, ◌&&◌, cond}
+use Rattle.std.proofs.Common.{◌≡◌, ℕ, ◌+◌, ◌<◌, ◌==◌, Bool, true, false, not, ◌&&◌, ◌||◌, cond}
 use Rattle.std.proofs.Common.{Option, Some, None}
 use Rattle.std.proofs.Common.{List, [], ◌∷◌, ◌++◌, length, is_some, refl, sym, ◌∙◌, ap, subst}
 use Rattle.std.proofs.Common.{arith, true≢false}
@@ -24,6 +24,7 @@ use Rattle.nm_sending.specs.declared.departures.Departure.{Departure}
 use Rattle.nm_sending.specs.Departures.{SendingView, row_of, with_departure, departures_to}
 use Rattle.nm_sending.specs.Departures.{departure_of, passes}
 use Rattle.nm_sending.specs.Departures.{cleared_to, ended_by, ends_to}
+use Rattle.nm_sending.specs.Rows.{is_settled, is_withdrawn}
 use Rattle.nm_sending.specs.Sent.{AreSent, Preserves}
 use Rattle.nm_sending.specs.Tables.{TablesAgree, IsOffer, IsOfferBy, waits, waiting_from, recall_of}
 use Rattle.std.proofs.lemmas.List.{length-set}
@@ -50,6 +51,14 @@ waits_in d w = by_test (is_ask d.how) d.out refl w where
   by_test true c is w = absurd (true≢false (sym w))
   by_test false true is w = absurd (true≢false (sym w))
   by_test false false is w = is
+
+-- it may still leave
+waits_settled : (d : Departure) → waits d ≡ true → is_settled d ≡ false
+waits_settled d w = by_test (is_ask d.how) d.out w where
+  by_test : (a o : Bool) → (not a && not o) ≡ true → (o || (a && is_withdrawn d)) ≡ false
+  by_test true o w = absurd (true≢false (sym w))
+  by_test false true w = absurd (true≢false (sym w))
+  by_test false false w = refl
 
 pub out_waits : (d : Departure) → d.out ≡ true → waits d ≡ false
 out_waits d out = rw out (by_test (is_ask d.how)) where
@@ -267,8 +276,8 @@ module _ (me ranks : ℕ) (old : SendingView) (tables : TablesAgree me ranks old
       subst (λ (t : ℕ). departure_of old t n ≡ Some (first me ranks old tables letter rest list n is).message) goes
       (ended_there me ranks old tables letter rest list n is)
 
-  pub gone-stays : gone-message.out ≡ false
-  gone-stays = waits_in gone-message (first me ranks old tables letter rest list n is).waiting
+  pub gone-stays : is_settled gone-message ≡ false
+  gone-stays = waits_settled gone-message (first me ranks old tables letter rest list n is).waiting
 
   pub gone-eager : (h : List Event) → AreSent old h → is_asked (sends h to) n ≡ false
   gone-eager =

@@ -216,6 +216,7 @@ module _ (me ranks : ℕ) (old : SendingView) (tables : TablesAgree me ranks old
           lead.offer.2,
           lead.offer.3,
           subst (λ (x : ℕ). MAX_PIECE * rest.popped < x) lead.offer.0 more.left,
+          lead.offer.5,
         ))
         (omega (arith, counted))
 

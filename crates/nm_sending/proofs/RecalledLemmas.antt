@@ -1,6 +1,7 @@
 -- Messages with their recalls.
-use Rattle.std.proofs.Common.{◌≡◌, ℕ, zero, suc, ◌+◌, ◌<◌, Bool, true, false, cond, List, [], ◌∷◌, ◌++◌, length}
-use Rattle.std.proofs.Common.{nat_eq, Option, Some, None, is_some, not, refl, sym, ap, subst, ◌∙◌, arith, true≢false}
+use Rattle.std.proofs.Common.{◌≡◌, ℕ, zero, suc, ◌+◌, ◌<◌, Bool, true, false, ◌&&◌, cond, List, [], ◌∷◌, ◌++◌}
+use Rattle.std.proofs.Common.{length, nat_eq, Option, Some, None, is_some, not, refl, sym, ap, subst, ◌∙◌, arith}
+use Rattle.std.proofs.Common.{true≢false}
 use Rattle.std.specs.List.{slice_get}
 use Rattle.std.specs.Map.{lookup}
 use Rattle.std.specs.Option.{option_map}
@@ -8,19 +9,15 @@ use Rattle.std.proofs.Math.ListN.{set}
 use Rattle.std.proofs.lemmas.List.{set-get_or}
 use Rattle.std.proofs.lemmas.Option.{get_or_from_slice_get, slice_get_within}
 use Rattle.nm_types.proofs.NumberLemmas.{eq_false, eq_less, eq_true, same_number}
+use Rattle.nm_types.proofs.TruthLemmas.{and_left}
 use Rattle.nm_sending.specs.declared.departures.Departure.{Departure}
 use Rattle.nm_sending.specs.Departures.{passes}
-use Rattle.nm_sending.specs.Rows.{all_recalled, gone, with_recalled}
+use Rattle.nm_sending.specs.Rows.{all_recalled, with_recalled}
 
 module _ (recalls : List (ℕ × Option Bool)) where
   pub length-all : (n : ℕ) (ds : List Departure) → length (all_recalled recalls n ds) ≡ length ds
   length-all n [] = refl
   length-all n (d ∷ ds) = let rest = length-all (n + 1) ds in omega (arith, rest)
-
-  -- as many have left
-  pub gone-all : (n : ℕ) (ds : List Departure) → gone (all_recalled recalls n ds) ≡ gone ds
-  gone-all n [] = refl
-  gone-all n (d ∷ ds) = ap (λ k. cond d.out (1 + k) 0) (gone-all (n + 1) ds)
 
   -- a message with its recall
   pub get-all : (n : ℕ) (ds : List Departure) (i : ℕ) → slice_get (all_recalled recalls n ds) i
@@ -54,6 +51,11 @@ module _ (recalls : List (ℕ × Option Bool)) where
       get-all 0 ds n
       ∙ ap (λ k. option_map (λ x. with_recalled x (lookup (nat_eq k) recalls)) (slice_get ds n)) same
       ∙ ap (λ o. option_map (λ x. with_recalled x (lookup (nat_eq n) recalls)) o) there
+
+  -- where there is none
+  pub none-at : (ds : List Departure) (n : ℕ) → slice_get ds n ≡ None → slice_get (all_recalled recalls 0 ds) n ≡ None
+  none-at ds n none =
+      get-all 0 ds n ∙ ap (λ o. option_map (λ x. with_recalled x (lookup (nat_eq (0 + n)) recalls)) o) none
 
   -- what stands without its recall at the place of a message
   pub base-of : (ds : List Departure) (n : ℕ) (d : Departure) → slice_get (all_recalled recalls 0 ds) n ≡ Some d
@@ -123,6 +125,12 @@ pub passing : (test : Departure → Bool) (o : Option Departure) → passes test
     → (d : Departure) × (o ≡ Some d) × (test d ≡ true)
 passing test None h = absurd (true≢false (sym h))
 passing test (Some d) h = (d, refl, h)
+
+-- one that passes both tests passes the first
+pub passes-first : (f g : Departure → Bool) (o : Option Departure) → passes (λ d. f d && g d) o ≡ true
+    → passes f o ≡ true
+passes-first f g None h = h
+passes-first f g (Some d) h = and_left (f d) (g d) h
 
 -- the next message has no recall
 pub unknown-next : (recalls : List (ℕ × Option Bool)) (m : ℕ)

@@ -76,7 +76,7 @@ open_by : (recalled : Bool) (undone : Option Bool)
 open_by true None = refl
 open_by true (Some true) = refl
 open_by true (Some false) = refl
-open_by false undone = refl
+open_by false _ = refl
 
 unanswered_is : (o : Option Departure)
     → option_map_or is_unanswered (option_and_then recall_of o) false
@@ -114,7 +114,8 @@ offer-answered Ask d false c (Some (Asked body)) none uncleared offer =
     (offer.0, offer.1, offer.2, offer.3, refl)
 offer-answered Ask d true c (Some (Cleared cut)) none uncleared offer =
     absurd (true≢false (sym offer.2 ∙ uncleared))
-offer-answered Ask d false c (Some (Cleared cut)) none uncleared offer = offer
+offer-answered Ask d false c (Some (Cleared cut)) none uncleared offer =
+    (offer.0, offer.1, offer.2, offer.3, offer.4, refl)
 offer-answered Ask d true c (Some Out) none uncleared offer = absurd (true≢false (sym offer.0 ∙ uncleared))
 offer-answered Ask d false c (Some Out) none uncleared offer = offer
 offer-answered Ask d done c (Some Withdrawn) none uncleared offer =

@@ -35,7 +35,7 @@ IsStateOf d cleared (Some (Asked body)) =
     × (was_undone true d ≡ false)
 IsStateOf d cleared (Some (Cleared cut)) =
     (body_len cut.body ≡ d.len) × (d.len ≤ MAX_BODY) × (cleared ≡ true) × (d.out ≡ false)
-    × (MAX_PIECE * cut.popped < d.len)
+    × (MAX_PIECE * cut.popped < d.len) × (was_undone true d ≡ false)
 IsStateOf d cleared (Some Out) = (cleared ≡ true) × (d.out ≡ true)
 IsStateOf d cleared (Some Withdrawn) =
     (cleared ≡ false) × (d.out ≡ false) × (was_undone true d ≡ true)

@@ -3,6 +3,7 @@
 ghost use Rattle.std.specs.Prelude.{◌≡◌, true, Some};
 ghost use Rattle.nm_types.specs.declared.messages.How.TheVariants.{Eager};
 ghost use Rattle.nm_sending.specs.Departures.{ending_of, fresh, is_over};
+ghost use Rattle.nm_sending.specs.Rows.{is_settled as is_settled_lem, is_withdrawn as is_withdrawn_lem};
 ghost use Rattle.nm_sending.specs.Rows.{with_recalled as with_recalled_lem};
 
 use nm_types::{Answer, How};
@@ -58,6 +59,32 @@ impl Departure {
         match self.undone {
             Some(true) => Some(Answer::Cancelled),
             _ => Some(Answer::Sent),
+        }
+    }
+
+    /// Whether it was recalled and withdrawn.
+    fn is_withdrawn(&self) -> bool
+        ensures { result ≡ is_withdrawn_lem self.now }
+    {
+        if !self.recalled {
+            return false;
+        }
+        match self.undone {
+            Some(done) => done,
+            None => false,
+        }
+    }
+
+    /// Whether it has left, or never will: it was sent by asking and was withdrawn.
+    pub(crate) fn is_settled(&self) -> bool
+        ensures { result ≡ is_settled_lem self.now }
+    {
+        if self.out {
+            return true;
+        }
+        match self.how {
+            How::Eager => false,
+            How::Ask => self.is_withdrawn(),
         }
     }
 

@@ -20,8 +20,9 @@
 //! - A recall and its answer are noted, and change no other message (`RecallsMessage`, `AnswersRecall`).
 //! - Pieces are those of the first message that was cleared and has not left, in order (`next_piece`: `next`;
 //!   `PopsNextPiece`: `in_turn`).
-//! - Memory holds the messages to a rank from the first on that has not left (`held`), beside the recalls. What
-//!   is told of a message stays the same when it is let go.
+//! - Memory holds the messages to a rank from the first on that may still leave (`held`), beside the recalls. One
+//!   that was sent by asking and was withdrawn never does. What is told of a message stays the same when it is let
+//!   go.
 //! - Want of memory changes nothing but room (`send`, `recall`: `err`).
 //! # What is only tested
 //! That calls that take memory succeed with ample memory.

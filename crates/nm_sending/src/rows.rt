@@ -1,10 +1,11 @@
 //! What became of each message to one rank.
 
-ghost use Rattle.std.specs.Prelude.{◌≡◌, ◌+◌, ◌<◌, ◌≤◌, ◌^◌, [], ◌∷◌, ◌++◌, true, length, not, Some};
-ghost use Rattle.std.specs.Prelude.{slice_get, slice_set, option_map, OnOk};
-ghost use Rattle.nm_sending.specs.Departures.{fresh, passes};
+ghost use Rattle.std.specs.Prelude.{◌≡◌, ◌+◌, ◌<◌, ◌≤◌, ◌^◌, ◌&&◌, [], ◌∷◌, ◌++◌, true, length, not, Some};
+ghost use Rattle.std.specs.Prelude.{slice_get, slice_set, nat_eq, option_map, OnOk};
+ghost use Rattle.std.specs.Map.{lookup};
+ghost use Rattle.nm_sending.specs.Departures.{fresh, passes, was_undone};
 ghost use Rattle.nm_sending.specs.declared.departures.Departure.{Departure};
-ghost use Rattle.nm_sending.specs.Rows.{fate, gone, stays};
+ghost use Rattle.nm_sending.specs.Rows.{all_recalled, fate, gone, is_settled as is_settled_lem, stays, with_recalled};
 
 use crate::departures::Departure;
 use crate::recalls::Recalls;
@@ -13,7 +14,7 @@ use nm_types::{How, Memory};
 use std::alloc::Global;
 use std::marker::Model;
 
-/// What became of each message to one rank, by number. Memory holds those from the first on that has not left,
+/// What became of each message to one rank, by number. Memory holds those from the first on that may still leave,
 /// and each recall.
 pub(crate) struct Row {
     // without their recalls
@@ -45,17 +46,42 @@ impl Model for Row {
     ghost invariant = { λ a. RowKeeps a.sent a.recalls.entries };
 }
 
-/// Lets go the messages at the front that have left.
+/// Whether message `n` has left, or never will.
 #[inline(always)]
-fn let_go(sent: &mut Kept<Departure>)
-    requires { sent.old.forgotten ≤ gone sent.old.items }
+fn is_settled(departure: &Departure, recalls: &Recalls, n: u64) -> bool
+    ensures { result ≡ is_settled_lem
+        (with_recalled departure.now (lookup (nat_eq n) recalls.now.entries)) }
+{
+    if departure.out {
+        return true;
+    }
+    departure.with_recalled(recalls.get(n)).is_settled()
+}
+
+/// Whether the first message in memory has left, or never will.
+#[inline(always)]
+fn is_first_settled(sent: &Kept<Departure>, recalls: &Recalls) -> bool
+    requires few { length sent.now.items < 2 ^ 64 }
+    ensures { result ≡ passes is_settled_lem
+        (slice_get (all_recalled recalls.now.entries 0 sent.now.items) sent.now.forgotten) }
+{
+    match sent.first() {
+        Some(departure) => is_settled(departure, recalls, sent.forgotten()),
+        None => false,
+    }
+}
+
+/// Lets go the messages at the front that have left, or never will.
+#[inline(always)]
+fn let_go(sent: &mut Kept<Departure>, recalls: &Recalls)
+    requires few { length sent.old.items < 2 ^ 64 }
+    requires low { sent.old.forgotten ≤ gone (all_recalled recalls.now.entries 0 sent.old.items) }
     ensures same { sent.new.items ≡ sent.old.items }
-    ensures first { sent.new.forgotten ≡ gone sent.old.items }
+    ensures first { sent.new.forgotten ≡ gone (all_recalled recalls.now.entries 0 sent.old.items) }
 {
     for _gone in 0..sent.held() {
-        match sent.first() {
-            Some(departure) if departure.out => {}
-            _ => return,
+        if !is_first_settled(sent, recalls) {
+            return;
         }
         sent.forget_first();
     }
@@ -79,7 +105,7 @@ impl Row {
         self.sent.len()
     }
 
-    /// How many messages are in memory: those from the first on that has not left.
+    /// How many messages are in memory: those from the first on that may still leave.
     pub(crate) fn held(&self) -> usize
         ensures { gone self.now.items + result ≡ length self.now.items }
     {
@@ -134,7 +160,7 @@ impl Row {
     {
         let departure = *self.sent.get(n).unwrap();
         self.sent.set(n, departure.left());
-        let_go(&mut self.sent);
+        let_go(&mut self.sent, &self.recalls);
     }
 
     /// The receiver of a message was asked to withdraw it. There is room for that.
@@ -147,12 +173,15 @@ impl Row {
         self.recalls.add(n);
     }
 
-    /// The answer to a message's recall came back.
+    /// The answer to a message's recall came back, which had none. One that was withdrawn is let go with those
+    /// before it, once none of them may leave.
     pub(crate) fn answer(&mut self, n: u64, done: bool)
-        requires { passes (λ d. d.recalled) (slice_get self.old.items n) ≡ true }
+        requires { passes (λ d. d.recalled && not (was_undone true d)) (slice_get self.old.items n)
+            ≡ true }
         ensures { (d : Departure) → slice_get self.old.items n ≡ Some d →
             self.new.items ≡ slice_set self.old.items n (record d { undone = Some done }) }
     {
         self.recalls.answer(n, done);
+        let_go(&mut self.sent, &self.recalls);
     }
 }

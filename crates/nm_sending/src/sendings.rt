@@ -128,7 +128,8 @@ impl Sending {
         self.departures.count(to)
     }
 
-    /// How many messages to a rank are in memory: those from the first on that has not left.
+    /// How many messages to a rank are in memory: those from the first on that may still leave. One that was sent by
+    /// asking and was withdrawn never does.
     pub fn held(&self, to: u8) -> usize
         requires { to < length self.now.outbox.popped }
         ensures { gone (departures_to self.now to) + result ≡ length (departures_to self.now to) }

@@ -1,9 +1,9 @@
 //! What became of each message that was sent.
 
-ghost use Rattle.std.specs.Prelude.{◌≡◌, ◌+◌, ◌<◌, ◌^◌, [], ◌∷◌, ◌++◌, true, not, length, replicate, Some};
-ghost use Rattle.std.specs.Prelude.{option_map, slice_get, slice_index, slice_set};
+ghost use Rattle.std.specs.Prelude.{◌≡◌, ◌+◌, ◌<◌, ◌^◌, ◌&&◌, [], ◌∷◌, ◌++◌, true, not, length, replicate};
+ghost use Rattle.std.specs.Prelude.{Some, option_map, slice_get, slice_index, slice_set};
 ghost use Rattle.std.specs.Prelude.{IfOk, OnOk};
-ghost use Rattle.nm_sending.specs.Departures.{IsMost, fresh, passes, row_of, with_departure};
+ghost use Rattle.nm_sending.specs.Departures.{IsMost, fresh, passes, row_of, was_undone, with_departure};
 ghost use Rattle.nm_sending.specs.Rows.{fate, gone, stays};
 ghost use Rattle.nm_sending.specs.declared.TheConstants.{MAX_MESSAGES};
 ghost use Rattle.nm_sending.specs.declared.departures.Departure.{Departure};
@@ -63,7 +63,7 @@ impl Table {
         self.rows[to as usize].count()
     }
 
-    /// How many messages to a rank are in memory: those from the first on that has not left.
+    /// How many messages to a rank are in memory: those from the first on that may still leave.
     pub(crate) fn held(&self, to: u8) -> usize
         requires { to < length self.now.rows }
         ensures { gone (row_of self.now.rows to) + result ≡ length (row_of self.now.rows to) }
@@ -141,10 +141,11 @@ impl Table {
         self.rows[to as usize].recall(n);
     }
 
-    /// The answer to a message's recall came back.
+    /// The answer to a message's recall came back, which had none.
     pub(crate) fn answer(&mut self, to: u8, n: u64, done: bool)
         requires to { to < length self.old.rows }
-        requires recalled { passes (λ d. d.recalled) (slice_get (row_of self.old.rows to) n) ≡ true }
+        requires recalled { passes (λ d. d.recalled && not (was_undone true d))
+            (slice_get (row_of self.old.rows to) n) ≡ true }
         ensures { (d : Departure) → slice_get (row_of self.old.rows to) n ≡ Some d →
             self.new.rows ≡ with_departure self.old.rows to n (record d { undone = Some done }) }
     {

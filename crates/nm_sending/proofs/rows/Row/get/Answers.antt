@@ -1,5 +1,4 @@
-use Rattle.std.proofs.Common.{◌≡◌, ◌<◌, ◌≤◌, ◌∙◌, ap, arith, length, List, nat_eq, Option, Some, Bool, sym, true≢false}
-use Rattle.std.specs.Map.{lookup}
+use Rattle.std.proofs.Common.{◌<◌, ◌≤◌, ◌∙◌, ap, arith, length, Option, Some, Bool, sym, true≢false}
 use Rattle.std.specs.Option.{option_map}
 use Rattle.std.proofs.lemmas.Option.{slice_get_past}
 use Rattle.nm_sending.specs.declared.departures.Departure.{Departure}
@@ -33,11 +32,11 @@ returns-in-None c =
     let at = there-within a.sent.items c.args.n within in
     let behind : a.sent.forgotten ≤ c.args.n → ⊥ = λ h. true≢false (sym (c.in-None.ensures.held.1
     (record { behind = h; within = within }))) in
-    let low : c.args.n < gone a.sent.items = omega (arith, c.self.invariant.first, behind) in
+    let low : c.args.n < gone (all_recalled a.recalls.entries 0 a.sent.items) =
+    omega (arith, c.self.invariant.first, behind) in
     rw (← c.self.view_is)
     (ap (λ (x : Departure). Some (fate x)) c.with_recalled-in-None.ensures
     ∙ ap (λ (r : Option (Option Bool)). Some (fate (with_recalled c.gone.result r))) c.get-recall.ensures
     ∙ ap (λ (x : Departure). Some x)
-    (gone-told a.sent.items c.args.n at.0 c.gone.result at.1 low c.gone.ensures
-    (lookup (nat_eq c.args.n) a.recalls.entries))
+    (gone-told a.recalls.entries a.sent.items c.args.n at.0 c.gone.result at.1 low c.gone.ensures)
     ∙ sym (ap (option_map fate) (get-at a.recalls.entries a.sent.items c.args.n at.0 at.1)))

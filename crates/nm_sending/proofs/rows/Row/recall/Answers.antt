@@ -1,6 +1,7 @@
-use Rattle.std.proofs.Common.{◌≡◌, None, ◌∙◌, ap, nat_eq, cond, Some, refl, not, ℕ}
+use Rattle.std.proofs.Common.{◌≡◌, None, ◌∙◌, ap, nat_eq, cond, Some, refl, sym, not, ℕ}
 use Rattle.std.specs.Map.{lookup}
 use Rattle.nm_kept.proofs.EntryLemmas.{lookup-more}
+use Rattle.nm_sending.proofs.GoneLemmas.{gone-recalled}
 use Rattle.nm_sending.proofs.RecalledLemmas.{known-more, passing, recalled-all, unrecalled-at, within-all}
 use Rattle.nm_sending.proofs.rows.Row.recall.Goals as goal
 
@@ -19,7 +20,8 @@ invariant_of-self c =
     λ q. ap (lookup (nat_eq q)) c.add.ensures ∙ lookup-more a.recalls.entries c.args.n None none q in
     let p = passing (λ d. not d.recalled) _ h in
     record {
-      first = c.self.invariant.first;
+      first = c.self.invariant.first
+          ∙ sym (gone-recalled a.recalls.entries c.add.new.self.entries a.sent.items c.args.n step h);
       few = c.self.invariant.few;
       known = known-more a.recalls.entries a.sent.items c.args.n c.add.new.self.entries None step
           (within-all a.recalls.entries a.sent.items c.args.n p.0 p.1) c.self.invariant.known;

@@ -14,6 +14,7 @@ use Rattle.nm_sending.specs.Sent.{MayBeCleared}
 use Rattle.nm_sending.specs.Tables.{TablesAgree}
 use Rattle.nm_sending.proofs.ClearLemmas.{asks, after-clear, at_once, clear_empty, cleared_view}
 use Rattle.nm_sending.proofs.ClearLemmas.{full-tables, full-kept, empty-tables, empty-kept, empty-counted}
+use Rattle.nm_sending.proofs.GoneLemmas.{unsettled}
 use Rattle.nm_sending.proofs.sendings.Sending.clear.Goals as goal
 
 pub cleared-is_out-requires-clause-in_range : goal.cleared-is_out-requires-clause-in_range
@@ -42,7 +43,8 @@ leave-requires-clause-stays c =
     let may = subst (λ (v : SendingView). MayBeCleared v c.args.to c.args.n)
     (sym c.self.view_is) c.requires.may in
     let ask = asks a.me a.ranks (the_view a) c.self.invariant c.args.to c.args.n may in
-    ap (λ (o : Option Departure). passes stays o) ask.there ∙ ap not ask.offer.3
+    ap (λ (o : Option Departure). passes stays o) ask.there
+    ∙ ap not (unsettled ask.departure ask.offer.3 ask.offer.4)
 
 pub overflow_sub-self : goal.overflow_sub-self
 overflow_sub-self c =

@@ -14,6 +14,7 @@ use Rattle.nm_sending.proofs.PopLemmas.{goes_on, last_of, message_to, count_rais
 use Rattle.nm_sending.proofs.PopLemmas.{more-tables, more-kept, last-tables, last-kept, last-counted}
 use Rattle.nm_sending.proofs.PopLemmas.{after, offers_popped, count_pushed}
 use Rattle.nm_sending.proofs.PieceLemmas.{is_leading}
+use Rattle.nm_sending.proofs.GoneLemmas.{unsettled}
 use Rattle.nm_sending.proofs.sendings.Sending.pop_piece.Goals as goal
 
 pub unwrap-to-requires : goal.unwrap-to-requires
@@ -54,7 +55,8 @@ leave-requires-clause-stays c =
     let last = last_of a.me a.ranks
     (the_view a) c.self.invariant there c.pop_piece.result c.pop_piece.ensures.last
     c.in_ok-to.to c.in_ok-to.n c.in_ok-to.was in
-    ap (λ (o : Option Departure). passes stays o) last.lead.there ∙ ap not last.lead.offer.3
+    ap (λ (o : Option Departure). passes stays o) last.lead.there
+    ∙ ap not (unsettled last.lead.departure last.lead.offer.3 last.lead.offer.5)
 
 pub overflow_sub-self : goal.overflow_sub-self
 overflow_sub-self c =

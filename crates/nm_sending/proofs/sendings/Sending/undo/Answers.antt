@@ -1,10 +1,12 @@
 -- The answer to a recall comes back.
-use Rattle.std.proofs.Common.{◌<◌, Option, length, refl, sym, ◌∙◌, ap, subst, arith}
+use Rattle.std.proofs.Common.{◌<◌, ◌&&◌, Bool, true, false, not, Option, length, refl, sym, ◌∙◌, ap, subst, arith}
+use Rattle.std.specs.Option.{option_map_or}
+use Rattle.nm_history.specs.Happens.{is_same}
 use Rattle.nm_rndv.specs.Offers.{Offering}
 use Rattle.nm_sending.specs.contracts.sendings.Sending.{the_view}
 use Rattle.nm_sending.specs.Calls.{AnswersRecall}
 use Rattle.nm_sending.specs.declared.departures.Departure.{Departure}
-use Rattle.nm_sending.specs.Departures.{SendingView, passes}
+use Rattle.nm_sending.specs.Departures.{SendingView, passes, was_undone}
 use Rattle.nm_sending.specs.Sent.{MayBeAnswered}
 use Rattle.nm_sending.specs.Tables.{TablesAgree}
 use Rattle.nm_sending.proofs.UndoLemmas.{is_recall_open, is_open, not_cleared, after-undo}
@@ -50,7 +52,9 @@ answer-requires-clause-recalled c =
     let may = subst (λ (v : SendingView). MayBeAnswered v c.args.to c.args.n c.args.done) (sym c.self.view_is)
     c.requires.may in
     let open' = is_recall_open (the_view c.self.inside) c.args.to c.args.n c.args.done may in
-    ap (λ (o : Option Departure). passes (λ d. d.recalled) o) open'.there ∙ open'.recalled
+    ap (λ (o : Option Departure). passes (λ d. d.recalled && not (was_undone true d)) o) open'.there
+    ∙ ap (λ (b : Bool). b && not (was_undone true open'.departure)) open'.recalled
+    ∙ ap (λ (o : Option Bool). not (option_map_or (is_same true) o false)) open'.none
 
 pub invariant_of-self : goal.invariant_of-self
 invariant_of-self c =
