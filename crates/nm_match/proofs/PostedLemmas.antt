@@ -16,13 +16,13 @@ use Rattle.nm_match.specs.declared.names.Standing.TheVariants.{Waits, Aside}
 use Rattle.nm_match.specs.declared.picks.Picks.{Picks}
 use Rattle.nm_match.specs.declared.posted.Posted.{Posted}
 use Rattle.nm_match.specs.Buckets.{AreBuckets}
+use Rattle.nm_match.specs.Fronts.{front_at}
 use Rattle.nm_match.specs.Names.{ArePosted, fronts_of, is_aside}
 use Rattle.nm_match.specs.Picks.{names_both, picks_of_post, same_picks}
 use Rattle.nm_match.specs.Queues.{TwoReceives, without_first}
 use Rattle.nm_match.specs.Rings.{AreRings, HasLeft, IsPassed, before_of, before_set, ends_set, is_cancelled, let_in}
 use Rattle.nm_match.specs.Rings.{next_of, shut_out, waiting_at, waiting_of, waits_between}
 use Rattle.nm_match.specs.Rings.{first_number, front_number, last_number, with_before, with_next}
-use Rattle.indexmap.specs.IndexMap.{get}
 use Rattle.nm_match.specs.SameKeys.{same_picks-self}
 use Rattle.nm_match.specs.Standings.{receive_at, standing_at, standing_of}
 use Rattle.nm_match.proofs.BucketLemmas.{pairs_unmap}
@@ -261,33 +261,33 @@ pub left_named : {queue : List Entry} {next : ℕ} {under : Picks → List Entry
     AreBuckets picks_of_post queue next under → (p p' : Posted) →
     AreRings (fronts_of p) (receive_at p.standings) under → (key : Picks) → names_both key ≡ true →
     (r : Option post.Post) → r ≡ option_map (λ (y : Entry). y.1)
-    (waiting_at (receive_at p.standings) (get same_picks p.named.map key)) → p'.wild ≡ p.wild →
-    IfSome r (λ i. HasLeft key i.number (get same_picks p.named.map) (get same_picks p'.named.map)
+    (waiting_at (receive_at p.standings) (front_at p.named key)) → p'.wild ≡ p.wild →
+    IfSome r (λ i. HasLeft key i.number (front_at p.named) (front_at p'.named)
     (receive_at p.standings) (receive_at p'.standings)) →
     IfSome r (λ i. HasLeft (picks_of_post i) i.number (fronts_of p) (fronts_of p') (receive_at p.standings)
     (receive_at p'.standings))
 left_named {queue} {next} {under} are p p' rings key named r is wild left =
     at (slice_get (under key) 0) refl r (is ∙ ap (λ (o : Option Entry). option_map (λ (y : Entry). y.1) o) first) left
   where
-    first : waiting_at (receive_at p.standings) (get same_picks p.named.map key) ≡ slice_get (under key) 0
-    first = first_waits (receive_at p.standings) (get same_picks p.named.map key) (last_number 0 (under key))
+    first : waiting_at (receive_at p.standings) (front_at p.named key) ≡ slice_get (under key) 0
+    first = first_waits (receive_at p.standings) (front_at p.named key) (last_number 0 (under key))
         (first_number 0 (under key)) (under key)
-        (subst (λ (b : Bool). cond b (get same_picks p.named.map key) (get same_picks p.wild.map key)
+        (subst (λ (b : Bool). cond b (front_at p.named key) (front_at p.wild key)
         ≡ front_number (under key)) named (rings key).0) (rings key).1
 
-    both : (n : ℕ) → Left p p' (get same_picks p.named.map) (get same_picks p'.named.map) key n →
+    both : (n : ℕ) → Left p p' (front_at p.named) (front_at p'.named) key n →
         Left p p' (fronts_of p) (fronts_of p') key n
     both n left = (
       (
         rw named left.0.0,
-        (λ k apart. λ i. cond (names_both k) (left.0.1 k apart i) (get same_picks (wild i).map k)),
+        (λ k apart. λ i. cond (names_both k) (left.0.1 k apart i) (front_at (wild i) k)),
       ),
       left.1,
     )
 
     at : (o : Option Entry) → o ≡ slice_get (under key) 0 → (r : Option post.Post) →
         r ≡ option_map (λ (y : Entry). y.1) o →
-        IfSome r (λ i. Left p p' (get same_picks p.named.map) (get same_picks p'.named.map) key i.number) →
+        IfSome r (λ i. Left p p' (front_at p.named) (front_at p'.named) key i.number) →
         IfSome r (λ i. Left p p' (fronts_of p) (fronts_of p') (picks_of_post i) i.number)
     at None same r is left = subst (λ (r : Option post.Post).
         IfSome r (λ i. Left p p' (fronts_of p) (fronts_of p') (picks_of_post i) i.number)) (sym is) tt
@@ -295,4 +295,4 @@ left_named {queue} {next} {under} are p p' rings key named r is wild left =
         IfSome r (λ i. Left p p' (fronts_of p) (fronts_of p') (picks_of_post i) i.number)) (sym is)
         (front_key are key (Some x) same (λ k y. Left p p' (fronts_of p) (fronts_of p') k y.1.number)
         (both x.1.number (subst (λ (r : Option post.Post).
-        IfSome r (λ i. Left p p' (get same_picks p.named.map) (get same_picks p'.named.map) key i.number)) is left)))
+        IfSome r (λ i. Left p p' (front_at p.named) (front_at p'.named) key i.number)) is left)))

@@ -1,6 +1,7 @@
 pub mod Buckets
 pub mod Deeds
 pub mod Early
+pub mod Fronts
 pub mod Held
 pub mod Names
 pub mod Picks

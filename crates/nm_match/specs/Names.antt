@@ -15,7 +15,8 @@ use Rattle.nm_match.specs.declared.posted.Posted.{Posted}
 use Rattle.nm_match.specs.declared.unexpected.Unexpected.{Unexpected}
 use Rattle.nm_match.specs.Buckets.{IsQueue, bucket_of}
 use Rattle.nm_match.specs.Deeds.{is_message}
-use Rattle.nm_match.specs.Picks.{names_both, picks_of_arrival, picks_of_post, same_picks}
+use Rattle.nm_match.specs.Fronts.{front_at}
+use Rattle.nm_match.specs.Picks.{names_both, picks_of_arrival, picks_of_post}
 use Rattle.nm_match.specs.Rings.{AreRings}
 use Rattle.nm_match.specs.Standings.{receive_at, standing_at}
 use Rattle.nm_match.specs.Wildcards.{IndexQueue}
@@ -65,7 +66,7 @@ pub record IsNamedQueue {X K : Type 0} (known : X → K → Bool) (key : X → P
 
 -- the number of the oldest receive under a key: those that name a source and a tag stand apart from the others
 abbrev pub fronts_of : Posted → Picks → Option ℕ
-fronts_of p key = if names_both key then get same_picks p.named.map key else get same_picks p.wild.map key
+fronts_of p key = if names_both key then front_at p.named key else front_at p.wild key
 
 -- these receives wait, in rings by what they name, and these numbers are of cancelled ones
 pub record ArePosted (posts : List post.Post) (cancelled : List ℕ) (next : ℕ) (p : Posted) : Type 0 where

@@ -29,7 +29,8 @@
 //! buckets only once: then all that waits stands under each wildcard that selects it, too, until none
 //! waits, and a wildcard looks at one bucket. A probe does so where `prepare` was called before. A
 //! cancel, a withdrawal, `is_claimed` and `take_claimed` look up one name. A ring and a bucket are found
-//! by hashing. A receive has the numbers of those before and behind it in its ring, and leaves it in a
+//! by hashing, but for the ring of a key that came where no receive waited: it stands by itself. A receive has
+//! the numbers of those before and behind it in its ring, and leaves it in a
 //! few steps; a message leaves its bucket in steps that grow with the logarithm of what is there. No
 //! ring and no bucket is empty, which the types say: an emptied one goes.
 //! `knows_post` and `knows_arrival` look up one number. Receives whose numbers come one after another

@@ -1,15 +1,15 @@
 //! The posted receive queue: the open receives, in rings by what they name.
 
-ghost use Rattle.std.specs.Prelude.{◌≡◌, ℕ, ◌+◌, ◌++◌, [], ◌∷◌, ◌==◌, false, None};
+ghost use Rattle.std.specs.Prelude.{◌≡◌, ℕ, ◌+◌, ◌++◌, [], ◌∷◌, ◌==◌, true, false, None};
 ghost use Rattle.std.specs.Prelude.{AllPairs, IfOk, IfSome, IsTrue, List, MatchOption, OnErr, OnOk, Some};
 ghost use Rattle.std.specs.Prelude.{find, is_some, option_map};
 ghost use Rattle.std.specs.Option.{option_map_or};
-ghost use Rattle.indexmap.specs.IndexMap.{get};
 ghost use Rattle.nm_types.specs.declared.messages.Post as post;
 ghost use Rattle.nm_history.specs.Continues.{has};
 ghost use Rattle.nm_history.specs.Selection.{matches};
 ghost use Rattle.nm_match.specs.declared.picks.Picks as picks;
 ghost use Rattle.nm_match.specs.Buckets.{AreBuckets, front_of, oldest_of};
+ghost use Rattle.nm_match.specs.Fronts.{front_at, is_one};
 ghost use Rattle.nm_match.specs.Names.{ArePosted, fronts_of};
 ghost use Rattle.nm_match.specs.Picks.{picks_of_post, same_picks};
 ghost use Rattle.nm_match.specs.Queues.{TwoReceives, without_first};
@@ -144,13 +144,31 @@ impl Posted {
         }
     }
 
-    /// Takes the oldest receive of those that name this source and this tag out of its ring.
-    fn take_named(&mut self, key: Picks) -> Option<Post>
+    /// Takes the oldest receive under the key that stands by itself out of its ring.
+    #[inline(always)]
+    fn take_one(&mut self, key: Picks) -> Option<Post>
+        requires { is_one self.old.named.one key ≡ true }
         ensures oldest { result ≡ option_map (λ x. x.1)
-            (waiting_at (receive_at self.old.standings) (get same_picks self.old.named.map key)) }
-        ensures left { IfSome result (λ p. HasLeft key p.number (get same_picks self.old.named.map)
-            (get same_picks self.new.named.map) (receive_at self.old.standings)
-            (receive_at self.new.standings)) }
+            (waiting_at (receive_at self.old.standings) (front_at self.old.named key)) }
+        ensures left { IfSome result (λ p. HasLeft key p.number (front_at self.old.named)
+            (front_at self.new.named) (receive_at self.old.standings) (receive_at self.new.standings)) }
+        ensures wild { self.new.wild ≡ self.old.wild }
+        ensures none { result ≡ None → self.new ≡ self.old }
+    {
+        let number = self.named.first_of_one()?;
+        let (_, p) = self.standings.waiting(number)?;
+        let next = self.standings.shut_out(p.number);
+        self.named.pass_one(p.number, next);
+        Some(p)
+    }
+
+    /// Takes the oldest receive under another key out of its ring.
+    fn take_other(&mut self, key: Picks) -> Option<Post>
+        requires { is_one self.old.named.one key ≡ false }
+        ensures oldest { result ≡ option_map (λ x. x.1)
+            (waiting_at (receive_at self.old.standings) (front_at self.old.named key)) }
+        ensures left { IfSome result (λ p. HasLeft key p.number (front_at self.old.named)
+            (front_at self.new.named) (receive_at self.old.standings) (receive_at self.new.standings)) }
         ensures wild { self.new.wild ≡ self.old.wild }
         ensures none { result ≡ None → self.new ≡ self.old }
     {
@@ -162,6 +180,21 @@ impl Posted {
         let next = self.standings.shut_out(p.number);
         self.named.pass_at(place, p.number, next);
         Some(p)
+    }
+
+    /// Takes the oldest receive of those that name this source and this tag out of its ring.
+    fn take_named(&mut self, key: Picks) -> Option<Post>
+        ensures oldest { result ≡ option_map (λ x. x.1)
+            (waiting_at (receive_at self.old.standings) (front_at self.old.named key)) }
+        ensures left { IfSome result (λ p. HasLeft key p.number (front_at self.old.named)
+            (front_at self.new.named) (receive_at self.old.standings) (receive_at self.new.standings)) }
+        ensures wild { self.new.wild ≡ self.old.wild }
+        ensures none { result ≡ None → self.new ≡ self.old }
+    {
+        if self.named.is_one(&key) {
+            return self.take_one(key);
+        }
+        self.take_other(key)
     }
 
     /// Takes the oldest receive that selects a message out of its ring. Where no receive takes any
