@@ -357,7 +357,7 @@ impl Receiving {
         ensures owed { (h : List Event) → AreReceived self.now h →
             (result ≡ true) ↔ ((n : ℕ) × IsOwed h from n) }
     {
-        self.grants.next_expected(from).is_some()
+        self.grants.is_due(from)
     }
 
     /// Whether a piece of any rank is due.

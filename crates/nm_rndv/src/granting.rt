@@ -4,7 +4,7 @@ ghost use Rattle.std.specs.Prelude.{◌≡◌, ◌+◌, ◌^◌, ◌<◌, ◌≤
 ghost use Rattle.std.specs.Prelude.{if◌then◌else◌, All};
 ghost use Rattle.std.specs.Prelude.{length, slice_set, replicate, IsOk, IsNone, IsTrue, IfOk, OnOk};
 ghost use Rattle.std.specs.Prelude.{OnErr};
-ghost use Rattle.std.specs.Prelude.{count_by};
+ghost use Rattle.std.specs.Prelude.{count_by, is_some};
 ghost use Rattle.std.specs.Map.{values_of};
 ghost use Rattle.std.specs.Option.{option_and_then};
 ghost use Rattle.nm_rndv.specs.Grants.{fresh, has_bytes, is_unfinished, grant_in, grants_from, expected_in};
@@ -127,6 +127,14 @@ impl Grants {
             AllWhole (grants_from self.now from)) }
     {
         self.unfinished > 0
+    }
+
+    /// Whether a grant of this sender is not whole, so that a piece of it is due.
+    pub fn is_due(&self, from: u8) -> bool
+        requires { from < length self.now.grants }
+        ensures { result ≡ is_some (expected_in (grants_from self.now from)) }
+    {
+        self.senders[from as usize].has_unfinished()
     }
 
     /// Whether the message was granted and bytes of it are still to come.
