@@ -11,7 +11,8 @@ use Rattle.std.specs.List.{AllByRecursion, IsDistinct, position_or_len}
 use Rattle.std.specs.Map.{keys_of, lookup, set_value}
 use Rattle.std.specs.Option.{is_some, option_map, option_map_or}
 use Rattle.nm_rndv.specs.Grants.{Granted, came, has_bytes, is_open, is_whole, is_unfinished, expected_in}
-use Rattle.nm_rndv.specs.Grants.{count_unfinished, has_unfinished, first_unfinished, AllWhole}
+use Rattle.nm_rndv.specs.Grants.{count_unfinished, due_in, due_of, has_unfinished, first_unfinished, AllWhole}
+use Rattle.nm_rndv.specs.Pieces.{piece_size}
 use Rattle.nm_types.proofs.NumberLemmas.{eq_true, same_number}
 use Rattle.nm_rndv.proofs.Places.{find-first, found_none, none_found, passes_there}
 
@@ -41,6 +42,35 @@ none_expected es = (there, back)
 
     back : AllWhole es → IsNone (expected_in es)
     back whole = mapped (first_unfinished es) (found_none is_unfinished es whole)
+
+-- whether a piece comes next, by the first grant that is not whole
+pub next_by : (es : List (ℕ × Granted)) (e : ℕ × Granted) (n at size : ℕ) → Some e ≡ first_unfinished es →
+    ((e.0 ≡ n) × (came e.1 ≡ at) × (size ≡ piece_size (due_of e.1)))
+    ↔ ((expected_in es ≡ Some (n, at)) × (size ≡ piece_size (due_in es)))
+next_by es e n at size first = subst (λ (o : Option (ℕ × Granted)).
+    ((e.0 ≡ n) × (came e.1 ≡ at) × (size ≡ piece_size (due_of e.1)))
+    ↔ ((option_map {U = ℕ × ℕ} (λ x. (x.0, came x.1)) o ≡ Some (n, at))
+    × (size ≡ piece_size (option_map_or (λ x. due_of x.1) o 0)))) first (there, back)
+  where
+    there : (e.0 ≡ n) × (came e.1 ≡ at) × (size ≡ piece_size (due_of e.1)) →
+        (◌≡◌ {A = Option (ℕ × ℕ)} (Some (e.0, came e.1)) (Some (n, at))) × (size ≡ piece_size (due_of e.1))
+    there h = (ap (λ k. Some (k, came e.1)) h.0 ∙ ap (λ k. Some (n, k)) h.1, h.2)
+
+    back : (◌≡◌ {A = Option (ℕ × ℕ)} (Some (e.0, came e.1)) (Some (n, at))) × (size ≡ piece_size (due_of e.1)) →
+        (e.0 ≡ n) × (came e.1 ≡ at) × (size ≡ piece_size (due_of e.1))
+    back h = (
+      ap (λ (o : Option (ℕ × ℕ)). option_map_or (λ x. x.0) o 0) h.0,
+      ap (λ (o : Option (ℕ × ℕ)). option_map_or (λ x. x.1) o 0) h.0,
+      h.1,
+    )
+
+-- where every grant is whole, none comes next
+pub none_next : (es : List (ℕ × Granted)) (n at size : ℕ) → None ≡ first_unfinished es →
+    (false ≡ true) ↔ ((expected_in es ≡ Some (n, at)) × (size ≡ piece_size (due_in es)))
+none_next es n at size none = (λ no. absurd (true≢false (sym no)), λ goes. absurd (true≢false (sym (some goes.0))))
+  where
+    some : expected_in es ≡ Some (n, at) → false ≡ true
+    some is = ap is_some (ap (option_map (λ (x : ℕ × Granted). (x.0, came x.1))) none ∙ is)
 
 -- none is unfinished exactly where every grant is whole
 pub none_unfinished : (es : List (ℕ × Granted)) → (has_unfinished es ≡ false) ↔ AllWhole es

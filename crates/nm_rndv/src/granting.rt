@@ -2,18 +2,17 @@
 
 ghost use Rattle.std.specs.Prelude.{◌≡◌, ◌+◌, ◌^◌, ◌<◌, ◌≤◌, ◌++◌, [], ◌∷◌, ◌↔◌, ℕ, true, false, Some, None};
 ghost use Rattle.std.specs.Prelude.{if◌then◌else◌, All};
-ghost use Rattle.std.specs.Prelude.{length, slice_set, replicate, IsOk, IsNone, IsTrue, IfOk, OnOk};
+ghost use Rattle.std.specs.Prelude.{length, slice_set, replicate, IsOk, IsTrue, IfOk, OnOk};
 ghost use Rattle.std.specs.Prelude.{OnErr};
 ghost use Rattle.std.specs.Prelude.{count_by, is_some};
 ghost use Rattle.std.specs.Map.{values_of};
 ghost use Rattle.std.specs.Option.{option_and_then};
 ghost use Rattle.nm_rndv.specs.Grants.{fresh, has_bytes, is_unfinished, grant_in, grants_from, expected_in};
 ghost use Rattle.nm_rndv.specs.Grants.{due_in, is_open_in, is_whole_in, taken_in, with_piece};
-ghost use Rattle.nm_rndv.specs.Pieces.{piece_size};
 ghost use Rattle.nm_rndv.specs.Grants.{joined_by, AllWhole, Continues, IsReady, IsReadyFor};
 
 use crate::senders::Sender;
-use nm_types::{Bytes, Joined, MAX_PIECE, Memory, Piece};
+use nm_types::{Bytes, Joined, Memory, Piece};
 use std::alloc::Global;
 use std::marker::Model;
 
@@ -153,34 +152,12 @@ impl Grants {
         self.senders[from as usize].is_whole(n)
     }
 
-    /// Message and offset that the next piece of this sender must have.
-    pub fn next_expected(&self, from: u8) -> Option<(u64, u32)>
-        requires { from < length self.now.grants }
-        ensures expected { result ≡ expected_in (grants_from self.now from) }
-        ensures none { IsNone result ↔ AllWhole (grants_from self.now from) }
-    {
-        self.senders[from as usize].expected()
-    }
-
-    /// Whether the piece has as many bytes as the next one of its sender must have.
-    fn has_size(&self, p: &Piece) -> bool
-        requires { p.now.from < length self.now.grants }
-        ensures { IsTrue result
-            ↔ (length p.now.bytes ≡ piece_size (due_in (grants_from self.now p.now.from))) }
-    {
-        let due = self.senders[p.from as usize].due();
-        p.bytes.as_slice().len() == due.min(u32::from(MAX_PIECE)) as usize
-    }
-
     /// Whether the piece is the one that its sender has to send next.
     pub fn fits(&self, p: &Piece) -> bool
         requires { p.now.from < length self.now.grants }
         ensures { IsTrue result ↔ Continues self.now p.now }
     {
-        match self.next_expected(p.from) {
-            Some((n, at)) => n == p.n && at == p.at && self.has_size(p),
-            None => false,
-        }
+        self.senders[p.from as usize].fits(p)
     }
 
     /// Puts the bytes of a piece behind those of its message.

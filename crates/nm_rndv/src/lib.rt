@@ -26,7 +26,7 @@
 //! - A withdrawal that was done is of a message that was never cleared.
 //! - `piece` puts its bytes behind those of the first unfinished grant of its sender, and `take`
 //!   gives the bytes of a whole one. A grant after `reserve`, or `reserve_for` its sender, is not
-//!   refused. `is_any_due` is false exactly where every grant of every sender is whole.
+//!   refused. `is_due` is false exactly where every grant of a sender is whole, `is_any_due` where that is so of all.
 //! - The pieces of a body, joined in order, are the body (`laws`).
 //! - After want of memory nothing has changed.
 //! # What is only tested

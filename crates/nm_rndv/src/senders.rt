@@ -11,10 +11,11 @@ ghost use Rattle.nm_rndv.specs.Grants.{fresh, has_bytes, is_open as is_open_lem,
 ghost use Rattle.nm_rndv.specs.Grants.{is_whole_in, first_unfinished, expected_in, due_in};
 ghost use Rattle.nm_rndv.specs.Grants.{taken_in, with_piece};
 ghost use Rattle.nm_rndv.specs.Grants.{has_unfinished as has_unfinished_lem};
+ghost use Rattle.nm_rndv.specs.Pieces.{piece_size};
 
 use crate::granted::Grant;
 use nm_kept::Entries;
-use nm_types::{Bytes, Memory, Piece};
+use nm_types::{Bytes, MAX_PIECE, Memory, Piece};
 use std::alloc::Global;
 use std::collections::VecDeque;
 use std::marker::Model;
@@ -124,6 +125,14 @@ fn first_of(numbers: &VecDeque<u64>) -> Option<u64>
     numbers.front().copied()
 }
 
+/// Whether a piece is of message `n`, from byte `at` on, with as many bytes as it must have where so many are due.
+fn is_next(n: u64, at: u32, due: u32, p: &Piece) -> bool
+    ensures { IsTrue result ↔ (n ≡ p.now.n) × (at ≡ p.now.at) × (length p.now.bytes ≡ piece_size due) }
+{
+    let size = due.min(u32::from(MAX_PIECE)) as usize;
+    n == p.n && at == p.at && p.bytes.as_slice().len() == size
+}
+
 impl Sender {
     /// Nothing was granted.
     pub fn new(alloc: Global) -> Self
@@ -215,12 +224,15 @@ impl Sender {
         }
     }
 
-    /// Message and offset that the next piece must have.
-    pub fn expected(&self) -> Option<(u64, u32)>
-        ensures { result ≡ expected_in self.now.grants }
+    /// Whether the piece is the one that comes next.
+    pub fn fits(&self, p: &Piece) -> bool
+        ensures { IsTrue result ↔ (expected_in self.now.grants ≡ Some (p.now.n, p.now.at))
+            × (length p.now.bytes ≡ piece_size (due_in self.now.grants)) }
     {
-        let (n, grant) = self.first()?;
-        Some((n, grant.came()))
+        match self.first() {
+            Some((n, grant)) => is_next(n, grant.came(), grant.due(), p),
+            None => false,
+        }
     }
 
     /// How many bytes the first unfinished message still lacks.
