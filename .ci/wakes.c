@@ -19,7 +19,7 @@
 #define STEPS(STEP) \
     STEP(BEGIN, "begin", "self.begun.fetch_add(1, Ordering::SeqCst);") \
     STEP(POLL, "take_soon", "let took = self.take_next(f, steps)?;") \
-    STEP(REPLY, "reply", "self.run_all(f, steps)?;") \
+    STEP(REPLY, "reply", "self.run_while_idle(f, steps)?;") \
     STEP(SEND, "move_all", "let sent = self.actor.send_all(f, steps)?;") \
     STEP(REFUSE, "visit", "Err(Memory) => {") \
     STEP(RING_LOAD, "ring_at", "let seen = crew.bell.load(Ordering::SeqCst);") \

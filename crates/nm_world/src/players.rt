@@ -77,7 +77,7 @@ impl<S: Source, H: Recorder> Player<S, H> {
     }
 
     // Runs the next command, if there is one that can go on.
-    fn run_next(&mut self) -> Result<bool, Memory>
+    pub(crate) fn run_next(&mut self) -> Result<bool, Memory>
         ghost here: { Environment }
         requires stands { PlayerInvariant S.shows S.gives here.fabric here.rings self.old }
         ensures kept { IfOk result (λ _.
@@ -123,7 +123,11 @@ impl<S: Source, H: Recorder> Player<S, H> {
     }
 
     // Takes the next packet that came, where the next command looks at what came.
-    fn look<L: Ledger>(&mut self, f: &Fabric<Packet>, steps: &mut Steps<L>) -> Result<bool, Memory>
+    pub(crate) fn look<L: Ledger>(
+        &mut self,
+        f: &Fabric<Packet>,
+        steps: &mut Steps<L>,
+    ) -> Result<bool, Memory>
         ghost here: { Environment }
         requires stands { PlayerInvariant S.shows S.gives f.now here.rings self.old }
         ensures source { self.new.source ≡ self.old.source }

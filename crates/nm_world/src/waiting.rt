@@ -1,8 +1,8 @@
 //! A turn of a player that may wait for a packet.
 //!
 //! A turn sends first and runs commands last, so what they make ready leaves in the next turn. A crew's turn of
-//! a player that has nothing to send begins with polls: where a packet comes, commands run, and then the turn
-//! sends what they made ready.
+//! a player that has nothing to send begins with polls: where a packet comes, commands run until something is
+//! ready, and then the turn sends that.
 
 ghost use Rattle.std.specs.Prelude.{◌≡◌, false, IfOk};
 ghost use Rattle.nm_rank.specs.Ranks.{IsFresh};
@@ -11,6 +11,7 @@ ghost use Rattle.nm_world.specs.Idle.{Rests};
 ghost use Rattle.nm_world.specs.Players.{PlayerInvariant, PlaysOn};
 
 use crate::Player;
+use crate::actors::TURN;
 use nm_chain::seats::Steps;
 use nm_copyring::Rings;
 use nm_crews::bells::Bells;
@@ -25,6 +26,31 @@ impl<S: Source, H: Recorder> Player<S, H> {
     fn is_busy(&self) -> bool {
         let rank = self.actor.process.rank();
         rank.front_to().is_some() || rank.has_piece() || rank.is_any_piece_due()
+    }
+
+    // Runs commands as long as there is nothing else to do. So what came or a command made ready goes first: the
+    // next command may wait for that.
+    fn run_while_idle<L: Ledger>(
+        &mut self,
+        f: &Fabric<Packet>,
+        steps: &mut Steps<L>,
+    ) -> Result<(), Memory>
+        ghost here: { Environment }
+        requires fabric { f.now ≡ here.fabric }
+        requires stands { PlayerInvariant S.shows S.gives here.fabric here.rings self.old }
+        ensures { IfOk result (λ _.
+            PlaysOn S.shows S.gives here.fabric here.rings self.old self.new) }
+    {
+        for _command in 0..TURN {
+            if self.is_busy() {
+                return Ok(());
+            }
+            self.look(f, steps)?;
+            if !self.run_next()? {
+                return Ok(());
+            }
+        }
+        Ok(())
     }
 
     // Polls up to so often for a packet, where there is nothing else to do, and runs commands if one comes. It
@@ -50,7 +76,7 @@ impl<S: Source, H: Recorder> Player<S, H> {
         if !self.actor.take_soon(f, polls, steps)? {
             return Ok(false);
         }
-        self.run_all(f, steps)?;
+        self.run_while_idle(f, steps)?;
         Ok(true)
     }
 

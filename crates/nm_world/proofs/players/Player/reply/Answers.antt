@@ -32,8 +32,8 @@ returns-then-not-branch g c =
 pub take_soon-requires : goal.take_soon-requires
 take_soon-requires g c lifetimes outlive = (outlive.0, (outlive.1, c.requires.1.1.1.ports))
 
-pub run_all-requires : goal.run_all-requires
-run_all-requires g c lifetimes outlive =
+pub run_while_idle-requires : goal.run_while_idle-requires
+run_while_idle-requires g c lifetimes outlive =
     let x = c.args.self.now in
     let moves = c.in_ok-take_soon.ensures.moves in
     let took = carries_on g.S.Source.shows g.S.Source.gives c.args.f.now g.here.rings x c.take_soon.new.self
@@ -48,13 +48,13 @@ returns g c =
     let r = g.here.rings in
     let x = c.args.self.now in
     let t : Player _ _ = record { actor = c.take_soon.new.self; source = x.source } in
-    let e = c.run_all.new.self in
+    let e = c.run_while_idle.new.self in
     let moves = c.in_ok-take_soon.ensures.moves in
     let took = carries_on shows gives f r x t.actor c.requires.1.1.1 moves.kept moves.stepped.at in
-    let ran = c.in_ok-run_all.ensures in
+    let ran = c.in_ok-run_while_idle.ensures in
     record {
-      kept = plays_on shows gives f r x t e took ran.kept;
-      moved = did_on f.ranks x.actor t.actor e.actor true c.in_ok-run_all.field-0 took.grows ran.kept.grows
-          (subst (λ (p : Bool). p ≡ did f.ranks x.actor t.actor) c.if-not-branch.false moves.moved) ran.moved;
+      kept = plays_on shows gives f r x t e took ran;
+      moved = did_on f.ranks x.actor t.actor e.actor true (did f.ranks t.actor e.actor) took.grows ran.grows
+          (subst (λ (p : Bool). p ≡ did f.ranks x.actor t.actor) c.if-not-branch.false moves.moved) refl;
       still = λ none. absurd (clash none);
     }
