@@ -1,7 +1,7 @@
 //! The text of a small flood.
 
 use nm_script::flood::flood_script;
-use nm_script::write;
+use nm_written::write;
 use std::test::Fail;
 
 #[test]

@@ -1,6 +1,6 @@
-//! Scripts as text: the script that some bytes spell, or their first fault; and the one text of a script.
+//! Scripts as text: the script that some bytes spell, or their first fault. `nm_written` has the one text of a script.
 //!
-//! docs/use/script.md has the language, README.md what is proved of `read` and `write`.
+//! docs/use/script.md has the language, README.md what is proved of `read`.
 //!
 //! `texts` has what scripts and plans share: their first line, the rules of texts of lines, and how such a
 //! text is read. `words` reads and writes the lines, words, numbers and hex digits of any text,
@@ -15,11 +15,10 @@
 //!   unless memory runs out (`taken`, `takes`).
 //! - A refusal has the line and the kind of the first fault, and each text with a fault is refused with it,
 //!   unless memory runs out (`fault`, `faults`). `fault_text` is its line and the name of its kind.
-//! - What is written is the script's one text (`exact`, `spelled`).
 //! - Bytes spell at most one script; reading and writing are inverse, but for a missing last line feed; a
 //!   text keeps every rule exactly if it is a command's line at its place (`laws`).
 //! # What is only tested
-//! That `read` and `write` succeed with ample memory.
+//! That `read` succeeds with ample memory.
 #![tactic(auto)]
 
 mod bodies;
@@ -34,7 +33,6 @@ mod lengths;
 mod reading;
 pub mod texts;
 pub mod words;
-mod writing;
 
 pub use bodies::body_from;
 pub use commands::rank_from;
@@ -42,4 +40,3 @@ pub use fault_texts::fault_text;
 pub use faults::{Kind, LineFault, ScriptFault, TextFault};
 pub use lengths::{command_len, is_too_long};
 pub use reading::read;
-pub use writing::write;

@@ -9,8 +9,9 @@ ghost use Rattle.nm_script.specs.Spelled.{IsTextOf};
 ghost use Rattle.uses.specs.Faults.{fault_line, kind_word};
 
 use nm_script::laws::{a_text_is_a_script_or_has_a_fault, read_is_written};
-use nm_script::{Kind, ScriptFault, read, write};
+use nm_script::{Kind, ScriptFault, read};
 use nm_types::Memory;
+use nm_written::write;
 use std::alloc::Global;
 
 /// The word for a kind of fault.

@@ -1,4 +1,13 @@
-//! A script as text.
+//! The one text of a script.
+//!
+//! # What a contract sees
+//! The text of a script (`Text.script_text` of `nm_types`) and its limits (`Spelled.IsTextOf` of `nm_script`).
+//! # What is proved
+//! What is written is the script's one text (`exact`), and spells it (`spelled`). The laws of `nm_script` say that
+//! it is read as the same script.
+//! # What is only tested
+//! That `write` succeeds with ample memory.
+#![tactic(auto)]
 
 ghost use Rattle.std.specs.Prelude.{◌≡◌, true, ◌++◌, IfOk, OnOk, string_bytes, flat_map, decimal, [], ◌∷◌};
 ghost use Rattle.std.specs.List.{join_with_byte, list_all};

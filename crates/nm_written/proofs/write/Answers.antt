@@ -1,7 +1,7 @@
 -- The script's own limits are those of its text.
 use Rattle.std.proofs.Common.{rules, ◌≡◌, inl, string_bytes}
 use Rattle.nm_types.specs.Text.{script_text}
-use Rattle.nm_script.proofs.writing.write.Goals as goal
+use Rattle.nm_written.proofs.write.Goals as goal
 
 pub returns-clause-spelled : goal.returns-clause-spelled
 returns-clause-spelled c =

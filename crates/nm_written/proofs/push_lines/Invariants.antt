@@ -2,7 +2,7 @@ use Rattle.std.proofs.Common.{◌≡◌, ◌++◌, drop, flat_map, string_bytes}
 use Rattle.std.specs.List.{list_all}
 use Rattle.nm_types.specs.Text.{command_line}
 use Rattle.nm_script.specs.Spelled.{has_bytes}
-use Rattle.nm_script.proofs.writing.push_lines.Given as goal
+use Rattle.nm_written.proofs.push_lines.Given as goal
 
 -- what is written and what is still to write are all, and so are the lines
 abbrev pub invariant-loop-line : goal.invariant-loop-line
