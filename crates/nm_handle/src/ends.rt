@@ -177,6 +177,7 @@ pub fn end(alloc: Global, shape: Shape, handles: Vec<Handle>) -> Result<Ended, U
         cells,
         done,
         ways,
+        kept: _,
     } = rested;
     Ok(Ended { done, cells, ways })
 }

@@ -148,6 +148,7 @@ pub fn run_programs<R: Threads + Wait + Sync, P: Program + Send, G: Gate + Sync>
         sources,
         record,
         ways,
+        kept: _,
     } = left;
     let finished = finish(alloc, sources)?;
     Ok(Outcome {
@@ -183,6 +184,7 @@ pub fn run_kept<R: Threads + Wait + Sync, P: Program + Send, H: Recorder + Send,
         cells,
         done,
         ways,
+        kept: _,
     } = left;
     let ranks = finish(alloc, sources)?;
     Ok(Kept {

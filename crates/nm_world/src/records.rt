@@ -42,7 +42,7 @@ pub(crate) struct Parts<S, H> {
     pub sources: Vec<S>,
     pub ranks: Vec<RankEnd<H>>,
     pub pairs: Pairs,
-    pub left: Vec<Leavings>,
+    pub kept: Vec<Leavings>,
     pub done: bool,
 }
 
@@ -137,7 +137,7 @@ fn tell<S: Source, H: Recorder>(
     } = actor;
     let (account, left) = account(process, &source);
     parts.done = parts.done & account.waits.is_none();
-    add(&mut parts.left, left)?;
+    add(&mut parts.kept, left)?;
     add(&mut parts.ports, port)?;
     add(&mut parts.rings, ring)?;
     add(&mut parts.sources, source)?;
@@ -170,7 +170,7 @@ pub(crate) fn parts_of<S: Source, H: Recorder>(
         sources: Vec::new(alloc),
         ranks: Vec::new(alloc),
         pairs: Pairs::new(alloc),
-        left: Vec::new(alloc),
+        kept: Vec::new(alloc),
         done: true,
     };
     for player in players {

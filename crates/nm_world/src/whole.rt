@@ -35,29 +35,25 @@ use nm_rank::journal::Recorder;
 use nm_report::{Pairs, RunRecord};
 use nm_types::{Account, Line, Memory, Packet, Script, Shape};
 use std::alloc::Global;
+use std::mem;
 use std::sync::Wait;
 use std::thread::Threads;
 
-/// What the closed fabric and the closed rings keep, and what the processes kept beside their histories,
-/// so that a program that ends at once lets none of it go piece by piece.
+/// What the closed fabric and the closed rings keep.
 pub struct Ways {
     pub cells: Closed<Packet>,
     pub rings: RingAccount,
-    left: Vec<Leavings>,
 }
 
 impl Drop for Ways {
     fn drop(self) {
-        let Ways {
-            cells: _,
-            rings: _,
-            left: _,
-        } = self;
+        let Ways { cells: _, rings: _ } = self;
     }
 }
 
 /// What is left of a run: what gave the commands, what became of each rank, the packets of each ordered pair
-/// that had any, the account of the cells, whether every rank is at its end, and what the closed ways keep.
+/// that had any, the account of the cells, whether every rank is at its end, what the closed ways keep, and what
+/// the processes kept beside their histories.
 #[derive(Drop)]
 pub struct Rested<S, H> {
     pub sources: Vec<S>,
@@ -66,14 +62,17 @@ pub struct Rested<S, H> {
     pub cells: Account,
     pub done: bool,
     pub ways: Ways,
+    pub kept: Vec<Leavings>,
 }
 
-/// What is left of a run: what gave the commands, the record, and what the closed ways keep.
+/// What is left of a run: what gave the commands, the record, what the closed ways keep, and what the processes
+/// kept beside their histories.
 #[derive(Drop)]
 pub struct Left<S> {
     pub sources: Vec<S>,
     pub record: RunRecord,
     pub ways: Ways,
+    pub kept: Vec<Leavings>,
 }
 
 // How many turns each player of a round makes at most.
@@ -258,7 +257,7 @@ pub fn close_at_rest<S: Source, H: Recorder>(
         sources,
         ranks,
         pairs,
-        left,
+        kept,
         done,
     } = parts;
     // no step: the laws of the end of a run
@@ -270,7 +269,6 @@ pub fn close_at_rest<S: Source, H: Recorder>(
     let ways = Ways {
         cells: closed,
         rings,
-        left,
     };
     Ok(Rested {
         sources,
@@ -279,6 +277,7 @@ pub fn close_at_rest<S: Source, H: Recorder>(
         cells,
         done,
         ways,
+        kept,
     })
 }
 
@@ -356,6 +355,7 @@ pub fn run_sources<R: Threads + Wait + Sync, S: Source + Send, G: Gate + Sync>(
         cells,
         done,
         ways,
+        kept,
     } = rested;
     let ranks = accounts_of(alloc, ranks)?;
     let record = RunRecord {
@@ -369,6 +369,7 @@ pub fn run_sources<R: Threads + Wait + Sync, S: Source + Send, G: Gate + Sync>(
         sources,
         record,
         ways,
+        kept,
     })
 }
 
@@ -391,10 +392,19 @@ fn run_lines<R: Threads + Wait + Sync, G: Gate + Sync>(
     ask_for_run(alloc);
     let scripts = scripts_by_rank(alloc, shape.ranks(), lines)?;
     let left = run_sources(rt, alloc, shape, scripts, gate)?;
-    Ok((left.record, left.ways))
+    let Left {
+        sources: _,
+        record,
+        ways,
+        kept,
+    } = left;
+    // it goes with the process, and not table by table
+    mem::forget(kept);
+    Ok((record, ways))
 }
 
-/// Runs a script, in as many threads as there are processors where they can be had, until it is at rest.
+/// Runs a script, in as many threads as there are processors where they can be had, until it is at rest. It is for
+/// a program that ends soon: what the processes kept beside their histories stays in memory.
 ///
 /// It calls `gate.turn(rank)` before each turn of a rank. The record tells a lawful run that is at
 /// rest, what went from rank to rank is what its histories call for, all cells are home, and `done`
