@@ -1,7 +1,7 @@
 -- A sweep over players, one by one, and one sweep after the other.
 use Rattle.std.proofs.Common.{◌≡◌, ◌≢◌, ℕ, ◌+◌, ◌<◌, ◌≤◌, Bool, true, false, ◌||◌, List, [], ◌∷◌, ◌++◌}
 use Rattle.std.proofs.Common.{get_or, get_or-set_other, length, length-set, set, refl, sym, ap, ◌∙◌, subst, arith}
-use Rattle.std.specs.Prelude.{take}
+use Rattle.std.specs.Prelude.{None, slice_get, take}
 use Rattle.std.specs.List.{All}
 use Rattle.std.proofs.lemmas.List.{take_all, take_more, take_more_set}
 use Rattle.nm_types.specs.Commands.{Numbered}
@@ -21,6 +21,7 @@ use Rattle.nm_world.proofs.Did.{did_any_on, did_halves, did_sole}
 use Rattle.nm_world.proofs.Idle.{idle_after}
 use Rattle.nm_world.proofs.Lists.{all_zip_append, all_zip_both, all_zip_on}
 use Rattle.nm_world.proofs.Runs.{all_kept_on}
+use Rattle.nm_types.proofs.OptionLemmas.{no_some}
 use Rattle.nm_types.proofs.TruthLemmas.{neither}
 use Rattle.nm_types.specs.declared.packets.Packet.{Packet}
 
@@ -146,3 +147,10 @@ swept_all n shows gives f r old new some (sole told) = told
 swept_all n shows gives f r old new some (halves {p} {q} {xs} {ys} {xs'} {ys'} front back) =
     swept_halves n shows gives f r xs ys xs' ys' p q (swept_all n shows gives f r xs xs' p front)
     (swept_all n shows gives f r ys ys' q back)
+
+-- no player tells that nothing moved
+pub none_told : {S B H : Type 0} (n : ℕ) (shows : S → SourceView B) (gives : S → List Numbered → ℕ → Type 0)
+    (f : Fabric Packet) (r : Rings) (players : List (Player S H)) → slice_get players 0 ≡ None →
+    HasSwept n shows gives f r false players players
+none_told n shows gives f r [] none = record { kept = tt; moved = refl; idle = λ still. tt }
+none_told n shows gives f r (x ∷ players) none = absurd (no_some x (sym none))
