@@ -1,6 +1,7 @@
 mod Answering
 mod Arriving
 mod Beginning
+mod BlockLemmas
 mod CameLemmas
 mod Cancelling
 mod Changing

@@ -1,26 +1,14 @@
--- What a new number adds to a set of numbers.
-use Rattle.std.proofs.Common.{◌≡◌, ℕ, ◌+◌, ◌==◌, Bool, true, false, ◌||◌, cond, if◌then◌else◌, List, [], ◌∷◌, ◌++◌}
-use Rattle.std.proofs.Common.{nat_eq, nat_lt, refl, sym, ap, ◌∙◌, arith, true≢false}
+-- What a new number adds to those that are counted or stand apart.
+use Rattle.std.proofs.Common.{◌≡◌, ℕ, ◌+◌, ◌==◌, ◌<◌, ◌%◌, Bool, true, false, ◌||◌, List, [], ◌∷◌, ◌++◌}
+use Rattle.std.proofs.Common.{nat_lt, refl, sym, ap, ◌∙◌, arith}
 use Rattle.std.proofs.Math.Bool.{or-true}
 use Rattle.std.proofs.lemmas.Bool.Decides.{nat_tests}
 use Rattle.std.proofs.lemmas.List.Folds.{list_any-append}
-use Rattle.std.specs.List.{list_any}
-use Rattle.indexmap.specs.IndexSet.{insert_key}
+use Rattle.std.proofs.lemmas.Nat.Bits.{bit_at-zero}
+use Rattle.nm_types.proofs.NumberLemmas.{same_number}
 use Rattle.nm_history.specs.Continues.{has}
 use Rattle.nm_history.proofs.Basic.{or_false}
-use Rattle.nm_receiving.specs.StreamViews.{counts}
-
--- both tests are of the same number
-flip : (m n : ℕ) → nat_eq n m ≡ (m == n)
-flip m n = grind (arith, nat_tests)
-
-pub has-any : (ks : List ℕ) (n : ℕ) → list_any (nat_eq n) ks ≡ has ks n
-has-any [] n = refl
-has-any (m ∷ ks) n = rw (flip m n) (ap (λ b. (m == n) || b) (has-any ks n))
-
--- a new number goes last
-pub insert_key-new : (ks : List ℕ) (n : ℕ) → has ks n ≡ false → insert_key nat_eq ks n ≡ ks ++ n ∷ []
-insert_key-new ks n new = ap (λ b. if b then ks else ks ++ n ∷ []) (has-any ks n ∙ new)
+use Rattle.nm_receiving.specs.StreamViews.{counts, stands}
 
 pub has-push : (ks : List ℕ) (n m : ℕ) → has (ks ++ n ∷ []) m ≡ (has ks m || n == m)
 has-push ks n m =
@@ -30,52 +18,41 @@ or_joined : (a b c : Bool) → (a || (b || c)) ≡ ((a || b) || c)
 or_joined true b c = refl
 or_joined false b c = refl
 
--- one that is not among them stands not apart
-pub not_apart : (a b : Bool) → (a || b) ≡ false → b ≡ false
-not_apart true b none = absurd (true≢false none)
-not_apart false b none = none
-
 -- one more stands apart
-pub counts-apart : (next : ℕ) (ks : List ℕ) (n m : ℕ) → counts next (ks ++ n ∷ []) m ≡ (counts next ks m || n == m)
-counts-apart next ks n m =
-    ap (λ (b : Bool). nat_lt m next || b) (has-push ks n m) ∙ or_joined (nat_lt m next) (has ks m) (n == m)
+pub counts-apart : (next : ℕ) (old new : List (ℕ × ℕ)) (n m : ℕ) → stands new m ≡ (stands old m || n == m)
+    → counts next new m ≡ (counts next old m || n == m)
+counts-apart next old new n m step =
+    ap (λ (b : Bool). nat_lt m next || b) step ∙ or_joined (nat_lt m next) (stands old m) (n == m)
 
--- the next one is counted
-pub counts-next : (n : ℕ) (ks : List ℕ) (m : ℕ) → counts (n + 1) ks m ≡ (counts n ks m || n == m)
-counts-next n ks m = at (n == m) refl (nat_lt m n) refl (has ks m) where
-  at : (same : Bool) → (n == m) ≡ same → (low : Bool) → nat_lt m n ≡ low → (b : Bool)
-      → (nat_lt m (n + 1) || b) ≡ ((low || b) || same)
-  at true e low f b =
+-- the next one is counted, and those above it stand apart as before
+pub counts-next : (n : ℕ) (old new : List (ℕ × ℕ)) (m : ℕ) → (n < m → stands new m ≡ stands old m)
+    → counts (n + 1) new m ≡ (counts n old m || n == m)
+counts-next n old new m step = at (n == m) refl (nat_lt m n) refl (stands new m) (stands old m) step where
+  at : (same : Bool) → (n == m) ≡ same → (low : Bool) → nat_lt m n ≡ low → (b c : Bool) → (n < m → b ≡ c)
+      → (nat_lt m (n + 1) || b) ≡ ((low || c) || same)
+  at true e low f b c is =
       let below : nat_lt m (n + 1) ≡ true = grind (arith, nat_tests) in
-      rw below (sym (or-true (low || b)))
-  at false e true f b =
+      rw below (sym (or-true (low || c)))
+  at false e true f b c is =
       let below : nat_lt m (n + 1) ≡ true = grind (arith, nat_tests) in
       rw below refl
-  at false e false f b =
+  at false e false f b c is =
       let above : nat_lt m (n + 1) ≡ false = grind (arith, nat_tests) in
-      rw above (sym (or_false b))
+      let after : n < m = grind (arith, nat_tests) in
+      rw above (is after ∙ sym (or_false c))
 
--- the next one stood apart, and is counted
-pub counts-absorb : (f m : ℕ) (before after : List ℕ) → has before f ≡ true
-    → has after m ≡ cond (nat_eq f m) false (has before m)
-    → counts (f + 1) after m ≡ counts f before m
-counts-absorb f m before after there is = at (nat_eq f m) refl (nat_lt m f) refl where
-  at : (same : Bool) → nat_eq f m ≡ same → (low : Bool) → nat_lt m f ≡ low
-      → (nat_lt m (f + 1) || has after m) ≡ (low || has before m)
-  at true e low g =
-      let one : f ≡ m = grind (arith, nat_tests) in
-      let below : nat_lt m (f + 1) ≡ true = grind (arith, nat_tests) in
-      let here : has before m ≡ true = ap (λ (k : ℕ). has before k) (sym one) ∙ there in
-      rw (below, here) (sym (or-true low))
-  at false e true g =
-      let below : nat_lt m (f + 1) ≡ true = grind (arith, nat_tests) in
-      rw below refl
-  at false e false g =
-      let above : nat_lt m (f + 1) ≡ false = grind (arith, nat_tests) in
-      rw above (is ∙ ap (λ (b : Bool). cond b false (has before m)) e)
+-- where the next one stands apart it is no new one
+pub counts-there : (n : ℕ) (blocks : List (ℕ × ℕ)) (m : ℕ) → stands blocks n ≡ true
+    → (counts n blocks m || n == m) ≡ counts n blocks m
+counts-there n blocks m there = at (n == m) refl where
+  at : (same : Bool) → (n == m) ≡ same → (counts n blocks m || same) ≡ counts n blocks m
+  at true e =
+      let here : stands blocks m ≡ true = ap (λ (k : ℕ). stands blocks k) (sym (same_number n m e)) ∙ there in
+      or-true (counts n blocks m) ∙ sym (ap (λ (b : Bool). nat_lt m n || b) here ∙ or-true (nat_lt m n))
+  at false e = or_false (counts n blocks m)
 
 -- none is counted before the first
 pub counts-none : (m : ℕ) → false ≡ counts 0 [] m
 counts-none m =
     let none : nat_lt m 0 ≡ false = grind (arith, nat_tests) in
-    sym (or_false (nat_lt m 0) ∙ none)
+    sym (ap (λ (b : Bool). b || stands [] m) none ∙ ap (λ (k : ℕ). k == 1) (bit_at-zero (m % 64)))

@@ -1,5 +1,9 @@
 -- What contracts see of what a rank knows of another, and what must be asked of its own history.
-use Rattle.std.specs.Prelude.{◌≡◌, ℕ, ◌<◌, ◌&&◌, ◌||◌, Bool, true, false, not, is_some, nat_lt, List}
+use Rattle.std.specs.Prelude.{◌≡◌, ℕ, ◌<◌, ◌==◌, ◌/◌, ◌%◌, ◌&&◌, ◌||◌, Bool, true, false, not, is_some, nat_eq}
+use Rattle.std.specs.Prelude.{nat_lt, List}
+use Rattle.std.specs.Int.{bit_at}
+use Rattle.std.specs.Map.{lookup}
+use Rattle.std.specs.Option.{option_map_or}
 use Rattle.nm_types.specs.declared.messages.How.TheVariants as how
 use Rattle.nm_types.specs.declared.packets.Packet.{Packet}
 use Rattle.nm_types.specs.declared.packets.What.{What}
@@ -19,12 +23,25 @@ pub record Noted : Type 0 where
   pub numbers : List ℕ
   pub spare : ℕ
 
+-- numbers by blocks of 64: of a block the bits of those that stand there; and for how many blocks more there is room
+pub record Blocks : Type 0 where
+  pub blocks : List (ℕ × ℕ)
+  pub spare : ℕ
+
+-- the bits of a block
+abbrev pub bits_in : List (ℕ × ℕ) → ℕ → ℕ
+bits_in blocks block = option_map_or (λ bits. bits) (lookup (nat_eq block) blocks) 0
+
+-- a number stands in its block
+abbrev pub stands : List (ℕ × ℕ) → ℕ → Bool
+stands blocks n = bit_at (bits_in blocks (n / 64)) (n % 64) == 1
+
 -- a number is below the next one, or stands apart
-abbrev pub counts : ℕ → List ℕ → ℕ → Bool
-counts next apart n = nat_lt n next || has apart n
+abbrev pub counts : ℕ → List (ℕ × ℕ) → ℕ → Bool
+counts next apart n = nat_lt n next || stands apart n
 
 -- these numbers are those that are below the next one, or stand apart
-abbrev pub IsCounted : List ℕ → ℕ → List ℕ → Type 0
+abbrev pub IsCounted : List ℕ → ℕ → List (ℕ × ℕ) → Type 0
 IsCounted numbers next apart = (n : ℕ) → has numbers n ≡ counts next apart n
 
 -- the room for more in each list of what is known that is in memory

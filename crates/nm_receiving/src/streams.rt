@@ -16,8 +16,9 @@
 //! - `learn` is the protocol's step, and takes no memory after `reserve`.
 //! - `events` gives what the protocol says that a packet of a message makes happen, on every such history.
 //! - Whether a message is whole with a piece that continues it is the protocol's.
-//! - Of the withdrawals and the clearances memory holds those that came before their time (`Numbers`): that of
-//!   each message to or from the rank, up to the first that has none, is counted. It holds no answer to a recall.
+//! - Of the withdrawals and the clearances memory holds those that came before their time (`Numbers`), 64 messages
+//!   to a block: that of each message to or from the rank, up to the first that has none, is counted. It holds no
+//!   answer to a recall.
 //! - After want of memory nothing that is known has changed.
 //! # What is only tested
 //! That calls which take memory succeed with ample memory.

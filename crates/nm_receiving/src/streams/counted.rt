@@ -1,6 +1,6 @@
 //! Numbers of which those that came in order take no place.
 
-ghost use Rattle.std.specs.Prelude.{◌≡◌, ℕ, ◌+◌, ◌<◌, ◌==◌, ◌&&◌, ◌||◌, false, not, [], if◌then◌else◌, length};
+ghost use Rattle.std.specs.Prelude.{◌≡◌, ℕ, ◌+◌, ◌-◌, ◌<◌, ◌==◌, ◌&&◌, ◌||◌, not, []};
 ghost use Rattle.std.specs.Prelude.{IsTrue, OnOk};
 ghost use Rattle.nm_receiving.specs.StreamViews.{counts};
 
@@ -20,7 +20,7 @@ impl Counted {
     /// No numbers.
     pub fn new(alloc: Global) -> Self
         ensures next { result.next ≡ 0 }
-        ensures apart { result.apart.numbers ≡ [] }
+        ensures apart { result.apart.blocks ≡ [] }
     {
         Counted {
             next: 0,
@@ -30,7 +30,7 @@ impl Counted {
 
     /// Whether the number is among them.
     pub fn has(&self, n: u64) -> bool
-        ensures { result ≡ counts self.now.next self.now.apart.numbers n }
+        ensures { result ≡ counts self.now.next self.now.apart.blocks n }
     {
         n < self.next || self.apart.has(n)
     }
@@ -40,7 +40,7 @@ impl Counted {
     pub fn reserve(&mut self) -> Result<(), Memory>
         ensures room { OnOk result (0 < self.new.apart.spare) }
         ensures next { self.new.next ≡ self.old.next }
-        ensures apart { self.new.apart.numbers ≡ self.old.apart.numbers }
+        ensures apart { self.new.apart.blocks ≡ self.old.apart.blocks }
     {
         self.apart.reserve()
     }
@@ -53,67 +53,64 @@ impl Counted {
         n == next && next != u64::MAX
     }
 
-    /// Counts a number that is the next one, and answers whether it did.
-    fn count(&mut self, n: u64) -> bool
-        ensures counted { result
-            ≡ (n == self.old.next && not (self.old.next == 18446744073709551615)) }
-        ensures next { self.new.next ≡ (if result then n + 1 else self.old.next) }
-        ensures apart { self.new.apart ≡ self.old.apart }
+    /// Counts the next number.
+    #[inline(always)]
+    fn count(&mut self)
+        requires { self.old.next < 18446744073709551615 }
+        ensures next { self.new.next ≡ self.old.next + 1 }
+        ensures counted { (m : ℕ) → counts self.new.next self.new.apart.blocks m
+            ≡ (counts self.old.next self.old.apart.blocks m || self.old.next == m) }
     {
-        if !self.is_next(n) {
-            return false;
-        }
+        self.apart.pass(self.next);
         self.next += 1;
-        true
     }
 
     /// Counts the next number, if it stands apart, and answers whether it did.
     fn absorb_one(&mut self) -> bool
-        ensures same { (m : ℕ) → counts self.new.next self.new.apart.numbers m
-            ≡ counts self.old.next self.old.apart.numbers m }
+        ensures same { (m : ℕ) → counts self.new.next self.new.apart.blocks m
+            ≡ counts self.old.next self.old.apart.blocks m }
         ensures fewer { IsTrue result
-            → length self.new.apart.numbers < length self.old.apart.numbers }
+            → 18446744073709551615 - self.new.next < 18446744073709551615 - self.old.next }
     {
         let next = self.next;
         if !self.apart.has(next) {
             return false;
         }
-        if !self.count(next) {
+        if !self.is_next(next) {
             return false;
         }
-        self.apart.remove(next);
+        self.count();
         true
     }
 
     /// Counts the numbers that stand apart and come next, one after another.
     fn absorb(&mut self)
-        ensures { (m : ℕ) → counts self.new.next self.new.apart.numbers m
-            ≡ counts self.old.next self.old.apart.numbers m }
+        ensures { (m : ℕ) → counts self.new.next self.new.apart.blocks m
+            ≡ counts self.old.next self.old.apart.blocks m }
     {
         while self.absorb_one() {}
     }
 
-    /// Counts a new number, or else sets it apart.
+    /// Counts a number that is the next one, or else sets it apart.
     #[inline(always)]
     fn note(&mut self, n: u64)
-        requires new { counts self.old.next self.old.apart.numbers n ≡ false }
-        requires room { 0 < self.old.apart.spare }
-        ensures { (m : ℕ) → counts self.new.next self.new.apart.numbers m
-            ≡ (counts self.old.next self.old.apart.numbers m || n == m) }
+        requires { 0 < self.old.apart.spare }
+        ensures { (m : ℕ) → counts self.new.next self.new.apart.blocks m
+            ≡ (counts self.old.next self.old.apart.blocks m || n == m) }
     {
-        if self.count(n) {
+        if self.is_next(n) {
+            self.count();
             return;
         }
         self.apart.add(n);
     }
 
-    /// Takes a new number. Those that stand apart and come next are counted, too.
+    /// Takes a number. Those that stand apart and come next are counted, too.
     #[inline(always)]
     pub fn add(&mut self, n: u64)
-        requires new { counts self.old.next self.old.apart.numbers n ≡ false }
-        requires room { 0 < self.old.apart.spare }
-        ensures { (m : ℕ) → counts self.new.next self.new.apart.numbers m
-            ≡ (counts self.old.next self.old.apart.numbers m || n == m) }
+        requires { 0 < self.old.apart.spare }
+        ensures { (m : ℕ) → counts self.new.next self.new.apart.blocks m
+            ≡ (counts self.old.next self.old.apart.blocks m || n == m) }
     {
         self.note(n);
         self.absorb();

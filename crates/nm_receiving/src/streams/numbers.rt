@@ -33,7 +33,7 @@ impl Model for Numbers {
           spare = a.counted.apart.spare;
         } };
 
-    ghost invariant = { λ a. IsCounted a.all.items a.counted.next a.counted.apart.numbers };
+    ghost invariant = { λ a. IsCounted a.all.items a.counted.next a.counted.apart.blocks };
 }
 
 impl Numbers {

@@ -1,39 +1,25 @@
-use Rattle.std.proofs.Common.{◌≡◌, ◌+◌, ◌++◌, ◌∷◌, ◌<◌, ◌==◌, ◌||◌, ◌∙◌, [], ℕ, Bool, List}
-use Rattle.std.proofs.Common.{cond, nat_lt, ap, subst, sym}
+use Rattle.std.proofs.Common.{◌≡◌, ◌==◌, ◌||◌, ◌∙◌, ℕ, ap, arith, not, sym}
+use Rattle.std.proofs.lemmas.Bool.Decides.{nat_tests}
 use Rattle.nm_types.proofs.NumberLemmas.{same_number}
-use Rattle.nm_types.proofs.TruthLemmas.{and_left}
-use Rattle.nm_history.specs.Continues.{has}
-use Rattle.nm_receiving.specs.StreamViews.{Noted, counts}
-use Rattle.nm_receiving.proofs.NumberLemmas.{counts-apart, counts-next, not_apart}
+use Rattle.nm_types.proofs.TruthLemmas.{and_left, and_right}
+use Rattle.nm_receiving.specs.StreamViews.{counts}
+use Rattle.nm_receiving.proofs.NumberLemmas.{counts-apart}
 use Rattle.nm_receiving.proofs.streams.counted.Counted.note.Goals as goal
 
-pub returns-then-count : goal.returns-then-count
-returns-then-count c = λ m.
-    let old = c.args.self.now in
-    let n = c.args.n in
-    let is : n ≡ old.next = same_number n old.next (and_left (n == old.next) _ (sym c.count.ensures.counted
-    ∙ c.if-count.true)) in
-    ap (λ (k : ℕ). counts k c.count.new.self.apart.numbers m)
-    (c.count.ensures.next ∙ ap (λ (b : Bool). cond b (n + 1) old.next) c.if-count.true)
-    ∙ ap (λ (a : Noted). counts (n + 1) a.numbers m) c.count.ensures.apart
-    ∙ counts-next n old.apart.numbers m
-    ∙ ap (λ (k : ℕ). counts k old.apart.numbers m || n == m) is
+pub count-requires : goal.count-requires
+count-requires c =
+    let next = c.args.self.now.next in
+    let few = and_right (c.args.n == next) (not (next == 18446744073709551615)) (sym c.is_next.ensures
+    ∙ c.if-is_next.true) in
+    grind (arith, nat_tests)
 
-pub add-requires-clause-new : goal.add-requires-clause-new
-add-requires-clause-new c =
+pub returns-then-is_next : goal.returns-then-is_next
+returns-then-is_next c = λ m.
     let old = c.args.self.now in
-    ap (λ (a : Noted). has a.numbers c.args.n) c.count.ensures.apart
-    ∙ not_apart (nat_lt c.args.n old.next) (has old.apart.numbers c.args.n) c.requires.new
-
-pub add-requires-clause-room : goal.add-requires-clause-room
-add-requires-clause-room c = subst (λ (a : Noted). 0 < a.spare) (sym c.count.ensures.apart) c.requires.room
+    let is : c.args.n ≡ old.next = same_number c.args.n old.next
+    (and_left (c.args.n == old.next) _ (sym c.is_next.ensures ∙ c.if-is_next.true)) in
+    c.count.ensures.counted m ∙ ap (λ (k : ℕ). counts old.next old.apart.blocks m || k == m) (sym is)
 
 pub returns : goal.returns
 returns c = λ m.
-    let old = c.args.self.now in
-    let n = c.args.n in
-    ap (λ (k : ℕ). counts k c.add.new.self.numbers m)
-    (c.count.ensures.next ∙ ap (λ (b : Bool). cond b (n + 1) old.next) c.if-count.false)
-    ∙ ap (λ (l : List ℕ). counts old.next l m)
-    (c.add.ensures ∙ ap (λ (a : Noted). a.numbers ++ n ∷ []) c.count.ensures.apart)
-    ∙ counts-apart old.next old.apart.numbers n m
+    counts-apart c.args.self.now.next c.args.self.now.apart.blocks c.add.new.self.blocks c.args.n m (c.add.ensures m)

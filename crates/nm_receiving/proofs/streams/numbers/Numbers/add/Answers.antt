@@ -1,16 +1,11 @@
-use Rattle.std.proofs.Common.{◌==◌, ◌<◌, ◌||◌, ◌∙◌, ℕ, Bool, List, ap, subst, sym}
+use Rattle.std.proofs.Common.{◌==◌, ◌<◌, ◌||◌, ◌∙◌, Bool, List, ℕ, ap, subst, sym}
 use Rattle.nm_history.specs.Continues.{has}
 use Rattle.nm_receiving.specs.StreamViews.{Noted}
 use Rattle.nm_receiving.proofs.NumberLemmas.{has-push}
 use Rattle.nm_receiving.proofs.streams.numbers.Numbers.add.Goals as goal
 
-pub add-requires-clause-new : goal.add-requires-clause-new
-add-requires-clause-new c =
-    sym (c.self.invariant c.args.n)
-    ∙ ap (λ (v : Noted). has v.numbers c.args.n) c.self.view_is ∙ c.requires.new
-
-pub add-requires-clause-room : goal.add-requires-clause-room
-add-requires-clause-room c = subst (λ (v : Noted). 0 < v.spare) (sym c.self.view_is) c.requires.room
+pub add-requires : goal.add-requires
+add-requires c = subst (λ (v : Noted). 0 < v.spare) (sym c.self.view_is) c.requires.room
 
 pub returns : goal.returns
 returns c = rw (← c.self.view_is) c.then-self-inside.ensures

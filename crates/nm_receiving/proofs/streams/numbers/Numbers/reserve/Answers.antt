@@ -6,5 +6,5 @@ pub invariant_of-self : goal.invariant_of-self
 invariant_of-self c = λ m.
     let a = c.self.inside in
     c.self.invariant m
-    ∙ sym (ap (λ (k : ℕ). counts k c.reserve.new.self.apart.numbers m) c.reserve.ensures.next
-    ∙ ap (λ (l : List ℕ). counts a.counted.next l m) c.reserve.ensures.apart)
+    ∙ sym (ap (λ (k : ℕ). counts k c.reserve.new.self.apart.blocks m) c.reserve.ensures.next
+    ∙ ap (λ (l : List (ℕ × ℕ)). counts a.counted.next l m) c.reserve.ensures.apart)
