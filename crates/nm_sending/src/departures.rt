@@ -71,7 +71,7 @@ impl Departure {
         }
         match self.undone {
             Some(done) => done,
-            None => false,
+            _ => false,
         }
     }
 
