@@ -24,6 +24,10 @@ use std::alloc::Global;
 use std::marker::Brand;
 use std::sync::ledger::{Blank, Ledger};
 
+// Room for so many counts more, which no port uses: two ports count at the same time, and it keeps what one counts
+// out of the lines of memory of the other.
+const APART: usize = 2;
+
 // What is counted of each rank at the start: nothing was sent and nothing came.
 fn new_peers(alloc: Global, ranks: u64) -> Result<Vec<Tally>, Memory>
     requires { ranks ≤ 64 }
@@ -40,7 +44,9 @@ fn new_peers(alloc: Global, ranks: u64) -> Result<Vec<Tally>, Memory>
         box_full: 0,
         box_miss: 0,
     };
-    Ok(vec![in alloc; none; ranks as usize]?)
+    let mut peers = vec![in alloc; none; ranks as usize]?;
+    peers.reserve_exact(APART)?;
+    Ok(peers)
 }
 
 // The port of the lowest rank that `rest` speaks for. No cell's slot is taken yet.
