@@ -2,11 +2,11 @@
 use Rattle.std.proofs.Common.{◌≡◌, ℕ, ◌≤◌, List, Option, Some, None, arith, length, subst, take}
 use Rattle.std.specs.Option.{IfSome}
 use Rattle.nm_script.specs.declared.command_line.CommandLine.{CommandLine}
-use Rattle.nm_check.specs.Answers.{IsAsked}
+use Rattle.nm_breaks.specs.Answers.{IsAsked}
 use Rattle.nm_shell.specs.Inputs.{read_of}
-use Rattle.nm_check.specs.Found.{IsFound}
-use Rattle.nm_check.specs.declared.breaks.finding.Found.{Found}
-use Rattle.nm_check.specs.declared.breaks.finding.Found.TheVariants as found
+use Rattle.nm_breaks.specs.Found.{IsFound}
+use Rattle.nm_breaks.specs.declared.finding.Found.{Found}
+use Rattle.nm_breaks.specs.declared.finding.Found.TheVariants as found
 use Rattle.nm_chart.specs.Findings.{CanBeFound, IsAnswer, IsAnswerIn, finding_of}
 use Rattle.nm_chart.specs.declared.check.findings.Finding.{Finding}
 use Rattle.nm_chart.specs.declared.check.findings.Finding.TheVariants.{Usage, Unread, NoScript, NoTrace, Drawn}

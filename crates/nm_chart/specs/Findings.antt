@@ -12,16 +12,17 @@ use Rattle.nm_picture.specs.Flags.{IsFlaggedIn}
 use Rattle.nm_shell.specs.Done.{Ending, unread}
 use Rattle.nm_chart.specs.Given.{IsReadFor, IsSaid}
 use Rattle.nm_chart.specs.Endings.{usage}
-use Rattle.nm_check.specs.Answers.{IsAsked, NotAsked, verdict_status}
+use Rattle.nm_breaks.specs.Answers.{IsAsked, NotAsked}
+use Rattle.nm_check.specs.Answers.{verdict_status}
 use Rattle.nm_shell.specs.Inputs.{read_of}
-use Rattle.nm_check.specs.Found.{IsFound}
-use Rattle.nm_check.specs.declared.breaks.finding.Found.{Found}
-use Rattle.nm_check.specs.declared.breaks.finding.Found.TheVariants as found
-use Rattle.nm_check.specs.Judgements.{judged_as}
-use Rattle.nm_check.specs.declared.breaks.judgements.Judgement.{Judgement}
-use Rattle.nm_check.specs.declared.breaks.judgements.Judgement.TheVariants.{Holds, Own, Carried, Left, Standing, Counted}
-use Rattle.nm_check.specs.declared.breaks.judgements.Judgement.TheVariants.{Home, Done}
-use Rattle.nm_check.specs.declared.breaks.places.EventLine.{EventLine}
+use Rattle.nm_breaks.specs.Found.{IsFound}
+use Rattle.nm_breaks.specs.declared.finding.Found.{Found}
+use Rattle.nm_breaks.specs.declared.finding.Found.TheVariants as found
+use Rattle.nm_breaks.specs.Judgements.{judged_as}
+use Rattle.nm_breaks.specs.declared.judgements.Judgement.{Judgement}
+use Rattle.nm_breaks.specs.declared.judgements.Judgement.TheVariants.{Holds, Own, Carried, Left, Standing, Counted}
+use Rattle.nm_breaks.specs.declared.judgements.Judgement.TheVariants.{Home, Done}
+use Rattle.nm_breaks.specs.declared.places.EventLine.{EventLine}
 use Rattle.nm_chart.specs.declared.check.findings.Finding.{Finding}
 use Rattle.nm_chart.specs.declared.check.findings.Finding.TheVariants.{Usage, Unread, NoScript, NoTrace, Drawn}
 

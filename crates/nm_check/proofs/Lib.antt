@@ -1,17 +1,3 @@
-mod AgainstLemmas
-mod EventLemmas
-mod ExactLemmas
-mod FedLemmas
-mod HeldLemmas
-mod LastLemmas
-mod LineLemmas
-mod OtherLemmas
-mod RangeLemmas
-mod RankLemmas
+pub mod ExactLemmas
+mod LocalLemmas
 mod RankedLemmas
-mod SpotLemmas
-mod StandLemmas
-mod StopLemmas
-mod TextLemmas
-mod WholeLemmas
-mod WrittenLemmas

@@ -1,13 +1,5 @@
-pub mod Against
 pub mod Answers
-pub mod Found
-pub mod Judgements
-pub mod Lines
-pub mod Miscounts
-pub mod Others
-pub mod Places
-pub mod Ranges
 pub mod Ranked
-pub mod Stops
 pub mod Texts
+pub mod Trials
 pub mod Verdicts

@@ -26,7 +26,7 @@ use std::alloc::Global;
 
 /// What breaks first where all ranks run their own commands, and where.
 #[derive(Clone, Copy)]
-pub(crate) enum Tabled {
+pub enum Tabled {
     Carried { pair: BrokenPair },
     Rest { first: RestBreak },
     Home,
@@ -91,7 +91,7 @@ fn judge_ends(run: &RunRecord) -> Tabled
 }
 
 /// What breaks first in a record whose ranks run their own commands, by what is looked up of them.
-pub(crate) fn judge_tabled(
+pub fn judge_tabled(
     alloc: Global,
     script: &Script,
     run: &RunRecord,

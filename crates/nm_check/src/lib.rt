@@ -1,8 +1,7 @@
 //! Whether a given record is of a run of a script, and if not, the first rule that it breaks.
 //!
-//! `breaks` judges a script and a trace in one text, and finds where the trace first breaks a rule. `texts`
-//! puts it in a line. `words` reads the words that ask for it. `written` has laws: the trace of a run is read
-//! back.
+//! `check` does so with a script and a trace in one text, and `texts` puts it in a line. `judging` and `ranking` are
+//! for `nm_breaks`, which finds where the trace first breaks a rule.
 //!
 //! # What a contract sees
 //! `specs/Verdicts.antt` says what each verdict means, by the definitions of a run in `nm_history` and
@@ -12,22 +11,23 @@
 //! - `judge` answers `Holds` exactly if the record is of a run of the script (`IsRunIn`), else the first rule
 //!   that is broken: rank by rank, then pair by pair of ranks, then of all ranks at rest, then of the cells
 //!   and of the end.
+//! - `check` tells the cases apart in their order (`IsTrial`, `specs/Trials.antt`): no room or no line `---`, no
+//!   script before it, no trace behind it, else the verdict on the trace, which holds for a run of the script.
 //!
 //! Each history is walked a fixed number of times, with look-ups for each event; that is not proved.
 //! # What is only tested
-//! That `judge` succeeds with ample memory.
+//! That `judge` and `check` succeed with ample memory.
 #![tactic(auto)]
 
-pub mod breaks;
-mod judging;
-mod ranking;
+pub mod judging;
+pub mod ranking;
 pub mod texts;
+mod trials;
 mod verdicts;
-pub mod words;
-pub mod written;
 
 pub use judging::judge;
 pub use nm_check_rank::clauses::OwnClause;
 pub use nm_check_ranks::clauses::CarriedClause;
 pub use nm_check_ranks::rest::clauses::RestClause;
+pub use trials::{Trial, check};
 pub use verdicts::Verdict;

@@ -15,7 +15,7 @@ use std::alloc::Global;
 /// All ranks run their own commands, and what is looked up of them; or the first rule that is
 /// broken, and where its rank breaks one first.
 #[derive(Drop)]
-pub(crate) enum Ranked {
+pub enum Ranked {
     Run(Vec<Tables>),
     Breaks {
         clause: OwnClause,
@@ -25,7 +25,7 @@ pub(crate) enum Ranked {
 }
 
 /// Whether each rank runs its own commands.
-pub(crate) fn judge_ranks(
+pub fn judge_ranks(
     alloc: Global,
     shape: Shape,
     lines: &[Line],

@@ -1,12 +1,10 @@
-//! What is said of a verdict, and of bytes that are no trace, and the status of what was found.
+//! What is said of a verdict, and of bytes that are no trace.
 
 ghost use Rattle.std.specs.Prelude.{◌≡◌, IfOk};
-ghost use Rattle.nm_check.specs.Answers.{found_status as found_status_lem};
 ghost use Rattle.nm_check.specs.Texts.{trace_fault_text as trace_fault_text_lem};
 ghost use Rattle.nm_check.specs.Texts.{verdict_text as verdict_text_lem};
 
 use crate::Verdict;
-use crate::breaks::Found;
 use std::alloc::{AllocError, Global};
 
 /// What is said of a verdict.
@@ -36,16 +34,4 @@ pub fn trace_fault_text(alloc: Global, line: u32) -> Result<Vec<u8>, AllocError>
 {
     let text = format!(in alloc; "fault trace {}\n", line)?;
     Ok(text.into_bytes())
-}
-
-/// The status of what was found.
-pub fn found_status(found: &Found) -> u8
-    ensures { result ≡ found_status_lem found.now }
-{
-    match found {
-        Found::NoTrace => 9,
-        Found::NoScript { .. } => 3,
-        Found::BadTrace { .. } => 9,
-        Found::Judged { judgement, .. } => judgement.verdict().status(),
-    }
 }

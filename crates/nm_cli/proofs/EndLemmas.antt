@@ -10,10 +10,9 @@ use Rattle.nm_cli.specs.Answers.{IsReadFor, WasRead, usage, ways_of}
 use Rattle.nm_shell.specs.Done.{OrFails, OrUnwritten, unread}
 use Rattle.nm_check.specs.declared.verdicts.Verdict.TheVariants.{Holds}
 use Rattle.nm_check.specs.declared.verdicts.Verdict.{Verdict}
-use Rattle.nm_check.specs.Answers.{found_status, verdict_status}
-use Rattle.nm_check.specs.Judgements.{judged_as}
-use Rattle.nm_check.specs.declared.breaks.finding.Found.{Found}
-use Rattle.nm_check.specs.declared.breaks.finding.Found.TheVariants.{NoTrace, NoScript, BadTrace, Judged}
+use Rattle.nm_check.specs.Answers.{trial_status, verdict_status}
+use Rattle.nm_check.specs.declared.trials.Trial.{Trial}
+use Rattle.nm_check.specs.declared.trials.Trial.TheVariants.{NoTrace, NoScript, BadTrace, Judged}
 use Rattle.nm_cli.specs.Done.{Ending, Ends}
 use Rattle.nm_cli.specs.Endings.{IsStatus}
 use Rattle.nm_cli.specs.declared.answers.Response.{Response}
@@ -77,12 +76,12 @@ verdict_ends : (v : Verdict) (k : ℕ) → k ≡ verdict_status v → (k ≡ 0 �
 verdict_ends Holds k h zero eight = zero h
 verdict_ends v k h zero eight = eight h
 
-pub checked_ends : (found : Found) (k : ℕ) → k ≡ found_status found → (k ≡ 0 → ⊥) → (k ≡ 3 → ⊥) → (k ≡ 8 → ⊥) →
+pub checked_ends : (trial : Trial) (k : ℕ) → k ≡ trial_status trial → (k ≡ 0 → ⊥) → (k ≡ 3 → ⊥) → (k ≡ 8 → ⊥) →
     (k ≡ 9 → ⊥) → ⊥
 checked_ends NoTrace k h zero three eight nine = nine h
 checked_ends (NoScript line kind) k h zero three eight nine = three h
-checked_ends (BadTrace before line stop) k h zero three eight nine = nine h
-checked_ends (Judged before j run) k h zero three eight nine = verdict_ends (judged_as j) k h zero eight
+checked_ends (BadTrace line) k h zero three eight nine = nine h
+checked_ends (Judged verdict) k h zero three eight nine = verdict_ends verdict k h zero eight
 
 -- a status that is not 5
 pub not_five : (s : Ending) (k : ℕ) → s.status ≡ k → (k ≡ 5 → ⊥) → s.status ≡ 5 → ⊥
@@ -190,11 +189,11 @@ verdict_is_status : (v : Verdict) → IsStatus (verdict_status v)
 verdict_is_status Holds = inl refl
 verdict_is_status v = inr (inr (inr (inr (inr (inr (inr (inr (inl refl))))))))
 
-checked_is_status : (found : Found) → IsStatus (found_status found)
+checked_is_status : (trial : Trial) → IsStatus (trial_status trial)
 checked_is_status NoTrace = inr (inr (inr (inr (inr (inr (inr (inr (inr refl))))))))
 checked_is_status (NoScript line kind) = inr (inr (inr (inl refl)))
-checked_is_status (BadTrace before line stop) = inr (inr (inr (inr (inr (inr (inr (inr (inr refl))))))))
-checked_is_status (Judged before j run) = verdict_is_status (judged_as j)
+checked_is_status (BadTrace line) = inr (inr (inr (inr (inr (inr (inr (inr (inr refl))))))))
+checked_is_status (Judged verdict) = verdict_is_status verdict
 
 is_status : (a : Response) → IsStatus (status_of a)
 is_status Usage = inr (inr (inl refl))

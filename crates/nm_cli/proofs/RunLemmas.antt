@@ -33,8 +33,8 @@ use Rattle.nm_cli.specs.Answers.{CanBeTold, IsAnswer, IsAnswerFor, IsAnswerForPl
 use Rattle.nm_cli.specs.Plains.{IsNotPlain, IsPlain}
 use Rattle.nm_cli.specs.Answers.{IsAnswerForBytes, IsLogOf, IsRead, IsReadFor}
 use Rattle.nm_cli.specs.Plans.{IsRunOfPlan, PlanRefuses}
-use Rattle.nm_check.specs.Answers.{IsFoundIn}
-use Rattle.nm_check.specs.declared.breaks.finding.Found.{Found}
+use Rattle.nm_check.specs.Answers.{IsTrialOf}
+use Rattle.nm_check.specs.declared.trials.Trial.{Trial}
 use Rattle.nm_cli.specs.Checks.{IsCheckedAs}
 use Rattle.nm_cli.specs.Scripts.{IsAsked, IsRunOfScript, IsRunOfWords, Reads, ReadsSource, limit_of, read_of}
 use Rattle.nm_cli.specs.Scripts.{sizes_for}
@@ -139,11 +139,11 @@ refused None read e is refuses = tt
 refused (Some bytes) read e is refuses = subst (λ bytes. Refuses bytes e) is refuses
 
 -- what was said of the bytes read answers the words
-checked_as : (line : CommandLine) (input : Option (List ℕ)) (read : List ℕ) (found : Found) →
+checked_as : (line : CommandLine) (input : Option (List ℕ)) (read : List ℕ) (trial : Trial) →
     IfSome input (λ bytes. read ≡ take (limit_of line.mode) bytes) →
-    IsFoundIn line found read → IfSome input (IsCheckedAs line found)
-checked_as line None read found is h = tt
-checked_as line (Some bytes) read found is h = subst (IsFoundIn line found) is h
+    IsTrialOf line trial read → IfSome input (IsCheckedAs line trial)
+checked_as line None read trial is h = tt
+checked_as line (Some bytes) read trial is h = subst (IsTrialOf line trial) is h
 
 -- as much is read as a script may have
 script_limit : (m : Mode) → Reads m → limit_of m ≡ 8388609
@@ -173,7 +173,7 @@ module _ (line : CommandLine) (input : Option (List ℕ)) (old new : ℕ) (read 
   pub bytes_answered : (a : Response) → IsAnswerForBytes line read a → IsAnswerTo line input old new a
   bytes_answered (answer.Refused n k) h =
       (h.0, refused input read (fault.Bad n k) (script_read h.0) h.1)
-  bytes_answered (answer.Checked found) h = (h.0, checked_as line input read found is h.1)
+  bytes_answered (answer.Checked trial) h = (h.0, checked_as line input read trial is h.1)
   bytes_answered (answer.NoPlan n k) h =
       (h.0, plan_refused input read (fault.Bad n k) (plan_read h.0) h.1)
   bytes_answered (answer.Planned plan run ways) h =

@@ -33,7 +33,7 @@ use Rattle.nm_plans.specs.declared.lines.PlanLine.{PlanLine}
 use Rattle.nm_persist.specs.Report.{run_text as plan_run_text}
 use Rattle.nm_persist.specs.Rules.{IsTextOf as IsPlanText}
 use Rattle.nm_shell.specs.Done.{unread}
-use Rattle.nm_check.specs.Answers.{IsFoundIn, found_status}
+use Rattle.nm_check.specs.Answers.{IsTrialOf, trial_status}
 use Rattle.nm_cli.specs.Checks.{IsCheckedAs, checked_text}
 use Rattle.nm_cli.specs.Plains.{IsNotPlain, IsPlain, free_text}
 use Rattle.nm_cli.specs.Plans.{IsRunOfPlan, PlanRefuses, plan_fault_text}
@@ -66,7 +66,7 @@ text_of (Refused line kind) = fault_text line kind
 text_of (Ran mode run ways) = run_text mode run
 text_of (Free line) = free_text line
 text_of (Determinate run) = run.text.items
-text_of (Checked found) = checked_text found
+text_of (Checked trial) = checked_text trial
 text_of (NoPlan line kind) = plan_fault_text line kind
 text_of (Planned plan run ways) = plan_run_text plan.lines run
 text_of (Logged threads rounds log) = log_text threads rounds log.entries
@@ -83,7 +83,7 @@ status_of (Refused line kind) = 3
 status_of (Ran mode run ways) = end_status run.done
 status_of (Free line) = 7
 status_of (Determinate run) = end_status run.done
-status_of (Checked found) = found_status found
+status_of (Checked trial) = trial_status trial
 status_of (NoPlan line kind) = 3
 status_of (Planned plan run ways) = end_status run.done
 status_of (Logged threads rounds log) = 0
@@ -173,8 +173,8 @@ Refuses bytes fault.Memory = Unit {0}
 -- no plan, or they spell one, which is answered, or they are a script and a trace, or none.
 abbrev pub IsAnswerForBytes : CommandLine → List ℕ → Response → Type 0
 IsAnswerForBytes line bytes (Refused number kind) = Reads line.mode × Refuses bytes (fault.Bad number kind)
-IsAnswerForBytes line bytes (Checked found) =
-    (line.mode ≡ mode.Check) × IsFoundIn line found bytes
+IsAnswerForBytes line bytes (Checked trial) =
+    (line.mode ≡ mode.Check) × IsTrialOf line trial bytes
 IsAnswerForBytes line bytes (NoPlan number kind) =
     (line.mode ≡ mode.Parts) × PlanRefuses bytes (fault.Bad number kind)
 IsAnswerForBytes line bytes (Planned plan run ways) =
@@ -196,8 +196,8 @@ IsAnswerTo line input old new (Ran mode run ways) =
 IsAnswerTo line input old new (Free number) = (line.mode ≡ mode.Plain) × IfSome input (IsNotPlain number)
 IsAnswerTo line input old new (Determinate run) =
     (line.mode ≡ mode.Plain) × IfSome input (IsPlain line run.text.items run.done)
-IsAnswerTo line input old new (Checked found) =
-    (line.mode ≡ mode.Check) × IfSome input (IsCheckedAs line found)
+IsAnswerTo line input old new (Checked trial) =
+    (line.mode ≡ mode.Check) × IfSome input (IsCheckedAs line trial)
 IsAnswerTo line input old new (NoPlan number kind) =
     (line.mode ≡ mode.Parts) × IfSome input (λ bytes. PlanRefuses (read_of bytes) (fault.Bad number kind))
 IsAnswerTo line input old new (Planned plan run ways) =

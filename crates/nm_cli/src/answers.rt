@@ -9,8 +9,8 @@ ghost use Rattle.nm_cli.specs.Answers.{end_status as end_status_lem, status_of, 
 ghost use Rattle.nm_cli.specs.Plans.{plan_fault_text as plan_fault_text_lem, plan_kind_text};
 ghost use Rattle.nm_cli.specs.Plains.{free_text as free_text_lem};
 
-use nm_check::breaks::Found;
-use nm_check::texts::{found_status, trace_fault_text, verdict_text};
+use nm_check::Trial;
+use nm_check::texts::{trace_fault_text, verdict_text};
 use nm_multi::CallLog;
 use nm_persist::{Plan, PlanKind};
 use nm_report::RunRecord;
@@ -50,7 +50,7 @@ pub enum Response {
     },
     /// What the bytes are: no script with a trace, or one, with the verdict on it.
     Checked {
-        found: Found,
+        trial: Trial,
     },
     /// The bytes spell no plan.
     NoPlan {
@@ -92,7 +92,7 @@ pub fn text(alloc: Global, answer: &Response) -> Result<Vec<u8>, Memory>
         Response::Ran { mode, run, .. } => run_text(alloc, mode, run),
         Response::Free { line } => Ok(free_text(alloc, *line)?),
         Response::Determinate { run } => Ok(run.text.clone()?),
-        Response::Checked { found } => Ok(checked_text(alloc, found)?),
+        Response::Checked { trial } => Ok(checked_text(alloc, *trial)?),
         Response::NoPlan { line, kind } => Ok(plan_fault_text(alloc, *line, *kind)?),
         Response::Planned { plan, run, .. } => nm_persist::text(alloc, plan, run),
         Response::Logged {
@@ -124,7 +124,7 @@ pub fn status(answer: &Response) -> u8
         Response::Ran { run, .. } => end_status(run.done),
         Response::Free { .. } => 7,
         Response::Determinate { run } => end_status(run.done),
-        Response::Checked { found } => found_status(found),
+        Response::Checked { trial } => trial.status(),
         Response::NoPlan { .. } => 3,
         Response::Planned { run, .. } => end_status(run.done),
         Response::Logged { .. } => 0,
@@ -142,14 +142,14 @@ fn end_status(done: bool) -> u8
 }
 
 // What is said of a script and its trace.
-fn checked_text(alloc: Global, found: &Found) -> Result<Vec<u8>, AllocError>
-    ensures { IfOk result (λ bytes. bytes.items ≡ checked_text_lem found.now) }
+fn checked_text(alloc: Global, trial: Trial) -> Result<Vec<u8>, AllocError>
+    ensures { IfOk result (λ bytes. bytes.items ≡ checked_text_lem trial) }
 {
-    match found {
-        Found::NoTrace => trace_fault_text(alloc, 0),
-        Found::NoScript { line, kind } => fault_text(alloc, *line, *kind),
-        Found::BadTrace { line, .. } => trace_fault_text(alloc, *line),
-        Found::Judged { judgement, .. } => verdict_text(alloc, judgement.verdict()),
+    match trial {
+        Trial::NoTrace => trace_fault_text(alloc, 0),
+        Trial::NoScript { line, kind } => fault_text(alloc, line, kind),
+        Trial::BadTrace { line } => trace_fault_text(alloc, line),
+        Trial::Judged { verdict } => verdict_text(alloc, verdict),
     }
 }
 

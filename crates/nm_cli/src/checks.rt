@@ -6,7 +6,7 @@ ghost use Rattle.nm_script.specs.declared.command_line.Mode.TheVariants.{Check};
 ghost use Rattle.nm_cli.specs.Answers.{IsAnswerForBytes};
 
 use crate::answers::Response;
-use nm_check::breaks::find;
+use nm_check::check;
 use nm_script::command_line::CommandLine;
 use nm_types::Memory;
 use std::alloc::Global;
@@ -17,6 +17,6 @@ pub fn answer_trace(alloc: Global, line: &CommandLine, bytes: &[u8]) -> Result<R
     requires check { line.now.mode ≡ Check }
     ensures { IfOk result (IsAnswerForBytes line.now bytes.now) }
 {
-    let found = find(alloc, bytes, line.cells, line.eager)?;
-    Ok(Response::Checked { found })
+    let trial = check(alloc, bytes, line.cells, line.eager)?;
+    Ok(Response::Checked { trial })
 }

@@ -5,11 +5,12 @@ use Rattle.nm_script.specs.declared.command_line.CommandLine.{CommandLine}
 use Rattle.nm_outside.specs.Told.{Appends, AppendsPart, Rose}
 use Rattle.nm_check.specs.declared.verdicts.Verdict.{Verdict}
 use Rattle.nm_check.specs.declared.verdicts.Verdict.TheVariants.{Holds, Own, Carried, Rest, Home, Done}
-use Rattle.nm_check.specs.Found.{IsFound, verdict_in}
-use Rattle.nm_check.specs.Judgements.{judged_as}
-use Rattle.nm_check.specs.declared.breaks.finding.Found.{Found}
-use Rattle.nm_check.specs.declared.breaks.finding.Found.TheVariants.{NoTrace, NoScript, BadTrace, Judged}
-use Rattle.nm_check.specs.Answers.{IsAsked, IsFoundIn, IsTraced, NotAsked, found_status, verdict_status}
+use Rattle.nm_breaks.specs.Found.{IsFound, verdict_in}
+use Rattle.nm_breaks.specs.Judgements.{judged_as}
+use Rattle.nm_breaks.specs.declared.finding.Found.{Found}
+use Rattle.nm_breaks.specs.declared.finding.Found.TheVariants.{NoTrace, NoScript, BadTrace, Judged}
+use Rattle.nm_breaks.specs.Answers.{IsAsked, IsFoundIn, NotAsked, found_status}
+use Rattle.nm_check.specs.Answers.{IsTraced, verdict_status}
 use Rattle.nm_verdict.specs.Answers.{IsAnswer, IsFoundOf, AreQuotesOf, IsWritten, SaysVerdict, WasRead}
 use Rattle.nm_verdict.specs.Answers.{status_of, text_of, usage}
 use Rattle.nm_shell.specs.Done.{Ending, OrFails, OrUnwritten, unread}

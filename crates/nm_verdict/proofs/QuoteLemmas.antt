@@ -3,10 +3,10 @@ use Rattle.std.proofs.Common.{◌≡◌, ℕ, Option, None, refl}
 use Rattle.nm_check_rank.specs.declared.paired.dues.Due.{Due}
 use Rattle.nm_check_ranks.specs.declared.clauses.CarriedClause.{CarriedClause}
 use Rattle.nm_verdict.specs.Quotes.{other_line, place_line, quoted_line}
-use Rattle.nm_check.specs.declared.breaks.counts.Miscount.{Miscount}
-use Rattle.nm_check.specs.declared.breaks.judgements.Judgement.{Judgement}
-use Rattle.nm_check.specs.declared.breaks.judgements.Judgement.TheVariants.{Carried, Counted}
-use Rattle.nm_check.specs.declared.breaks.places.EventLine.{EventLine}
+use Rattle.nm_breaks.specs.declared.counts.Miscount.{Miscount}
+use Rattle.nm_breaks.specs.declared.judgements.Judgement.{Judgement}
+use Rattle.nm_breaks.specs.declared.judgements.Judgement.TheVariants.{Carried, Counted}
+use Rattle.nm_breaks.specs.declared.places.EventLine.{EventLine}
 
 -- the bytes of each line are told, but of a count
 pub quotes_place : (j : Judgement) → ((line : ℕ) (m : Miscount) → j ≡ Counted line m → ⊥) →

@@ -4,8 +4,9 @@ use Rattle.nm_script.specs.declared.command_line.CommandLine.{CommandLine}
 use Rattle.nm_outside.specs.Told.{Rose}
 use Rattle.nm_shell.specs.Inputs.{read_of}
 use Rattle.nm_shell.specs.Done.{Ending, IsSaid, unread}
-use Rattle.nm_check.specs.Answers.{IsAsked, IsFoundIn, IsTraced, NotAsked, found_status}
-use Rattle.nm_check.specs.declared.breaks.finding.Found.{Found}
+use Rattle.nm_breaks.specs.Answers.{IsAsked, IsFoundIn, NotAsked, found_status}
+use Rattle.nm_check.specs.Answers.{IsTraced}
+use Rattle.nm_breaks.specs.declared.finding.Found.{Found}
 use Rattle.nm_verdict.specs.Quotes.{quotes_of}
 use Rattle.nm_verdict.specs.declared.quotes.Quotes.{Quotes}
 use Rattle.nm_verdict.specs.Texts.{found_text}

@@ -2,8 +2,8 @@
 use Rattle.std.specs.Prelude.{◌≡◌, ℕ, ◌⊎◌, List, Option}
 use Rattle.nm_script.specs.declared.command_line.CommandLine.{CommandLine}
 use Rattle.nm_outside.specs.Told.{Appends}
-use Rattle.nm_check.specs.declared.breaks.finding.Found.{Found}
-use Rattle.nm_check.specs.Answers.{IsAsked, found_status}
+use Rattle.nm_breaks.specs.declared.finding.Found.{Found}
+use Rattle.nm_breaks.specs.Answers.{IsAsked, found_status}
 use Rattle.nm_verdict.specs.Answers.{IsFoundOf, AreQuotesOf}
 use Rattle.nm_verdict.specs.Texts.{found_text}
 use Rattle.nm_verdict.specs.declared.quotes.Quotes.{Quotes}

@@ -4,7 +4,7 @@ use Rattle.nm_history.specs.declared.events.Event.{Event}
 use Rattle.nm_history.specs.declared.events.Happened.{Happened}
 use Rattle.nm_history.specs.declared.events.Happened.TheVariants as what
 use Rattle.nm_history.specs.Quiescence.{Ended, history_of}
-use Rattle.nm_check.specs.declared.breaks.places.EventLine.{EventLine}
+use Rattle.nm_breaks.specs.declared.places.EventLine.{EventLine}
 
 -- a message to a rank
 abbrev pub to_words : ℕ → ℕ → List ℕ

@@ -2,11 +2,11 @@
 use Rattle.std.specs.Prelude.{ℕ, ◌+◌, ◌-◌, Option, Some, None, List, option_and_then, option_map, slice_get}
 use Rattle.nm_script.specs.Lines.{lines_of}
 use Rattle.nm_verdict.specs.declared.quotes.Quotes.{Quotes}
-use Rattle.nm_check.specs.declared.breaks.finding.Found.{Found}
-use Rattle.nm_check.specs.declared.breaks.finding.Found.TheVariants.{Judged}
-use Rattle.nm_check.specs.declared.breaks.judgements.Judgement.{Judgement}
-use Rattle.nm_check.specs.declared.breaks.judgements.Judgement.TheVariants.{Own, Carried, Left, Counted, Home, Done}
-use Rattle.nm_check.specs.declared.breaks.places.EventLine.{EventLine}
+use Rattle.nm_breaks.specs.declared.finding.Found.{Found}
+use Rattle.nm_breaks.specs.declared.finding.Found.TheVariants.{Judged}
+use Rattle.nm_breaks.specs.declared.judgements.Judgement.{Judgement}
+use Rattle.nm_breaks.specs.declared.judgements.Judgement.TheVariants.{Own, Carried, Left, Counted, Home, Done}
+use Rattle.nm_breaks.specs.declared.places.EventLine.{EventLine}
 
 -- the line of an event, if there is one
 abbrev pub event_line : Option EventLine → Option ℕ

@@ -2,8 +2,8 @@
 use Rattle.std.specs.Prelude.{ℕ, List, codes}
 use Rattle.nm_script.specs.declared.faults.Kind.{Kind}
 use Rattle.nm_script.specs.declared.faults.Kind.TheVariants as kind
-use Rattle.nm_check.specs.declared.breaks.stops.Stop.{Stop}
-use Rattle.nm_check.specs.declared.breaks.stops.Stop.TheVariants as stop
+use Rattle.nm_breaks.specs.declared.stops.Stop.{Stop}
+use Rattle.nm_breaks.specs.declared.stops.Stop.TheVariants as stop
 use Rattle.nm_check_rank.specs.declared.clauses.OwnClause.{OwnClause}
 use Rattle.nm_check_rank.specs.declared.clauses.OwnClause.TheVariants as own
 use Rattle.nm_check_ranks.specs.declared.clauses.CarriedClause.{CarriedClause}

@@ -10,14 +10,14 @@ use Rattle.nm_check_ranks.specs.declared.rest.clauses.RestClause.{RestClause}
 use Rattle.nm_check_ranks.specs.declared.rest.clauses.RestClause.TheVariants.{Waits, Counts}
 use Rattle.nm_check_ranks.specs.declared.rest.waits.Next.{Next}
 use Rattle.nm_check_ranks.specs.declared.rest.waits.Next.TheVariants as next
-use Rattle.nm_check.specs.declared.breaks.finding.Found.{Found}
-use Rattle.nm_check.specs.declared.breaks.finding.Found.TheVariants.{NoTrace, NoScript, BadTrace, Judged}
-use Rattle.nm_check.specs.declared.breaks.cells.CellCount.{CellCount}
-use Rattle.nm_check.specs.declared.breaks.judgements.Judgement.{Judgement}
-use Rattle.nm_check.specs.declared.breaks.judgements.Judgement.TheVariants.{Holds, Own, Carried, Left, Standing, Counted}
-use Rattle.nm_check.specs.declared.breaks.judgements.Judgement.TheVariants.{Home, Done}
-use Rattle.nm_check.specs.declared.breaks.places.EventLine.{EventLine}
-use Rattle.nm_check.specs.declared.breaks.stops.Stop.{Stop}
+use Rattle.nm_breaks.specs.declared.finding.Found.{Found}
+use Rattle.nm_breaks.specs.declared.finding.Found.TheVariants.{NoTrace, NoScript, BadTrace, Judged}
+use Rattle.nm_breaks.specs.declared.cells.CellCount.{CellCount}
+use Rattle.nm_breaks.specs.declared.judgements.Judgement.{Judgement}
+use Rattle.nm_breaks.specs.declared.judgements.Judgement.TheVariants.{Holds, Own, Carried, Left, Standing, Counted}
+use Rattle.nm_breaks.specs.declared.judgements.Judgement.TheVariants.{Home, Done}
+use Rattle.nm_breaks.specs.declared.places.EventLine.{EventLine}
+use Rattle.nm_breaks.specs.declared.stops.Stop.{Stop}
 use Rattle.nm_verdict.specs.declared.quotes.Quotes.{Quotes}
 use Rattle.nm_verdict.specs.Quotes.{event_line, place_line}
 use Rattle.nm_verdict.specs.Counts.{counts_words}

@@ -4,8 +4,8 @@ ghost use Rattle.std.specs.Prelude.{◌≡◌, IfOk, option_map, string_bytes};
 ghost use Rattle.nm_report.specs.Ends.{ends_of};
 ghost use Rattle.nm_verdict.specs.Events as spec;
 
-use nm_check::breaks::EventLine;
-use nm_check::breaks::places::event_at;
+use nm_breaks::EventLine;
+use nm_breaks::places::event_at;
 use nm_history::{Event, Happened};
 use nm_report::RankAccount;
 use std::alloc::{AllocError, Global};

@@ -3,7 +3,7 @@
 ghost use Rattle.std.specs.Prelude.{◌≡◌, Some, IfSome, IsSomeAnd, drop};
 ghost use Rattle.nm_script.specs.declared.command_line.CommandLine.{CommandLine};
 ghost use Rattle.nm_outside.specs.Told.{Appends};
-ghost use Rattle.nm_check.specs.Answers.{IsAsked, NotAsked};
+ghost use Rattle.nm_breaks.specs.Answers.{IsAsked, NotAsked};
 ghost use Rattle.nm_verdict.specs.Answers.{AreAsked, IsWritten, SaysVerdict, usage};
 ghost use Rattle.nm_shell.specs.Done.{Ending, IsDone, OrFails, OrUnwritten};
 ghost use Rattle.nm_verdict.specs.Endings.{IsStatus};

@@ -5,12 +5,12 @@
 //! `laws` has what follows from that.
 //!
 //! # What a contract sees
-//! Bytes as a list of numbers. `nm_check::breaks` says what is found of them, and `specs/Quotes.antt` which
+//! Bytes as a list of numbers. `nm_breaks` says what is found of them, and `specs/Quotes.antt` which
 //! line of them is told. `specs/Texts.antt` has the sentence of each finding, `specs/Sentences.antt` the words
 //! of each rule, `specs/Dues.antt` those of what was called for (`specs/Called.antt` at claims, starts and
 //! cancels), `specs/Counts.antt` those of counts of packets, and `specs/Events.antt` those of what happened.
 //! # What is proved
-//! - What is said is of what `nm_check::breaks` finds, as of `nemesis check`. The statuses are 0 where the
+//! - What is said is of what `nm_breaks` finds, as of `nemesis check`. The statuses are 0 where the
 //!   trace holds, 8 where it breaks a rule, 3 and 9 where there is no script or no trace, 2 where
 //!   the words are not taken. They yield to 4, 5 and 6.
 //! - The source is read to its end, or its first 67,108,865 bytes are, and more is taken at no

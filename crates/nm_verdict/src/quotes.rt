@@ -4,8 +4,8 @@ ghost use Rattle.std.specs.Prelude.{◌≡◌, IfOk, option_map};
 ghost use Rattle.nm_verdict.specs.Quotes as spec;
 ghost use Rattle.nm_verdict.specs.Quotes.{quotes_of};
 
-use nm_check::breaks::stops::line_at;
-use nm_check::breaks::{EventLine, Found, Judgement};
+use nm_breaks::stops::line_at;
+use nm_breaks::{EventLine, Found, Judgement};
 use nm_types::{Bytes, Memory};
 use std::alloc::Global;
 

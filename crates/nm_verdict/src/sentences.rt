@@ -3,7 +3,7 @@
 ghost use Rattle.std.specs.Prelude.{◌≡◌};
 ghost use Rattle.nm_verdict.specs.Sentences as spec;
 
-use nm_check::breaks::Stop;
+use nm_breaks::Stop;
 use nm_check::{CarriedClause, OwnClause, RestClause};
 use nm_check_ranks::rest::firsts::EventRule;
 use nm_script::Kind;

@@ -3,15 +3,15 @@
 ghost use Rattle.std.specs.Prelude.{◌≡◌, ◌⊎◌, map, string_bytes, IfOk};
 ghost use Rattle.nm_outside.specs.Told.{Appends, AppendsPart, LosesAtMost, Rose};
 ghost use Rattle.nm_verdict.specs.declared.answers.Response.{Response};
-ghost use Rattle.nm_check.specs.Answers.{NotAsked};
+ghost use Rattle.nm_breaks.specs.Answers.{NotAsked};
 ghost use Rattle.nm_verdict.specs.Answers.{IsAnswer, IsRead, SaysVerdict, text_of};
 ghost use Rattle.nm_shell.specs.Done.{IsDone, unread};
 ghost use Rattle.nm_verdict.specs.Endings.{IsSpoken, IsTold};
 
 use crate::answers::{Response, status, text};
 use crate::quotes::quoted;
-use nm_check::breaks::find;
-use nm_check::words::asked;
+use nm_breaks::find;
+use nm_breaks::words::asked;
 use nm_outside::{Sink, Source, Unread, read_up_to};
 use nm_shell::{MAX_INPUT, WANT_OF_MEMORY, deliver};
 use nm_types::Memory;

@@ -3,7 +3,7 @@
 ghost use Rattle.std.specs.Prelude.{◌≡◌, slice_get};
 ghost use Rattle.nm_chart.specs.Findings as spec;
 
-use nm_check::breaks::{EventLine, Judgement};
+use nm_breaks::{EventLine, Judgement};
 use nm_history::History;
 use nm_picture::Flag;
 use nm_report::RankAccount;

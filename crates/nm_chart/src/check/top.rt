@@ -7,12 +7,12 @@ ghost use Rattle.nm_shell.specs.Done.{IsDone};
 ghost use Rattle.nm_chart.specs.Given.{IsReadFor};
 ghost use Rattle.nm_chart.specs.Findings.{CanBeDrawn, CanBeFound, ChartsCheck, IsAnswer, IsAnswerIn};
 ghost use Rattle.nm_chart.specs.Findings.{WasQuiet, WasRead, finding_of as finding_of_lem};
-ghost use Rattle.nm_check.specs.Answers.{NotAsked};
+ghost use Rattle.nm_breaks.specs.Answers.{NotAsked};
 
 use crate::check::findings::{Finding, status, text};
 use crate::check::places::flag_of;
-use nm_check::breaks::{Found, find};
-use nm_check::words::asked;
+use nm_breaks::{Found, find};
+use nm_breaks::words::asked;
 use nm_outside::{Sink, Source, Unread, read_up_to};
 use nm_script::command_line::CommandLine;
 use nm_shell::{MAX_INPUT, WANT_OF_MEMORY, deliver};

@@ -5,7 +5,7 @@ use Rattle.nm_report.specs.Ends.{end_of_account, ends_of, packets_of}
 use Rattle.nm_check_ranks.specs.CarriedClauses.{PairDelivered}
 use Rattle.nm_check_ranks.specs.Marked.{BreaksPair, EachMarked}
 use Rattle.nm_check_ranks.specs.RestBreaks.{IsRestBreak}
-use Rattle.nm_check.proofs.SpotLemmas.{are_local, are_ordered}
+use Rattle.nm_check.proofs.LocalLemmas.{are_local, are_ordered}
 use Rattle.nm_check.proofs.judging.judge_tabled.Goals as goal
 
 pub marks_of-requires : goal.marks_of-requires

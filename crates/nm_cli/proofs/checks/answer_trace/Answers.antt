@@ -5,8 +5,8 @@ pub returns : goal.returns
 returns c = (
   c.requires.check,
   record {
-    right = c.in_ok-found.ensures.found;
-    holds = λ traced. c.in_ok-found.ensures.holds traced.front traced.rest traced.ranks traced.lines traced.run
+    right = c.in_ok-trial.ensures.right;
+    holds = λ traced. c.in_ok-trial.ensures.holds traced.front traced.rest traced.ranks traced.lines traced.run
         traced.input traced.script traced.trace traced.lawful;
   },
 )

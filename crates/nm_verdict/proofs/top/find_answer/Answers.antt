@@ -2,7 +2,7 @@
 use Rattle.std.proofs.Common.{◌≡◌, ℕ, List, Some, refl, sym, ◌∙◌, ap, subst}
 use Rattle.nm_script.specs.declared.command_line.CommandLine.{CommandLine}
 use Rattle.nm_shell.specs.Inputs.{IsInput}
-use Rattle.nm_check.specs.Found.{IsFound}
+use Rattle.nm_breaks.specs.Found.{IsFound}
 use Rattle.nm_verdict.specs.Quotes.{quotes_of}
 use Rattle.nm_verdict.proofs.EndLemmas.{found_of, quotes_read}
 use Rattle.nm_outside.proofs.ReadingLemmas.{left_at}

@@ -1,7 +1,7 @@
 -- What was judged is drawn with the flag at its place.
 use Rattle.std.proofs.Common.{◌∙◌, Option, ap}
 use Rattle.nm_picture.specs.declared.flags.Flag.{Flag}
-use Rattle.nm_check.specs.Judgements.{judged_as}
+use Rattle.nm_breaks.specs.Judgements.{judged_as}
 use Rattle.nm_check.specs.declared.verdicts.Verdict.{Verdict}
 use Rattle.nm_chart.specs.Findings.{flag_of}
 use Rattle.nm_chart.specs.declared.check.findings.Finding.TheVariants.{Drawn}

@@ -1,0 +1,15 @@
+mod AgainstLemmas
+mod EventLemmas
+mod FedLemmas
+mod HeldLemmas
+mod LastLemmas
+mod LineLemmas
+mod OtherLemmas
+mod RangeLemmas
+mod RankLemmas
+mod SpotLemmas
+mod StandLemmas
+mod StopLemmas
+mod TextLemmas
+mod WholeLemmas
+mod WrittenLemmas

@@ -1,0 +1,10 @@
+pub mod Against
+pub mod Answers
+pub mod Found
+pub mod Judgements
+pub mod Lines
+pub mod Miscounts
+pub mod Others
+pub mod Places
+pub mod Ranges
+pub mod Stops
