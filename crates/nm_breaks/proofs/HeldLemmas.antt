@@ -18,7 +18,7 @@ use Rattle.nm_report.specs.Ends.{ends_of}
 use Rattle.nm_trace.specs.Notes.{pair_words}
 use Rattle.nm_trace.specs.Traces.{IsTraceOf}
 use Rattle.nm_check_rank.specs.Takes.{IsTakenAt}
-use Rattle.nm_check_ranks.specs.declared.firsts.Spot.{Spot}
+use Rattle.nm_check.specs.declared.firsts.Spot.{Spot}
 use Rattle.nm_breaks.specs.Judgements.{RestsOn}
 use Rattle.nm_breaks.specs.Lines.{EventStands, IsLineAt, Stands}
 use Rattle.nm_breaks.specs.Miscounts.{IsFirstCounted}

@@ -15,8 +15,8 @@ use Rattle.nm_report.specs.declared.accounts.RankAccount.{RankAccount}
 use Rattle.nm_report.specs.Ends.{ends_of}
 use Rattle.nm_check_rank.specs.Tabled.{AreRankTables}
 use Rattle.nm_check_rank.specs.declared.paired.tables.Tables.{Tables}
-use Rattle.nm_check_ranks.specs.Tabled.{EachTabled}
-use Rattle.nm_check_ranks.proofs.TableLemmas.{table_inside}
+use Rattle.nm_check.specs.Tabled.{EachTabled}
+use Rattle.nm_check.proofs.TableLemmas.{table_inside}
 use Rattle.nm_breaks.specs.Others.{IsHeldAgainst, first_held, held_at, is_mate}
 use Rattle.nm_breaks.specs.Places.{events_in}
 use Rattle.nm_breaks.specs.declared.places.EventLine.{EventLine}

@@ -13,14 +13,14 @@ use Rattle.nm_report.specs.declared.accounts.RankAccount.{RankAccount}
 use Rattle.nm_report.specs.Ends.{end_of_account, ends_of}
 use Rattle.nm_check_rank.specs.Breaks.{BreaksFirstAt}
 use Rattle.nm_check_rank.specs.FirstBroken.{IsFirstBroken}
-use Rattle.nm_check_ranks.specs.CarriedBreaks.{BreaksBetweenAt}
-use Rattle.nm_check_ranks.specs.CarriedClauses.{KeepsCarried, carried_order}
-use Rattle.nm_check_ranks.specs.declared.clauses.CarriedClause.{CarriedClause}
-use Rattle.nm_check_ranks.specs.declared.firsts.Spot.{Spot}
-use Rattle.nm_check_ranks.specs.RestBreaks.{BreaksRestAt, BreaksStanding, KeepRestAt}
-use Rattle.nm_check_ranks.specs.declared.rest.firsts.EventRule.{EventRule}
+use Rattle.nm_check.specs.CarriedBreaks.{BreaksBetweenAt}
+use Rattle.nm_check.specs.CarriedClauses.{KeepsCarried, carried_order}
+use Rattle.nm_check.specs.declared.clauses.CarriedClause.{CarriedClause}
+use Rattle.nm_check.specs.declared.firsts.Spot.{Spot}
+use Rattle.nm_check.specs.RestBreaks.{BreaksRestAt, BreaksStanding, KeepRestAt}
+use Rattle.nm_check.specs.declared.rest.firsts.EventRule.{EventRule}
 use Rattle.nm_check.specs.Verdicts.{BreaksCarried}
-use Rattle.nm_check_ranks.proofs.WaitLemmas.{some_inside}
+use Rattle.nm_check.proofs.WaitLemmas.{some_inside}
 use Rattle.nm_breaks.specs.Places.{events_in}
 use Rattle.nm_breaks.proofs.EventLemmas.{rank_le}
 

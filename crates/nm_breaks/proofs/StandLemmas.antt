@@ -14,7 +14,7 @@ use Rattle.nm_script.specs.Lines.{lines_of}
 use Rattle.nm_trace.specs.Traces.{IsTraceOf}
 use Rattle.nm_check_rank.specs.declared.breaks.Break.{Break}
 use Rattle.nm_check_rank.specs.declared.breaks.Break.TheVariants.{At, Behind}
-use Rattle.nm_check_ranks.specs.declared.firsts.Spot.{Spot}
+use Rattle.nm_check.specs.declared.firsts.Spot.{Spot}
 use Rattle.nm_breaks.specs.Lines.{EventStands, event_text}
 use Rattle.nm_breaks.specs.Places.{events_in, line_of, told_at, told_of}
 use Rattle.nm_breaks.specs.declared.places.EventLine.{EventLine}

@@ -19,8 +19,8 @@ use Rattle.nm_check_rank.specs.declared.paired.arguments.Argument.{Argument}
 use Rattle.nm_check_rank.specs.declared.paired.arguments.Argument.TheVariants as arg
 use Rattle.nm_check_rank.specs.declared.paired.dues.Due.{Due}
 use Rattle.nm_check_rank.specs.declared.paired.dues.Due.TheVariants as due
-use Rattle.nm_check_ranks.specs.Bytes.{IsFirstOtherByte}
-use Rattle.nm_check_ranks.specs.declared.firsts.Spot.{Spot}
+use Rattle.nm_check.specs.Bytes.{IsFirstOtherByte}
+use Rattle.nm_check.specs.declared.firsts.Spot.{Spot}
 use Rattle.nm_breaks.specs.declared.places.EventLine.{EventLine}
 
 -- an argument that a message was sent with, and another one that it came with

@@ -4,9 +4,9 @@ use Rattle.nm_types.specs.declared.scripts.Line.{Line}
 use Rattle.nm_types.specs.Commands.{commands_of}
 use Rattle.nm_report.specs.Ends.{ends_of}
 use Rattle.nm_report.specs.declared.records.RunRecord.{RunRecord}
-use Rattle.nm_check_ranks.specs.CarriedBreaks.{BreaksBetweenAt}
-use Rattle.nm_check_ranks.specs.RestBreaks.{BreaksRestAt, BreaksStanding, IsNext, rest_clause}
-use Rattle.nm_check_ranks.specs.declared.rest.clauses.RestClause.TheVariants.{Waits, Counts}
+use Rattle.nm_check.specs.CarriedBreaks.{BreaksBetweenAt}
+use Rattle.nm_check.specs.RestBreaks.{BreaksRestAt, BreaksStanding, IsNext, rest_clause}
+use Rattle.nm_check.specs.declared.rest.clauses.RestClause.TheVariants.{Waits, Counts}
 use Rattle.nm_breaks.specs.Against.{IsAgainst}
 use Rattle.nm_breaks.specs.Miscounts.{IsFirstCounted}
 use Rattle.nm_breaks.specs.Others.{IsOtherEvent}

@@ -11,7 +11,7 @@ use Rattle.nm_history.specs.Delivery.{asked_pair}
 use Rattle.nm_history.specs.Happens.{is_recall, is_send, is_withdraw}
 use Rattle.nm_history.specs.Quiescence.{Ended, history_of}
 use Rattle.nm_check_rank.specs.Takes.{IsTakenAt}
-use Rattle.nm_check_ranks.specs.declared.firsts.Spot.{Spot}
+use Rattle.nm_check.specs.declared.firsts.Spot.{Spot}
 use Rattle.nm_breaks.specs.Places.{told_at}
 use Rattle.nm_breaks.specs.declared.places.EventLine.{EventLine}
 

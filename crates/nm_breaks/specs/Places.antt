@@ -3,7 +3,7 @@ use Rattle.std.specs.Prelude.{◌≡◌, ℕ, ◌+◌, Option, Some, None, List,
 use Rattle.nm_history.specs.Quiescence.{Ended}
 use Rattle.nm_check_rank.specs.declared.breaks.Break.{Break}
 use Rattle.nm_check_rank.specs.declared.breaks.Break.TheVariants.{At, Behind}
-use Rattle.nm_check_ranks.specs.declared.firsts.Spot.{Spot}
+use Rattle.nm_check.specs.declared.firsts.Spot.{Spot}
 use Rattle.nm_breaks.specs.declared.places.EventLine.{EventLine}
 
 -- how many events these ranks have

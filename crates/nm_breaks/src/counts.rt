@@ -3,12 +3,12 @@
 ghost use Rattle.std.specs.Prelude.{◌≡◌, ◌<◌, ◌≤◌, IfOk, List, MatchOption, length, slice_get};
 ghost use Rattle.nm_types.specs.declared.scripts.Line as script_line;
 ghost use Rattle.nm_report.specs.Ends.{ends_of};
-ghost use Rattle.nm_check_ranks.specs.Tabled.{AreTabled};
+ghost use Rattle.nm_check.specs.Tabled.{AreTabled};
 ghost use Rattle.nm_breaks.specs.Miscounts.{AreCounted, IsFirstCounted};
 ghost use Rattle.nm_breaks.specs.Places.{events_in};
 
+use nm_check::rest::counts::{counts_due, first_miscount};
 use nm_check_rank::paired::tables::Tables;
-use nm_check_ranks::rest::counts::{counts_due, first_miscount};
 use nm_report::{PairCount, RankAccount};
 use nm_types::Memory;
 use std::alloc::Global;

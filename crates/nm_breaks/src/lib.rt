@@ -8,9 +8,9 @@
 //! says where the trace breaks the rule first, and what that rests on. For a rule of a rank's own run it is
 //! the first event at which that rank breaks any rule of its own run (`IsBreach` of `nm_check_rank`): the
 //! events before it keep all of them. For a rule between two ranks it is the first event of both, as their
-//! lines are read (`BreaksCarriedAt` of `nm_check_ranks`); for a rule of rest the first event that is left
+//! lines are read (`BreaksCarriedAt` of `nm_check`); for a rule of rest the first event that is left
 //! unfinished, or the first rank that stands where it may not (`specs/RestBreaks.antt` of
-//! `nm_check_ranks::rest`), or the first count of packets that is not the one called for. The cells
+//! `nm_check::rest`), or the first count of packets that is not the one called for. The cells
 //! and the end have the last two lines. `specs/Stops.antt` says what stops a text that is no trace.
 //! # What is proved
 //! - `find` tells the cases apart in their order: no room or no line `---`, no script before it, no trace

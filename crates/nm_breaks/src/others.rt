@@ -8,7 +8,7 @@ ghost use Rattle.nm_report.specs.Ends.{ends_of};
 ghost use Rattle.nm_history.specs.declared.events.Event as event;
 ghost use Rattle.nm_history.specs.declared.events.Happened.TheVariants.{Ran};
 ghost use Rattle.nm_history.specs.Quiescence.{history_of};
-ghost use Rattle.nm_check_ranks.specs.Tabled.{AreTabled, EachTabled};
+ghost use Rattle.nm_check.specs.Tabled.{AreTabled, EachTabled};
 ghost use Rattle.nm_lookups.specs.Firsts.{is_named as is_named_lem};
 ghost use Rattle.nm_breaks.specs.Others as spec;
 ghost use Rattle.nm_breaks.specs.Others.{IsHeldAgainst, IsOtherEvent, IsTakenBy};
@@ -17,8 +17,8 @@ ghost use Rattle.nm_breaks.specs.Others.{pair_shown};
 ghost use Rattle.nm_breaks.specs.Places.{events_in};
 
 use crate::places::{EventLine, event_at, events_of, told_at};
+use nm_check::firsts::Spot;
 use nm_check_rank::paired::tables::Tables;
-use nm_check_ranks::firsts::Spot;
 use nm_history::plain::Pair;
 use nm_history::{Event, Happened};
 use nm_lookups::firsts::{Kind, Message};

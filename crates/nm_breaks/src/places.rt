@@ -7,8 +7,8 @@ ghost use Rattle.nm_history.specs.Quiescence.{history_of};
 ghost use Rattle.nm_breaks.specs.Places as spec;
 ghost use Rattle.nm_breaks.specs.Places.{events_in, line_of};
 
+use nm_check::firsts::Spot;
 use nm_check_rank::breaks::Break;
-use nm_check_ranks::firsts::Spot;
 use nm_history::Event;
 use nm_report::RankAccount;
 

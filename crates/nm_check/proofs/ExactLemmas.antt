@@ -15,12 +15,12 @@ use Rattle.nm_report.specs.Lawful.{IsRunIn}
 use Rattle.nm_check_rank.specs.OwnClauses.{KeepsOwn}
 use Rattle.nm_check_rank.specs.declared.clauses.OwnClause.{OwnClause}
 use Rattle.nm_check_rank.specs.declared.clauses.OwnClause.TheVariants as own
-use Rattle.nm_check_ranks.specs.CarriedClauses.{KeepsCarried}
-use Rattle.nm_check_ranks.specs.declared.clauses.CarriedClause.{CarriedClause}
-use Rattle.nm_check_ranks.specs.declared.clauses.CarriedClause.TheVariants as carried
-use Rattle.nm_check_ranks.specs.RestClauses.{KeepsRest}
-use Rattle.nm_check_ranks.specs.declared.rest.clauses.RestClause.{RestClause}
-use Rattle.nm_check_ranks.specs.declared.rest.clauses.RestClause.TheVariants as rest
+use Rattle.nm_check.specs.CarriedClauses.{KeepsCarried}
+use Rattle.nm_check.specs.declared.clauses.CarriedClause.{CarriedClause}
+use Rattle.nm_check.specs.declared.clauses.CarriedClause.TheVariants as carried
+use Rattle.nm_check.specs.RestClauses.{KeepsRest}
+use Rattle.nm_check.specs.declared.rest.clauses.RestClause.{RestClause}
+use Rattle.nm_check.specs.declared.rest.clauses.RestClause.TheVariants as rest
 use Rattle.nm_check.specs.Verdicts.{Judges}
 use Rattle.nm_check.specs.declared.verdicts.Verdict.{Verdict}
 use Rattle.nm_check.specs.declared.verdicts.Verdict.TheVariants.{Holds, Own, Carried, Rest, Home, Done}

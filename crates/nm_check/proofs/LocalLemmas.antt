@@ -6,8 +6,8 @@ use Rattle.nm_types.specs.Sizes.{Sizes}
 use Rattle.nm_history.specs.Delivery.{ArriveInOrder}
 use Rattle.nm_history.specs.Quiescence.{EachPair, EachRank, Ended}
 use Rattle.nm_history.specs.Sends.{arrivals, sends}
-use Rattle.nm_check_ranks.specs.CarriedClauses.{PairDelivered}
-use Rattle.nm_check_ranks.specs.Marked.{KeepsLocal}
+use Rattle.nm_check.specs.CarriedClauses.{PairDelivered}
+use Rattle.nm_check.specs.Marked.{KeepsLocal}
 use Rattle.nm_check.specs.Verdicts.{RunsItsOwn}
 
 -- ranks that run their own commands are numbered, and their stamps rise

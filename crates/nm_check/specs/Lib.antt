@@ -1,5 +1,13 @@
 pub mod Answers
+pub mod Bytes
+pub mod CarriedBreaks
+pub mod CarriedClauses
+pub mod Counting
+pub mod Marked
 pub mod Ranked
+pub mod RestBreaks
+pub mod RestClauses
+pub mod Tabled
 pub mod Texts
 pub mod Trials
 pub mod Verdicts

@@ -5,9 +5,9 @@ use Rattle.nm_types.specs.Sizes.{Sizes}
 use Rattle.nm_history.specs.Quiescence.{EachRank, Ended}
 use Rattle.nm_report.specs.Ends.{ends_of}
 use Rattle.nm_report.specs.declared.records.RunRecord.{RunRecord}
-use Rattle.nm_check_ranks.specs.CarriedBreaks.{BreaksBetweenAt}
-use Rattle.nm_check_ranks.specs.RestBreaks.{BreaksThere, clause_of}
-use Rattle.nm_check_ranks.specs.Tabled.{EachTabled}
+use Rattle.nm_check.specs.CarriedBreaks.{BreaksBetweenAt}
+use Rattle.nm_check.specs.RestBreaks.{BreaksThere, clause_of}
+use Rattle.nm_check.specs.Tabled.{EachTabled}
 use Rattle.nm_check.specs.Verdicts.{IsBreachOf, BreaksOwn, Judges, RunsItsOwn}
 use Rattle.nm_check.specs.declared.judging.Tabled.{Tabled}
 use Rattle.nm_check.specs.declared.judging.Tabled.TheVariants as what

@@ -1,8 +1,8 @@
 -- What is said of a verdict, and of bytes that are no trace.
 use Rattle.std.specs.Prelude.{ℕ, List, ◌∷◌, ◌++◌, codes, decimal}
 use Rattle.nm_check_rank.specs.OwnClauses.{own_letter}
-use Rattle.nm_check_ranks.specs.CarriedClauses.{carried_letter}
-use Rattle.nm_check_ranks.specs.RestClauses.{rest_letter}
+use Rattle.nm_check.specs.CarriedClauses.{carried_letter}
+use Rattle.nm_check.specs.RestClauses.{rest_letter}
 use Rattle.nm_check.specs.declared.verdicts.Verdict.{Verdict}
 use Rattle.nm_check.specs.declared.verdicts.Verdict.TheVariants.{Holds, Own, Carried, Rest, Home, Done}
 

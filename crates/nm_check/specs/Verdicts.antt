@@ -16,10 +16,10 @@ use Rattle.nm_check_rank.specs.OwnBreaks.{IsBreach}
 use Rattle.nm_check_rank.specs.OwnClauses.{KeepsOwn, own_order}
 use Rattle.nm_check_rank.specs.declared.clauses.OwnClause.{OwnClause}
 use Rattle.nm_check_rank.specs.declared.paired.breaches.Breach.{Breach}
-use Rattle.nm_check_ranks.specs.CarriedClauses.{KeepsCarried, PairDelivered, StandsBefore, carried_order}
-use Rattle.nm_check_ranks.specs.declared.clauses.CarriedClause.{CarriedClause}
-use Rattle.nm_check_ranks.specs.RestClauses.{KeepsRest, rest_order}
-use Rattle.nm_check_ranks.specs.declared.rest.clauses.RestClause.{RestClause}
+use Rattle.nm_check.specs.CarriedClauses.{KeepsCarried, PairDelivered, StandsBefore, carried_order}
+use Rattle.nm_check.specs.declared.clauses.CarriedClause.{CarriedClause}
+use Rattle.nm_check.specs.RestClauses.{KeepsRest, rest_order}
+use Rattle.nm_check.specs.declared.rest.clauses.RestClause.{RestClause}
 use Rattle.nm_check.specs.declared.verdicts.Verdict.{Verdict}
 use Rattle.nm_check.specs.declared.verdicts.Verdict.TheVariants.{Holds, Own, Carried, Rest, Home, Done}
 

@@ -12,14 +12,14 @@ ghost use Rattle.nm_lookups.specs.Deciding.{Decides};
 ghost use Rattle.nm_check.specs.declared.verdicts.Verdict.TheVariants.{Holds};
 ghost use Rattle.nm_check.specs.Ranked.{IsTabled, verdict_of as verdict_of_lem};
 ghost use Rattle.nm_check.specs.Verdicts.{Judges, RunsItsOwn};
-ghost use Rattle.nm_check_ranks.specs.Tabled.{EachTabled};
+ghost use Rattle.nm_check.specs.Tabled.{EachTabled};
 
+use crate::between::{BrokenPair, first_pair};
+use crate::firsts::marks_of;
 use crate::ranking::{Ranked, judge_ranks};
+use crate::rest::resting::{RestBreak, first_of_rest};
 use crate::verdicts::Verdict;
 use nm_check_rank::paired::tables::Tables;
-use nm_check_ranks::between::{BrokenPair, first_pair};
-use nm_check_ranks::firsts::marks_of;
-use nm_check_ranks::rest::resting::{RestBreak, first_of_rest};
 use nm_report::{RankAccount, RunRecord};
 use nm_types::{Line, Memory, Script};
 use std::alloc::Global;

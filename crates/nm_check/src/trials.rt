@@ -25,18 +25,11 @@ pub enum Trial {
     /// The input is too long, or has no line `---`.
     NoTrace,
     /// The lines before it spell no script.
-    NoScript {
-        line: u32,
-        kind: Kind,
-    },
+    NoScript { line: u32, kind: Kind },
     /// The lines behind it are no trace: those up to this one, counted behind it from 1, begin none.
-    BadTrace {
-        line: u32,
-    },
+    BadTrace { line: u32 },
     /// What the record of the trace is judged to be.
-    Judged {
-        verdict: Verdict,
-    },
+    Judged { verdict: Verdict },
 }
 
 impl Trial {

@@ -3,9 +3,9 @@
 ghost use Rattle.std.specs.Prelude.{◌≡◌};
 ghost use Rattle.nm_check.specs.Answers.{verdict_status};
 
+use crate::clauses::CarriedClause;
+use crate::rest::clauses::RestClause;
 use nm_check_rank::clauses::OwnClause;
-use nm_check_ranks::clauses::CarriedClause;
-use nm_check_ranks::rest::clauses::RestClause;
 
 /// What a record is judged to be: a run, or one that breaks a rule. The rule is the first that is
 /// broken.

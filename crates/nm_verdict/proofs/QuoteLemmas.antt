@@ -1,7 +1,7 @@
 -- The lines that are told of a judgement.
 use Rattle.std.proofs.Common.{◌≡◌, ℕ, Option, None, refl}
 use Rattle.nm_check_rank.specs.declared.paired.dues.Due.{Due}
-use Rattle.nm_check_ranks.specs.declared.clauses.CarriedClause.{CarriedClause}
+use Rattle.nm_check.specs.declared.clauses.CarriedClause.{CarriedClause}
 use Rattle.nm_verdict.specs.Quotes.{other_line, place_line, quoted_line}
 use Rattle.nm_breaks.specs.declared.counts.Miscount.{Miscount}
 use Rattle.nm_breaks.specs.declared.judgements.Judgement.{Judgement}

@@ -6,12 +6,12 @@ use Rattle.nm_breaks.specs.declared.stops.Stop.{Stop}
 use Rattle.nm_breaks.specs.declared.stops.Stop.TheVariants as stop
 use Rattle.nm_check_rank.specs.declared.clauses.OwnClause.{OwnClause}
 use Rattle.nm_check_rank.specs.declared.clauses.OwnClause.TheVariants as own
-use Rattle.nm_check_ranks.specs.declared.clauses.CarriedClause.{CarriedClause}
-use Rattle.nm_check_ranks.specs.declared.clauses.CarriedClause.TheVariants as carried
-use Rattle.nm_check_ranks.specs.declared.rest.clauses.RestClause.{RestClause}
-use Rattle.nm_check_ranks.specs.declared.rest.clauses.RestClause.TheVariants as rest
-use Rattle.nm_check_ranks.specs.declared.rest.firsts.EventRule.{EventRule}
-use Rattle.nm_check_ranks.specs.declared.rest.firsts.EventRule.TheVariants as left
+use Rattle.nm_check.specs.declared.clauses.CarriedClause.{CarriedClause}
+use Rattle.nm_check.specs.declared.clauses.CarriedClause.TheVariants as carried
+use Rattle.nm_check.specs.declared.rest.clauses.RestClause.{RestClause}
+use Rattle.nm_check.specs.declared.rest.clauses.RestClause.TheVariants as rest
+use Rattle.nm_check.specs.declared.rest.firsts.EventRule.{EventRule}
+use Rattle.nm_check.specs.declared.rest.firsts.EventRule.TheVariants as left
 
 -- the rule of a rank's own run
 abbrev pub own_words : OwnClause → List ℕ

@@ -4,12 +4,12 @@ use Rattle.nm_history.specs.Quiescence.{Ended}
 use Rattle.nm_report.specs.Ends.{ends_of}
 use Rattle.nm_check_rank.specs.declared.clauses.OwnClause.{OwnClause}
 use Rattle.nm_check_rank.specs.declared.paired.dues.Due.{Due}
-use Rattle.nm_check_ranks.specs.RestBreaks.{rest_clause}
-use Rattle.nm_check_ranks.specs.declared.clauses.CarriedClause.{CarriedClause}
-use Rattle.nm_check_ranks.specs.declared.rest.clauses.RestClause.{RestClause}
-use Rattle.nm_check_ranks.specs.declared.rest.clauses.RestClause.TheVariants.{Waits, Counts}
-use Rattle.nm_check_ranks.specs.declared.rest.waits.Next.{Next}
-use Rattle.nm_check_ranks.specs.declared.rest.waits.Next.TheVariants as next
+use Rattle.nm_check.specs.RestBreaks.{rest_clause}
+use Rattle.nm_check.specs.declared.clauses.CarriedClause.{CarriedClause}
+use Rattle.nm_check.specs.declared.rest.clauses.RestClause.{RestClause}
+use Rattle.nm_check.specs.declared.rest.clauses.RestClause.TheVariants.{Waits, Counts}
+use Rattle.nm_check.specs.declared.rest.waits.Next.{Next}
+use Rattle.nm_check.specs.declared.rest.waits.Next.TheVariants as next
 use Rattle.nm_breaks.specs.declared.finding.Found.{Found}
 use Rattle.nm_breaks.specs.declared.finding.Found.TheVariants.{NoTrace, NoScript, BadTrace, Judged}
 use Rattle.nm_breaks.specs.declared.cells.CellCount.{CellCount}

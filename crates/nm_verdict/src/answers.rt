@@ -5,8 +5,7 @@ ghost use Rattle.nm_verdict.specs.Answers.{status_of, text_of};
 
 use crate::quotes::Quotes;
 use crate::texts::found_text;
-use nm_breaks::Found;
-use nm_breaks::found_status;
+use nm_breaks::{Found, found_status};
 use nm_shell::line;
 use std::alloc::{AllocError, Global};
 

@@ -4,8 +4,8 @@ ghost use Rattle.std.specs.Prelude.{◌≡◌};
 ghost use Rattle.nm_verdict.specs.Sentences as spec;
 
 use nm_breaks::Stop;
+use nm_check::rest::firsts::EventRule;
 use nm_check::{CarriedClause, OwnClause, RestClause};
-use nm_check_ranks::rest::firsts::EventRule;
 use nm_script::Kind;
 
 /// The rule of a rank's own run.

@@ -15,11 +15,11 @@ use crate::sentences::{carried_words, kind_words, left_words, own_words, rest_wo
 use nm_breaks::cells::CellCount;
 use nm_breaks::counts::Miscount;
 use nm_breaks::{EventLine, Found, Judgement, Stop};
+use nm_check::rest::firsts::EventRule;
+use nm_check::rest::resting::clause_of_rule;
+use nm_check::rest::waits::Next;
 use nm_check::{CarriedClause, OwnClause, RestClause};
 use nm_check_rank::paired::dues::Due;
-use nm_check_ranks::rest::firsts::EventRule;
-use nm_check_ranks::rest::resting::clause_of_rule;
-use nm_check_ranks::rest::waits::Next;
 use nm_report::RankAccount;
 use nm_types::Bytes;
 use std::alloc::{AllocError, Global};

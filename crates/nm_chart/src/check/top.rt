@@ -11,8 +11,8 @@ ghost use Rattle.nm_breaks.specs.Answers.{NotAsked};
 
 use crate::check::findings::{Finding, status, text};
 use crate::check::places::flag_of;
-use nm_breaks::{Found, find};
 use nm_breaks::words::asked;
+use nm_breaks::{Found, find};
 use nm_outside::{Sink, Source, Unread, read_up_to};
 use nm_script::command_line::CommandLine;
 use nm_shell::{MAX_INPUT, WANT_OF_MEMORY, deliver};

@@ -5,7 +5,7 @@ use Rattle.nm_history.specs.Quiescence.{Packets, packets_of as packets_due}
 use Rattle.nm_report.specs.declared.pairs.PairCount.{PairCount}
 use Rattle.nm_report.specs.Ends.{ends_of, packets_of}
 use Rattle.nm_check_rank.specs.Differ.{DifferFirstAt}
-use Rattle.nm_check_ranks.specs.Counting.{counted_pair}
+use Rattle.nm_check.specs.Counting.{counted_pair}
 use Rattle.nm_breaks.proofs.SpotLemmas.{each_short}
 use Rattle.nm_breaks.proofs.counts.first_counted.Goals as goal
 

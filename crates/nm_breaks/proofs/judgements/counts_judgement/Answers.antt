@@ -2,8 +2,8 @@ use Rattle.std.proofs.Common.{◌≡◌, ◌≤◌, ◌+◌, length, arith}
 use Rattle.std.proofs.lemmas.List.{length-map}
 use Rattle.nm_report.specs.Ends.{ends_of, packets_of}
 use Rattle.nm_check_rank.proofs.DifferLemmas.{differ_inside}
-use Rattle.nm_check_ranks.specs.Counting.{counted_pair}
-use Rattle.nm_check_ranks.specs.declared.rest.clauses.RestClause.TheVariants as rest
+use Rattle.nm_check.specs.Counting.{counted_pair}
+use Rattle.nm_check.specs.declared.rest.clauses.RestClause.TheVariants as rest
 use Rattle.nm_history.specs.Quiescence.{packets_of as packets_due}
 use Rattle.nm_breaks.specs.Miscounts.{AreCounted, IsFirstCounted}
 use Rattle.nm_breaks.specs.Places.{events_in}

@@ -5,8 +5,8 @@ use Rattle.nm_types.specs.Commands.{commands_of}
 use Rattle.nm_history.specs.Quiescence.{Ended}
 use Rattle.nm_report.specs.Ends.{end_of_account, ends_of}
 use Rattle.nm_report.proofs.EndLemmas.{end_at}
-use Rattle.nm_check_ranks.specs.RestBreaks.{IsNext}
-use Rattle.nm_check_ranks.proofs.TableLemmas.{table_inside, tables_at}
+use Rattle.nm_check.specs.RestBreaks.{IsNext}
+use Rattle.nm_check.proofs.TableLemmas.{table_inside, tables_at}
 use Rattle.nm_breaks.proofs.SpotLemmas.{many_ends, standing_known, waits_here}
 use Rattle.nm_breaks.proofs.judgements.standing_judgement.Goals as goal
 

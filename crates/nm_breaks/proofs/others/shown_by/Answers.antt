@@ -2,7 +2,7 @@ use Rattle.std.proofs.Common.{Option, ◌∙◌, ap}
 use Rattle.nm_history.specs.declared.plain.Pair.{Pair}
 use Rattle.nm_history.specs.Quiescence.{history_of}
 use Rattle.nm_report.specs.Ends.{ends_of}
-use Rattle.nm_check_ranks.proofs.TableLemmas.{table_inside}
+use Rattle.nm_check.proofs.TableLemmas.{table_inside}
 use Rattle.nm_breaks.specs.Others.{sent_held}
 use Rattle.nm_breaks.proofs.OtherLemmas.{tables_here}
 use Rattle.nm_breaks.proofs.others.shown_by.Goals as goal

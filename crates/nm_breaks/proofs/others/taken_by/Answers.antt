@@ -2,7 +2,7 @@ use Rattle.std.proofs.Common.{ℕ, Option, subst}
 use Rattle.nm_report.specs.Ends.{ends_of}
 use Rattle.nm_check_rank.specs.Takes.{IsTakenAt}
 use Rattle.nm_history.specs.Quiescence.{history_of}
-use Rattle.nm_check_ranks.proofs.TableLemmas.{table_inside}
+use Rattle.nm_check.proofs.TableLemmas.{table_inside}
 use Rattle.nm_breaks.proofs.OtherLemmas.{tables_here}
 use Rattle.nm_breaks.proofs.others.taken_by.Goals as goal
 

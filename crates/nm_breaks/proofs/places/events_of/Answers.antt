@@ -1,6 +1,6 @@
 use Rattle.std.proofs.Common.{sym, ◌∙◌, ap, arith}
 use Rattle.nm_report.specs.declared.accounts.RankAccount.{RankAccount}
-use Rattle.nm_check_ranks.proofs.TableLemmas.{history_at, no_history}
+use Rattle.nm_check.proofs.TableLemmas.{history_at, no_history}
 use Rattle.nm_breaks.proofs.places.events_of.Goals as goal
 
 pub returns-then-i-ranks : goal.returns-then-i-ranks

@@ -2,9 +2,9 @@ use Rattle.std.proofs.Common.{◌≡◌, length, ◌∙◌}
 use Rattle.std.proofs.lemmas.List.{length-map}
 use Rattle.nm_history.specs.Quiescence.{AreQuiescent, EachPair}
 use Rattle.nm_report.specs.Ends.{end_of_account, ends_of, packets_of}
-use Rattle.nm_check_ranks.specs.CarriedClauses.{PairDelivered}
-use Rattle.nm_check_ranks.specs.Marked.{BreaksPair, EachMarked}
-use Rattle.nm_check_ranks.specs.RestBreaks.{IsRestBreak}
+use Rattle.nm_check.specs.CarriedClauses.{PairDelivered}
+use Rattle.nm_check.specs.Marked.{BreaksPair, EachMarked}
+use Rattle.nm_check.specs.RestBreaks.{IsRestBreak}
 use Rattle.nm_check.proofs.LocalLemmas.{are_local, are_ordered}
 use Rattle.nm_check.proofs.judging.judge_tabled.Goals as goal
 

@@ -9,10 +9,10 @@ use Rattle.nm_check_rank.specs.FirstBroken.{IsFirstBroken}
 use Rattle.nm_check_rank.specs.OwnBreaks.{IsBreach}
 use Rattle.nm_check_rank.specs.OwnClauses.{KeepsOwn, own_order}
 use Rattle.nm_check.specs.Verdicts.{RunsItsOwn}
-use Rattle.nm_check_ranks.proofs.ItemLemmas.{EachItem, no_item, one_more}
-use Rattle.nm_check_ranks.proofs.RankLemmas.{all_ranks, below, next_rank, none_yet}
+use Rattle.nm_check.proofs.ItemLemmas.{EachItem, no_item, one_more}
+use Rattle.nm_check.proofs.RankLemmas.{all_ranks, below, next_rank, none_yet}
 use Rattle.nm_check.proofs.RankedLemmas.{of_end}
-use Rattle.nm_check_ranks.proofs.TableLemmas.{TabledAt}
+use Rattle.nm_check.proofs.TableLemmas.{TabledAt}
 use Rattle.nm_check.proofs.ranking.judge_ranks.Goals as goal
 
 pub returns-in-Breaks : goal.returns-in-Breaks

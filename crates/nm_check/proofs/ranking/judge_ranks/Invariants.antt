@@ -1,9 +1,9 @@
 use Rattle.std.proofs.Common.{◌≡◌, length}
 use Rattle.nm_report.specs.Ends.{ends_of}
 use Rattle.nm_check.specs.Verdicts.{RunsItsOwn}
-use Rattle.nm_check_ranks.proofs.ItemLemmas.{EachItem}
-use Rattle.nm_check_ranks.proofs.RankLemmas.{UpTo}
-use Rattle.nm_check_ranks.proofs.TableLemmas.{TabledAt}
+use Rattle.nm_check.proofs.ItemLemmas.{EachItem}
+use Rattle.nm_check.proofs.RankLemmas.{UpTo}
+use Rattle.nm_check.proofs.TableLemmas.{TabledAt}
 use Rattle.nm_check.proofs.ranking.judge_ranks.Given as goal
 
 -- the ranks so far run their own commands, and these are their tables

@@ -1,9 +1,0 @@
-use Rattle.nm_check_ranks.specs.declared.firsts.Part.TheVariants.{Arrivals, Bodies, Outs, Withdrawals, Answers}
-use Rattle.nm_check_ranks.proofs.firsts.marks_at.Goals as goal
-
-pub returns : goal.returns
-returns c Arrivals = c.first_places.ensures
-returns c Bodies = c.first_places-2.ensures
-returns c Outs = c.first_places-3.ensures
-returns c Withdrawals = c.first_places-4.ensures
-returns c Answers = c.first_places-5.ensures
