@@ -30,7 +30,6 @@ mod threads;
 mod turns;
 
 pub use calls::{Call, CallLog, Entry, Reply};
-pub use desks::Desk;
 pub use texts::text;
 pub use threads::multi;
-pub use turns::{MAX_ROUNDS, MAX_THREADS, Turns};
+pub use turns::{MAX_ROUNDS, MAX_THREADS};

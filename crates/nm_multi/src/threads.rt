@@ -8,7 +8,8 @@ ghost use Rattle.nm_multi.specs.Programs.{AllStayMade, AreOf, HasMadeAll, IsWhol
 ghost use Rattle.nm_multi.specs.Programs.{one_rank as one_rank_lem};
 ghost use Rattle.nm_multi.specs.Text.{bytes_got};
 
-use crate::{CallLog, Reply, Turns};
+use crate::turns::Turns;
+use crate::{CallLog, Reply};
 use nm_outside::Gate;
 use nm_types::{Memory, Shape};
 use std::alloc::Global;

@@ -9,7 +9,8 @@ ghost use Rattle.nm_multi.specs.Programs.{progress_after};
 ghost use Rattle.nm_multi.specs.Programs.{finish_or_pump as finish_or_pump_lem, next_call as next_call_lem};
 ghost use Rattle.nm_multi.specs.Programs.{request_in as request_in_lem};
 
-use crate::{Call, CallLog, Desk, Reply};
+use crate::desks::Desk;
+use crate::{Call, CallLog, Reply};
 use nm_rank::Req;
 use nm_types::{Body, Memory, Shape};
 use std::alloc::Global;
