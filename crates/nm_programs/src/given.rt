@@ -153,6 +153,18 @@ impl<P: Program> Given<P> {
     }
 }
 
+// Whether there is no command, or one that may run after so many.
+fn is_next(command: &Option<Command>, ranks: u8, at: u64) -> bool
+    ensures runs { result ≡ true → IfSome command.now (λ x. (is_in_range ranks x ≡ true)
+        × (at < 18446744073709551610)) }
+    ensures never { result ≡ false → IsSome command.now × IfSome command.now (NeverRuns ranks at) }
+{
+    match command {
+        Some(command) => may_run(command, ranks, at),
+        None => true,
+    }
+}
+
 // A command that may run after so many, or one that never runs.
 fn sorted(command: Option<Command>, ranks: u8, at: u64) -> (Option<Command>, Option<Command>)
     ensures runs { IfSome result.0 (λ x. (is_in_range ranks x ≡ true) × (at < 18446744073709551610)
@@ -180,11 +192,28 @@ fn note(given: &mut Trace<Command>, next: &Option<Command>)
     }
 }
 
-// Puts this in the place of what was there.
-fn put(place: &mut Option<Command>, command: Option<Command>)
-    ensures { place.new ≡ command }
+// Puts a command in the place of the next one if it may run after so many, and else in that of one that never runs.
+#[inline(always)]
+fn sort(
+    command: Option<Command>,
+    ranks: u8,
+    at: u64,
+    next: &mut Option<Command>,
+    stray: &mut Option<Command>,
+)
+    ensures runs { IfSome next.new (λ x. (is_in_range ranks x ≡ true) × (at < 18446744073709551610)
+        × (stray.new ≡ None)) }
+    ensures never { IfSome stray.new (NeverRuns ranks at) }
+    ensures same { (option_or stray.new next.new ≡ command)
+        × (option_to_list next.new ++ option_to_list stray.new ≡ option_to_list command) }
 {
-    *place = command;
+    if is_next(&command, ranks, at) {
+        *next = command;
+        *stray = None;
+    } else {
+        *next = None;
+        *stray = command;
+    }
 }
 
 impl<P: Program> Source for Given<P> {
@@ -216,10 +245,14 @@ impl<P: Program> Source for Given<P> {
         };
         self.told = told;
         self.at += 1;
-        let (next, stray) = sorted(command, self.ranks, self.at);
-        note(&mut self.given, &next);
-        put(&mut self.next, next);
-        put(&mut self.stray, stray);
+        sort(
+            command,
+            self.ranks,
+            self.at,
+            &mut self.next,
+            &mut self.stray,
+        );
+        note(&mut self.given, &self.next);
         Ok(())
     }
 }

@@ -1,10 +1,10 @@
 -- What a program gives next stands behind what it gave.
-use Rattle.std.proofs.Common.{◌≡◌, ◌+◌, ◌<◌, ◌++◌, true, arith, Option, Some, None, List, refl, sym, ap, ◌∙◌, subst}
+use Rattle.std.proofs.Common.{◌≡◌, ◌+◌, ◌<◌, ◌++◌, true, arith, Option, Some, None, List, refl, sym, subst}
 use Rattle.std.specs.Prelude.{IfSome, IsSome, option_to_list}
 use Rattle.std.specs.Option.{option_or}
 use Rattle.nm_types.specs.Limits.{is_in_range}
 use Rattle.nm_types.specs.declared.scripts.Command.{Command}
-use Rattle.nm_process.specs.Playing.{AllInRange, GivenView, IsCounted, NeverRuns, gives_on}
+use Rattle.nm_process.specs.Playing.{AllInRange, GivenView, IsCounted, gives_on}
 use Rattle.nm_process.specs.Sources.{PassedOn}
 use Rattle.nm_process.proofs.PlayLemmas.{counted_more, counted_some, in_range_more, passed_given, played_more, some_given}
 use Rattle.nm_programs.proofs.given.GivenSource.pass.Goals as goal
@@ -18,8 +18,8 @@ returns-clause-some g c = some_given (record {
   ranks = c.self.inside.ranks;
   start = c.self.inside.start.items;
   program = c.next.new.self;
-  next = c.put.new.place;
-  stray = c.put-2.new.place;
+  next = c.sort.new.next;
+  stray = c.sort.new.stray;
   at = c.self.inside.at + 1;
   given = c.note.new.given.items;
   told = c.then-told.result.items;
@@ -43,16 +43,15 @@ returns-clause-gives g c commands last given =
       ranks = c.self.inside.ranks;
       start = c.self.inside.start.items;
       program = c.next.new.self;
-      next = c.put.new.place;
-      stray = c.put-2.new.place;
+      next = c.sort.new.next;
+      stray = c.sort.new.stray;
       at = c.self.inside.at + 1;
       given = c.note.new.given.items;
       told = c.then-told.result.items;
       failed = c.self.inside.failed;
     } in
     let some = is_some v.next (subst (λ (u : GivenView _). IsSome u.next) (sym c.self.view_is) c.requires.next) in
-    let more : w.given ≡ v.given ++ option_to_list w.next = c.note.ensures
-    ∙ ap (λ (o : Option Command). v.given ++ option_to_list o) (sym c.put.ensures) in
+    let more : w.given ≡ v.given ++ option_to_list w.next = c.note.ensures in
     subst (λ (u : GivenView _). PassedOn (gives_on u) commands u.at last) c.self.view_is
     (passed_given v w some.0 some.1 c.self.invariant.0 refl more commands last given)
 
@@ -73,8 +72,8 @@ invariant_of-self-2 g c =
       ranks = c.self.inside.ranks;
       start = c.self.inside.start.items;
       program = c.next.new.self;
-      next = c.put.new.place;
-      stray = c.put-2.new.place;
+      next = c.sort.new.next;
+      stray = c.sort.new.stray;
       at = c.self.inside.at + 1;
       given = c.note.new.given.items;
       told = c.then-told.result.items;
@@ -83,29 +82,17 @@ invariant_of-self-2 g c =
     let some = is_some v.next (subst (λ (u : GivenView _). IsSome u.next) (sym c.self.view_is) c.requires.next) in
     let low = subst (λ (o : Option Command). IfSome o (λ x. (is_in_range v.ranks x ≡ true) × (v.at < 18446744073709551610)
     × (v.stray ≡ None))) some.1 c.self.invariant.2 in
-    let more : w.given ≡ v.given ++ option_to_list w.next = c.note.ensures
-    ∙ ap (λ (o : Option Command). v.given ++ option_to_list o) (sym c.put.ensures) in
+    let more : w.given ≡ v.given ++ option_to_list w.next = c.note.ensures in
     let many = counted_some v.given v.next some.0 v.at some.1 c.self.invariant.0 in
     let room = low.1 in
-    let next = c.put.ensures in
-    let stray = c.put-2.ensures in
-    let last : option_or w.stray w.next ≡ c.in-Ok.command =
-    ap (λ (o : Option Command). option_or o w.next) stray
-    ∙ ap (λ (o : Option Command). option_or c.sorted-next.result.1 o) next ∙ c.sorted-next.ensures.same.0 in
-    let all : option_to_list w.next ++ option_to_list w.stray ≡ option_to_list c.in-Ok.command =
-    ap (λ (o : Option Command). option_to_list o ++ option_to_list w.stray) next
-    ∙ ap (λ (o : Option Command). option_to_list c.sorted-next.result.0 ++ option_to_list o) stray
-    ∙ c.sorted-next.ensures.same.1 in (
+    let last : option_or w.stray w.next ≡ c.in-Ok.command = c.sort.ensures.same.0 in
+    let all : option_to_list w.next ++ option_to_list w.stray ≡ option_to_list c.in-Ok.command = c.sort.ensures.same.1 in (
       subst (λ (xs : List Command). IsCounted xs w.next w.at) (sym more) (counted_more v.given w.next v.at many),
       omega (arith, room),
-      subst (λ (o : Option Command). IfSome o (λ x. (is_in_range w.ranks x ≡ true) × (w.at < 18446744073709551610)
-          × (w.stray ≡ None))) (sym next)
-          (subst (λ (s : Option Command). IfSome c.sorted-next.result.0 (λ x. (is_in_range w.ranks x ≡ true)
-          × (w.at < 18446744073709551610) × (s ≡ None))) (sym stray) c.sorted-next.ensures.runs),
+      c.sort.ensures.runs,
       λ works. played_more g.P.Program.says v w some.0 c.args.answer.now c.in-Ok.command (c.self.invariant.3 works)
           some.1 low.2 c.in-Ok.ensures.said refl c.then-told.ensures more last all,
-      subst (λ (o : Option Command). IfSome o (NeverRuns w.ranks w.at)) (sym stray) c.sorted-next.ensures.never,
+      c.sort.ensures.never,
       subst (λ (xs : List Command). AllInRange w.ranks xs) (sym c.note.ensures)
-          (in_range_more w.ranks w.at c.sorted-next.result.1 v.given c.sorted-next.result.0 c.self.invariant.5
-          c.sorted-next.ensures.runs),
+          (in_range_more w.ranks w.at w.stray v.given w.next c.self.invariant.5 c.sort.ensures.runs),
     )
