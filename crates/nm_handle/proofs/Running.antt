@@ -1,8 +1,7 @@
 -- A call that ran.
-use Rattle.std.proofs.Common.{◌≡◌, ℕ, ◌+◌, List, sym, ap, subst, ◌∙◌, map}
+use Rattle.std.proofs.Common.{ℕ, ◌+◌, List, sym, ap, subst, ◌∙◌, map}
 use Rattle.nm_types.specs.Commands.{Numbered}
 use Rattle.nm_types.specs.Sizes.{Sizes}
-use Rattle.nm_types.specs.declared.packets.Packet.{Packet}
 use Rattle.nm_history.specs.Known.{Taken}
 use Rattle.nm_history.specs.Pieces.{Pulled}
 use Rattle.nm_cells.specs.Ports.{knows, taken_by}

@@ -1,5 +1,6 @@
 -- The end of a world that its callers drove.
-use Rattle.std.specs.Prelude.{◌≡◌, ◌⊎◌, ℕ, ◌*◌, Bool, List, [], ◌∷◌, map, unwrap_or}
+use Rattle.std.specs.Prelude.{◌≡◌, ◌⊎◌, ℕ, ◌*◌, Bool, true, List, [], ◌∷◌, map, unwrap_or}
+use Rattle.std.specs.Arc.{arc_value}
 use Rattle.std.specs.List.{AllZip, slice_get}
 use Rattle.nm_types.specs.declared.answers.Account.{Account}
 use Rattle.nm_types.specs.declared.packets.Packet.{Packet}
@@ -14,6 +15,7 @@ use Rattle.nm_report.specs.Ends.{are_done, packets_of}
 use Rattle.nm_process.specs.Playing.{all_numbered}
 use Rattle.nm_world.specs.declared.players.Player.{Player}
 use Rattle.nm_world.specs.declared.whole.Rested.{Rested}
+use Rattle.nm_world.specs.Actors.{did}
 use Rattle.nm_world.specs.Players.{AreGiven}
 use Rattle.nm_world.specs.Records.{ended_from, ends_by}
 use Rattle.nm_world.specs.Runs.{AllAgree, IsWholeOf, SomeMoves}
@@ -22,7 +24,7 @@ use Rattle.nm_handle.specs.declared.ends.Unended.{Unended}
 use Rattle.nm_handle.specs.declared.ends.Unended.TheVariants as unended
 use Rattle.nm_handle.specs.declared.handles.Handle.{Handle}
 use Rattle.nm_handle.specs.declared.states.State.TheVariants as state
-use Rattle.nm_handle.specs.Standing.{calls_of, process_of}
+use Rattle.nm_handle.specs.Standing.{HasTurned, calls_of, process_of}
 
 -- the calls of each of these ranks as its commands, the k-th one, from 0, with line k + 2
 abbrev pub calls_by_rank : List Handle → ℕ → List Numbered
@@ -80,3 +82,15 @@ abbrev pub IsWhy : List Handle → Unended → Type 0
 IsWhy handles unended.Failed = SomeFailed handles
 IsWhy handles unended.Moves = AreUnderWay (map (λ h. h.player) handles)
 IsWhy handles _ = Unit {0}
+
+-- a turn was made that did something
+pub record HasMoved (a b : Handle) : Type 0 where
+  pub turned : HasTurned a b
+  pub moved : did (arc_value a.fabric).ranks a.player.actor b.player.actor ≡ true
+
+-- why a rank is not at rest at its place, and what was done to it
+abbrev pub IsRestless : Handle → Handle → Unended → Type 0
+IsRestless a b unended.Failed = (a.state ≡ state.Failed) × (b ≡ a)
+IsRestless a b unended.Moves = HasMoved a b
+IsRestless a b unended.Shared = HasTurned a b
+IsRestless a b unended.Memory = Unit {0}

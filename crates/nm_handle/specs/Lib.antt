@@ -1,3 +1,4 @@
 pub mod Ends
+pub mod Live
 pub mod Standing
 pub mod Worlds

@@ -1,6 +1,6 @@
 //! The end of a world, once all of its ranks are back in one hand.
 
-ghost use Rattle.std.specs.Prelude.{◌≡◌, ◌<◌, ◌*◌, ◌∷◌, [], List, length, map, IfErr, IfOk};
+ghost use Rattle.std.specs.Prelude.{◌≡◌, ◌⊎◌, ◌<◌, ◌*◌, ◌∷◌, [], List, length, map, IfErr, IfOk};
 ghost use Rattle.std.specs.Arc.{arc_value};
 ghost use Rattle.std.specs.List.{AllByRecursion};
 ghost use Rattle.nm_types.specs.declared.packets.Packet.{Packet};
@@ -11,16 +11,17 @@ ghost use Rattle.nm_process.specs.Playing.{AllInRange};
 ghost use Rattle.nm_world.specs.Players.{PlayerInvariant};
 ghost use Rattle.nm_world.specs.Runs.{InPlace};
 ghost use Rattle.nm_calls.specs.Calling.{ahead, gave, shown};
-ghost use Rattle.nm_handle.specs.Ends.{AreClosed, HaveRun, IsWhy, KeepsOpen};
+ghost use Rattle.nm_world.specs.Actors.{did, seat_of};
+ghost use Rattle.nm_handle.specs.Ends.{AreClosed, HaveRun, IsRestless, IsWhy, KeepsOpen};
 ghost use Rattle.nm_handle.specs.declared.ends.Unended.TheVariants as unended;
 ghost use Rattle.nm_handle.specs.declared.states.State.TheVariants as state_is;
-ghost use Rattle.nm_handle.specs.Standing.{Stands};
+ghost use Rattle.nm_handle.specs.Standing.{HasTurned, Stands, process_of};
 ghost use Rattle.nm_handle.specs.Worlds.{AreRanksFrom, AreWorld};
 
 use crate::handles::Handle;
 use crate::states::State;
 use crate::worlds::{Shared, add};
-use nm_calls::Calls;
+use nm_calls::{Calls, Fault};
 use nm_rank::journal::Erased;
 use nm_types::{Account, Memory, Shape};
 use nm_world::{Player, Rested, Ways, are_at_rest, close_at_rest};
@@ -60,16 +61,58 @@ pub struct Ended {
     pub ways: Ways,
 }
 
+// A turn of a rank: whether it did anything.
+fn turn(handle: &mut Handle) -> Result<bool, Unended>
+    requires stands { Stands handle.old }
+    ensures kept { Stands handle.new }
+    ensures turned { IfOk result (λ _. HasTurned handle.old handle.new) }
+    ensures moved { IfOk result (λ moved.
+        moved ≡ did (arc_value handle.old.fabric).ranks handle.old.player.actor handle.new.player.actor) }
+    ensures why { IfErr result (IsRestless handle.old handle.new) }
+{
+    match handle.progress() {
+        Ok(moved) => Ok(moved),
+        Err(Fault::Failed) => Err(Unended::Failed),
+        Err(_) => Err(Unended::Memory),
+    }
+}
+
+// Finds that a rank after a turn is at this place of the world that shares this.
+fn check_place(handle: &Handle, place: usize, shared: &Shared) -> Result<(), Unended>
+    ensures placed { IfOk result (λ _. (process_of handle.now).rank.me ≡ place) }
+    ensures err { IfErr result (λ e. (e ≡ unended.Shared) ⊎ (e ≡ unended.Memory)) }
+{
+    let here = handle.me() as usize == place && handle.is_in(shared)?;
+    if here { Ok(()) } else { Err(Unended::Shared) }
+}
+
+/// Makes a turn of the rank that is to be at this place of the world that shares this, and finds that it did nothing.
+///
+/// That it is of this world no clause says. It is asked for by what is shared, so long as nobody else takes or gives
+/// back a share.
+pub fn rest(handle: &mut Handle, place: usize, shared: &Shared) -> Result<(), Unended>
+    requires stands { Stands handle.old }
+    ensures kept { Stands handle.new }
+    ensures turned { IfOk result (λ _. HasTurned handle.old handle.new) }
+    ensures placed { IfOk result (λ _. (seat_of handle.new.player.actor).rank ≡ place) }
+    ensures why { IfErr result (IsRestless handle.old handle.new) }
+{
+    let moved = turn(handle)?;
+    if moved {
+        Err(Unended::Moves)
+    } else {
+        check_place(handle, place, shared)
+    }
+}
+
 // What the ranks of a world share.
 fn shared_of(handles: &[Handle]) -> Result<Shared, Memory>
     requires some { 0 < length handles.now }
     ensures same { IfOk result (λ s. (shape : Sizes) (f : Fabric Packet) (r : Rings) →
         AreRanksFrom shape f r 0 handles.now → (arc_value s.fabric ≡ f) × (arc_value s.rings ≡ r)) }
 {
-    let first = &handles[0];
-    let fabric = Arc::try_clone(&first.fabric)?;
-    let rings = Arc::try_clone(&first.rings)?;
-    Ok(Shared { fabric, rings })
+    let shared = handles[0].share()?;
+    Ok(shared)
 }
 
 // The player of a rank that has not failed.

@@ -1,13 +1,18 @@
 //! A rank that its caller drives.
 
+ghost use Rattle.std.specs.Prelude.{◌≡◌, option_map};
+ghost use Rattle.nm_handle.specs.Live.{live_after as live_after_lem, live_by as live_by_lem};
+ghost use Rattle.nm_handle.specs.Live.{live_called as live_called_lem, live_turned as live_turned_lem};
+
 use crate::states::State;
 use crate::steps::{put, run, turn};
+use crate::worlds::Shared;
 use nm_calls::{Calls, Fault, check_range};
 use nm_copyring::Rings;
 use nm_port::Fabric;
 use nm_process::Step;
 use nm_rank::journal::Erased;
-use nm_types::{Answer, Command, Packet};
+use nm_types::{Answer, Command, Memory, Packet, Shape};
 use nm_world::Player;
 use std::alloc::Global;
 use std::sync::Arc;
@@ -17,6 +22,7 @@ pub struct Handle {
     pub(crate) fabric: Arc<Fabric<Packet>, Global>,
     pub(crate) rings: Arc<Rings, Global>,
     pub(crate) player: Player<Calls, Erased>,
+    pub(crate) shape: Shape,
     pub(crate) state: State,
     // how many requests are live
     pub(crate) live: u32,
@@ -28,6 +34,7 @@ impl Drop for Handle {
             fabric: _,
             rings: _,
             player: _,
+            shape: _,
             state: _,
             live: _,
         } = self;
@@ -35,23 +42,54 @@ impl Drop for Handle {
 }
 
 // How many requests are live after an answer, where so many were before.
-fn live_after(answer: Option<&Answer>, live: u32) -> u32 {
+fn live_by(answer: &Answer, live: u32) -> u32
+    ensures { result ≡ live_by_lem answer.now live }
+{
     match answer {
-        Some(Answer::Started) => live.saturating_add(1),
-        Some(Answer::Sent) => live.saturating_sub(1),
-        Some(Answer::Got { .. }) => live.saturating_sub(1),
-        Some(Answer::Cut { .. }) => live.saturating_sub(1),
-        Some(Answer::Cancelled) => live.saturating_sub(1),
-        _ => live,
+        Answer::Started => live.saturating_add(1),
+        Answer::Sent => live.saturating_sub(1),
+        Answer::Got { .. } => live.saturating_sub(1),
+        Answer::Cut { .. } => live.saturating_sub(1),
+        Answer::Cancelled => live.saturating_sub(1),
+        Answer::Busy => live,
+        Answer::Null => live,
+        Answer::No => live,
+        Answer::Nothing => live,
+        Answer::Seen(_) => live,
+        Answer::Done => live,
+        Answer::Late => live,
+        Answer::Asked => live,
+    }
+}
+
+// So it is where a command ran.
+fn live_after(answer: Option<&Answer>, live: u32) -> u32
+    ensures { result ≡ live_after_lem (option_map (λ a. a.now) answer.entry) live }
+{
+    match answer {
+        Some(answer) => live_by(answer, live),
+        None => live,
+    }
+}
+
+// So it is after a call that came to this.
+fn live_called(step: Step, answer: Option<&Answer>, live: u32) -> u32
+    ensures { result ≡ live_called_lem step (option_map (λ a. a.now) answer.entry) live }
+{
+    match step {
+        Step::Ran => live_after(answer, live),
+        Step::Waits => live,
     }
 }
 
 // So it is after a turn, before and after which a command was ahead, or none was.
-fn live_later(waited: bool, waits: bool, answer: Option<&Answer>, live: u32) -> u32 {
-    if waited && !waits {
-        live_after(answer, live)
-    } else {
-        live
+fn live_turned(waited: bool, waits: bool, answer: Option<&Answer>, live: u32) -> u32
+    ensures { result ≡ live_turned_lem waited waits (option_map (λ a. a.now) answer.entry) live }
+{
+    match (waited, waits) {
+        (true, false) => live_after(answer, live),
+        (true, true) => live,
+        (false, _) => live,
     }
 }
 
@@ -65,6 +103,7 @@ impl Handle {
     ghost use Rattle.nm_process.specs.LastAnswer.{last_answer};
     ghost use Rattle.nm_world.specs.Actors.{did};
     ghost use Rattle.nm_world.specs.Players.{PlayerInvariant};
+    ghost use Rattle.nm_handle.specs.Live.{has_to_send as has_to_send_lem};
     ghost use Rattle.nm_handle.specs.Standing.{HasCalled, HasGiven, HasTurned, IsCause, Stands, calls_of, process_of};
     ghost use Rattle.nm_handle.specs.declared.states.State.TheVariants as state_is;
 
@@ -82,6 +121,30 @@ impl Handle {
         self.player.source.ranks()
     }
 
+    /// The shape of its world.
+    pub fn shape(&self) -> Shape
+        ensures { result ≡ self.now.shape }
+    {
+        self.shape
+    }
+
+    /// One share more in what the ranks of its world share.
+    pub fn share(&self) -> Result<Shared, Memory>
+        ensures { IfOk result (λ s. (arc_value s.fabric ≡ arc_value self.now.fabric)
+            × (arc_value s.rings ≡ arc_value self.now.rings)) }
+    {
+        let fabric = Arc::try_clone(&self.fabric)?;
+        let rings = Arc::try_clone(&self.rings)?;
+        Ok(Shared { fabric, rings })
+    }
+
+    // Whether this is shared in its world: then one share more of its own is one more there. No clause counts them.
+    pub(crate) fn is_in(&self, shared: &Shared) -> Result<bool, Memory> {
+        let before = Arc::strong_count(&shared.fabric);
+        let _own = Arc::try_clone(&self.fabric)?;
+        Ok(Arc::strong_count(&shared.fabric) > before)
+    }
+
     /// Whether it takes calls.
     pub fn state(&self) -> State
         ensures { result ≡ self.now.state }
@@ -89,13 +152,17 @@ impl Handle {
         self.state
     }
 
-    /// How many of its requests are live. No clause counts them.
-    pub fn live(&self) -> u32 {
+    /// How many of its requests are live: one more where a call started one, one less where its result was given.
+    pub fn live(&self) -> u32
+        ensures { result ≡ self.now.live }
+    {
         self.live
     }
 
     /// Whether packets or bytes of its messages are still to be sent.
-    pub fn has_to_send(&self) -> bool {
+    pub fn has_to_send(&self) -> bool
+        ensures { result ≡ has_to_send_lem self.now }
+    {
         let rank = self.player.actor.process.rank();
         rank.front_to().is_some() || rank.has_piece()
     }
@@ -205,7 +272,7 @@ impl Handle {
         self.state = State::Failed;
         let step = run(&mut self.player, &self.fabric, &self.rings, command, line)?;
         self.state = State::Open;
-        let live = live_after(self.answer(), self.live);
+        let live = live_called(step, self.answer(), self.live);
         self.live = live;
         Ok(step)
     }
@@ -242,7 +309,7 @@ impl Handle {
         let moved = turn(&mut self.player, &self.fabric, &self.rings)?;
         self.state = state;
         let waits = self.player.source.waits();
-        let live = live_later(waited, waits, self.answer(), self.live);
+        let live = live_turned(waited, waits, self.answer(), self.live);
         self.live = live;
         Ok(moved)
     }
@@ -276,6 +343,7 @@ impl Handle {
             fabric: _,
             rings: _,
             player,
+            shape: _,
             state,
             live: _,
         } = self;

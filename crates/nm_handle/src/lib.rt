@@ -28,7 +28,7 @@ mod states;
 mod steps;
 mod worlds;
 
-pub use ends::{Ended, Unended, end};
+pub use ends::{Ended, Unended, end, rest};
 pub use handles::Handle;
 pub use states::State;
-pub use worlds::world;
+pub use worlds::{Shared, world};

@@ -21,9 +21,9 @@ use nm_world::Player;
 use std::alloc::Global;
 use std::sync::Arc;
 
-// What all ranks of a world share.
+/// What all ranks of a world share.
 #[derive(Drop)]
-pub(crate) struct Shared {
+pub struct Shared {
     pub(crate) fabric: Arc<Fabric<Packet>, Global>,
     pub(crate) rings: Arc<Rings, Global>,
 }
@@ -63,6 +63,7 @@ fn handle_of(
         fabric,
         rings,
         player,
+        shape,
         state: State::Open,
         live: 0,
     })

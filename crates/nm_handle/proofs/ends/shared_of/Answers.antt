@@ -1,5 +1,5 @@
 -- The first rank tells.
-use Rattle.std.proofs.Common.{get_or, ap, ◌∙◌}
+use Rattle.std.proofs.Common.{ap, ◌∙◌}
 use Rattle.std.specs.Arc.{arc_value}
 use Rattle.nm_handle.specs.declared.handles.Handle.{Handle}
 use Rattle.nm_handle.proofs.Ending.{first_ranked}
@@ -11,7 +11,7 @@ returns c = record {
       let h = c.index-handles-0.result in
       let one = first_ranked shape f r c.args.handles.now h c.requires.some each in
       let is = c.index-handles-0.is in (
-        c.in_ok-fabric.ensures ∙ ap (λ (x : Handle). arc_value x.fabric) is ∙ one.fabric,
-        c.in_ok-rings.ensures ∙ ap (λ (x : Handle). arc_value x.rings) is ∙ one.rings,
+        c.in_ok-shared.ensures.0 ∙ ap (λ (x : Handle). arc_value x.fabric) is ∙ one.fabric,
+        c.in_ok-shared.ensures.1 ∙ ap (λ (x : Handle). arc_value x.rings) is ∙ one.rings,
       );
 }

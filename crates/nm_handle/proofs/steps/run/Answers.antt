@@ -14,7 +14,6 @@ use Rattle.nm_process.specs.declared.steps.Step.{Step}
 use Rattle.nm_world.specs.Actors.{ActorInvariant}
 use Rattle.nm_world.specs.Players.{PlayerInvariant}
 use Rattle.nm_world.specs.declared.actors.Actor.{Actor}
-use Rattle.nm_world.specs.declared.players.Player.{Player}
 use Rattle.nm_calls.specs.Calling.{gave, shown}
 use Rattle.nm_handle.proofs.Running.{ran_actor}
 use Rattle.nm_handle.proofs.steps.run.Goals as goal

@@ -1,7 +1,6 @@
 -- A new player, in this fabric and these rings.
-use Rattle.std.proofs.Common.{ℕ, None, refl, sym, ap, subst, ◌∙◌, [], arith}
+use Rattle.std.proofs.Common.{ℕ, None, refl, sym, ap, subst, ◌∙◌, []}
 use Rattle.std.specs.Arc.{arc_value}
-use Rattle.nm_types.specs.Sizes.{Sizes}
 use Rattle.nm_types.specs.declared.packets.Packet.{Packet}
 use Rattle.nm_cells.specs.declared.port.Fabric.{Fabric}
 use Rattle.nm_copyring.specs.declared.port.Rings.{Rings}
@@ -44,6 +43,7 @@ returns c =
         me = made.begins.0;
         sizes = ap (λ (s : Seat). s.sizes) made.seat;
         events = made.begins.1;
+        live = refl;
       };
-      own = record { fabric = fabric; rings = rings; seat = made.seat };
+      own = record { fabric = fabric; rings = rings; own = refl; seat = made.seat };
     }
