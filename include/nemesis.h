@@ -177,6 +177,19 @@ nm_code nm_left_of(nm_rank *rank, nm_left *left);
  * until these are closed, too. NM_OK, NM_FAILED, NM_CLOSED. */
 nm_code nm_close(nm_rank *rank, nm_left *left);
 
+/* Ends a world whose threads are done with it: `ranks` has all its `count` ranks, that of rank k at place k. Each makes
+ * a turn, and if none did anything, and nothing is under way, that was the world:
+ *
+ *     while ((code = nm_world_end(ranks, count)) == NM_MOVED) {}
+ *     for (size_t k = 0; k < count; k++) nm_rank_free(ranks[k]);
+ *
+ * NM_OK; or NM_PENDING where a wait that was given has not ended, and never will. What the ranks were asked and have
+ * answered was then a lawful run of all of them (3.5), and all cells are home. From then on the handles are those of
+ * closed ranks, with nothing left. NM_MOVED: a turn did something, so ask again. NM_FAILED, of one of them.
+ * NM_BAD_WORLD: they are not all ranks of one world, or not in order. At these three the ranks stay what they are.
+ * NM_MEMORY: the world may be lost, and then its handles are those of closed ranks. */
+nm_code nm_world_end(nm_rank *ranks, size_t count);
+
 /* Frees the handle, closed or not. No call takes it any more. The last handle of a world frees the world. What was
  * sent to the rank and not received is lost, and where its cells are those of a sender, that one may be left with
  * fewer: so free a rank once all have closed. */

@@ -64,11 +64,8 @@ int main(void) {
     for (int k = 0; k < 2; k++)
         if (pthread_create(&threads[k], NULL, run, &ranks[k])) return 1;
     for (int k = 0; k < 2; k++) pthread_join(threads[k], NULL);
-    for (int k = 0; k < 2; k++) {
-        nm_left left;
-        code = nm_close(&ranks[k], &left);
-        if (code != NM_OK || left.requests != 0 || left.to_send != 0) stop("nm_close", code);
-        nm_rank_free(ranks[k]);
-    }
+    while ((code = nm_world_end(ranks, 2)) == NM_MOVED) {}
+    if (code != NM_OK) stop("nm_world_end", code);
+    for (int k = 0; k < 2; k++) nm_rank_free(ranks[k]);
     return 0;
 }

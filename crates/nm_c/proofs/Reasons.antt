@@ -1,9 +1,7 @@
 -- Why a call was refused.
-use Rattle.std.proofs.Common.{◌≡◌, ◌<◌, ◌≢◌, ℕ, Bool, false, if◌then◌else◌, refl, ap, subst, sym, ◌==◌}
+use Rattle.std.proofs.Common.{◌≡◌, ◌<◌, ◌≢◌, ℕ, Bool, if◌then◌else◌, refl, subst, sym}
 use Rattle.nm_types.specs.declared.limits.TheConstants.{MAX_TAG}
-use Rattle.nm_types.specs.declared.messages.Peer.{Peer}
 use Rattle.nm_types.specs.declared.messages.Peer.TheVariants as peer
-use Rattle.nm_types.specs.declared.messages.TagPick.{TagPick}
 use Rattle.nm_types.specs.declared.messages.TagPick.TheVariants as pick
 use Rattle.nm_types.specs.declared.scripts.Command.{Command}
 use Rattle.nm_types.proofs.NumberLemmas.{unequal}

@@ -2,5 +2,9 @@ pub mod Asked
 pub mod Causes
 pub mod Codes
 pub mod Held
+pub mod Leaves
 pub mod Lent
+pub mod Made
+pub mod Ranks
 pub mod Told
+pub mod Whole

@@ -7,9 +7,10 @@ ghost use Rattle.nm_process.specs.LastAnswer.{last_answer};
 ghost use Rattle.nm_handle.specs.Standing.{Stands, calls_of, process_of};
 ghost use Rattle.nm_c.specs.Asked.{after_asked, after_whole, asked, asked_whole, bytes_in};
 ghost use Rattle.nm_c.specs.Asked.{ended_so, to_tell, unless, whole_of};
-ghost use Rattle.nm_c.specs.Causes.{IsReason, IsReasonOfClose, IsReasonOfTurn};
-ghost use Rattle.nm_c.specs.Codes.{HasAnswered, IsAhead, IsClosed, IsRefused, IsTurn};
+ghost use Rattle.nm_c.specs.Causes.{IsReason, IsReasonOfTurn};
+ghost use Rattle.nm_c.specs.Codes.{HasAnswered, IsAhead, IsRefused, IsTurn};
 ghost use Rattle.nm_c.specs.Codes.{code_of_turn, peer_of, pick_of};
+ghost use Rattle.nm_c.specs.Leaves.{HasLeft, LeavesLeft, left_came, left_of as left_of_lem, left_told};
 ghost use Rattle.nm_c.specs.Told.{HasShown, HasTold, LeavesBoth, LeavesStatus, body_said, status_said};
 
 use crate::codes::{Code, code_of, said};
@@ -289,18 +290,25 @@ fn turned(moved: bool) -> Code
     if moved { Code::Moved } else { Code::Idle }
 }
 
-// Writes what is left.
-fn write_left(handle: &Handle, left: &mut Left) {
-    left.requests = handle.live();
-    left.to_send = if handle.has_to_send() { 1 } else { 0 };
+// What is left.
+fn left_of(handle: &Handle) -> Left
+    ensures { result ≡ left_of_lem handle.now }
+{
+    let requests = handle.live();
+    let to_send = if handle.has_to_send() { 1 } else { 0 };
+    Left { requests, to_send }
 }
 
 /// What is left.
-pub(crate) fn tell_left(handle: &Handle, left: &mut Left) -> Result<Code, Code> {
-    if let State::Failed = handle.state() {
-        return Err(Code::Failed);
+pub(crate) fn tell_left(handle: &Handle, left: &mut Left) -> Result<Code, Code>
+    ensures came { result ≡ left_came handle.now.state }
+    ensures told { left.new ≡ left_told handle.now.state (left_of_lem handle.now) left.old }
+{
+    match handle.state() {
+        State::Failed => return Err(Code::Failed),
+        State::Open => *left = left_of(handle),
+        State::Closed => *left = left_of(handle),
     }
-    write_left(handle, left);
     Ok(Code::Done)
 }
 
@@ -308,11 +316,12 @@ pub(crate) fn tell_left(handle: &Handle, left: &mut Left) -> Result<Code, Code> 
 pub(crate) fn close(handle: &mut Handle, left: &mut Left) -> Result<Code, Code>
     requires stands { Stands handle.old }
     ensures kept { Stands handle.new }
-    ensures ran { IfOk result (IsClosed handle.old handle.new) }
+    ensures ran { IfOk result (HasLeft left.old left.new handle.old handle.new) }
     ensures refused { IfErr result (IsRefused handle.old handle.new) }
-    ensures cause { IfErr result (IsReasonOfClose handle.old) }
+    ensures cause { IfErr result (LeavesLeft left.old left.new handle.old) }
 {
+    let had = left_of(handle);
     handle.close()?;
-    write_left(handle, left);
+    *left = had;
     Ok(Code::Done)
 }

@@ -15,29 +15,41 @@
 //!   memory, as many as there is room for. Where there is no message, and where the call is refused, nothing is
 //!   written (`answered`). So it is with what a rank is asked of its last command (`nm_answer`, `nm_body`: `came`,
 //!   `status`, `body`).
+//! - So it is with what a rank has left: how many requests are live by its calls and their answers, and whether there
+//!   is something to send (`nm_left_of`: `told`; `nm_close`: `HasLeft`).
 //! - A rank that stands goes on standing, whatever is called (`kept`): so what its handle is asked for
-//!   (`requires stands`) is no more than that it is one that `nm_world_new` wrote.
+//!   (`requires stands`) is no more than that it is one that `nm_world_new` wrote; where this writes none, it is said why.
+//! - A world whose ranks are all given, in order, and of which a turn of each moves nothing, ends: whatever the threads
+//!   of C called, and in which order, the calls of the ranks and their answers are those of a lawful run at rest, and all
+//!   cells are home (`nm_world_end`: `AnswersEnd`). Where it goes on, or a rank has failed, they are the same ranks.
 //! # What is only tested
-//! What `nm_left_of` and `nm_close` write (`tests/c`).
+//! That `nm_world_end` refuses ranks that are not of one world, which it is asked not to be given (`requires world`), and
+//! that a world which it ends leaves closed ranks (`tests/c`).
 //! # What is not
-//! - C gets no clause on memory from `nm_world_new`: that the pointers which it writes are ranks is not said. Nor is
+//! - C gets no clause on memory from `nm_world_new`: that what it writes is owned by C from then on is not said. Nor is
 //!   anything of code in C checked: that a rank is used by one call at a time, and not after `nm_rank_free`.
 #![tactic(auto)]
 
-ghost use Rattle.std.specs.Prelude.{◌≡◌, false, true};
+ghost use Rattle.std.specs.Prelude.{◌≡◌, false, true, map};
+ghost use Rattle.std.specs.List.{All};
 ghost use Rattle.nm_handle.specs.Standing.{Stands, calls_of, process_of};
+ghost use Rattle.nm_handle.specs.Worlds.{AreOfOneWorld};
 ghost use Rattle.nm_handle.specs.declared.handles.Handle.{Handle};
 ghost use Rattle.nm_types.specs.declared.scripts.Body.TheVariants as body_is;
 ghost use Rattle.nm_types.specs.declared.scripts.Command.TheVariants as command;
 ghost use Rattle.nm_c.specs.Asked.{after_asked, asked, asked_whole, to_tell};
-ghost use Rattle.nm_c.specs.Causes.{IsReason, IsReasonOfClose, IsReasonOfTurn};
-ghost use Rattle.nm_c.specs.Codes.{Answers, HasAnswered, IsAhead, IsClosed, IsTurn, number_said, peer_of, pick_of};
+ghost use Rattle.nm_c.specs.Causes.{IsReason, IsReasonOfTurn};
+ghost use Rattle.nm_c.specs.Codes.{Answers, HasAnswered, IsAhead, IsTurn, number_said, peer_of, pick_of};
 ghost use Rattle.nm_c.specs.Held.{handle_coded, rank_owns};
+ghost use Rattle.nm_c.specs.Leaves.{HasLeft, LeavesLeft, left_came, left_of, left_told};
+ghost use Rattle.nm_c.specs.Made.{AnswersNew};
 ghost use Rattle.nm_c.specs.Told.{HasShown, HasTold, LeavesBoth, LeavesStatus, body_said, status_said};
+ghost use Rattle.nm_c.specs.Whole.{AnswersEnd};
 
 mod calls;
 mod codes;
 mod commands;
+mod ends;
 mod lend;
 mod parts;
 mod raw;
@@ -112,12 +124,9 @@ pub struct Left {
 
 /// Makes a world of as many ranks as there are places.
 #[unsafe(no_mangle)]
-pub extern "C" fn nm_world_new(
-    alloc: Global,
-    ranks: &mut [*mut u8],
-    cells: u32,
-    eager: u32,
-) -> u32 {
+pub extern "C" fn nm_world_new(alloc: Global, ranks: &mut [*mut u8], cells: u32, eager: u32) -> u32
+    ensures answered { AnswersNew cells eager ranks.old ranks.new result }
+{
     number(worlds::make(alloc, ranks, cells, eager))
 }
 
@@ -327,6 +336,8 @@ pub extern "C" fn nm_progress(rank: &mut Rank) -> u32
 #[unsafe(no_mangle)]
 pub extern "C" fn nm_left_of(rank: &mut Rank, left: &mut Left) -> u32
     ensures same { rank.new.value ≡ rank.old.value }
+    ensures came { result ≡ number_said (left_came rank.old.value.state) }
+    ensures told { left.new ≡ left_told rank.old.value.state (left_of rank.old.value) left.old }
 {
     number(calls::tell_left(rank.handle(), left))
 }
@@ -336,9 +347,22 @@ pub extern "C" fn nm_left_of(rank: &mut Rank, left: &mut Left) -> u32
 pub extern "C" fn nm_close(rank: &mut Rank, left: &mut Left) -> u32
     requires stands { Stands rank.old.value }
     ensures kept { Stands rank.new.value }
-    ensures answered { Answers IsClosed IsReasonOfClose rank.old.value rank.new.value result }
+    ensures answered { Answers (HasLeft left.old left.new) (LeavesLeft left.old left.new)
+        rank.old.value rank.new.value result }
 {
     number(calls::close(rank.handle(), left))
+}
+
+/// Ends the world of these ranks, if they are at rest.
+#[unsafe(no_mangle)]
+pub extern "C" fn nm_world_end(alloc: Global, ranks: &mut [Rank]) -> u32
+    requires stands { All Stands (map (λ r. r.value) ranks.old) }
+    requires world { AreOfOneWorld (map (λ r. r.value) ranks.old) }
+    ensures kept { All Stands (map (λ r. r.value) ranks.new) }
+    ensures answered { AnswersEnd (map (λ r. r.value) ranks.old) (map (λ r. r.value) ranks.new) result }
+{
+    let ended = ends::end_all(alloc, ranks);
+    ends::code_of(ended).number()
 }
 
 /// Frees a rank.

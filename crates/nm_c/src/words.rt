@@ -2,8 +2,10 @@
 
 ghost use Rattle.std.specs.Prelude.{◌≡◌, ◌<◌, IfErr, IfOk, length};
 ghost use Rattle.nm_types.specs.declared.limits.TheConstants.{MAX_BODY, MAX_CONTEXT, MAX_NAME, MAX_TAG};
+ghost use Rattle.nm_types.specs.Sizes.{IsShape};
 ghost use Rattle.nm_c.specs.Causes.{IsNoPeer, IsNoPick};
 ghost use Rattle.nm_c.specs.Codes.{peer_of, pick_of};
+ghost use Rattle.nm_c.specs.Made.{sizes_of};
 ghost use Rattle.nm_c.specs.declared.codes.Code.TheVariants as code;
 
 use crate::codes::Code;
@@ -89,7 +91,10 @@ pub(crate) fn context(number: u32) -> Result<u8, Code>
 }
 
 /// The shape of a world.
-pub(crate) fn shape(ranks: usize, cells: u32, eager: u32) -> Result<Shape, Code> {
+pub(crate) fn shape(ranks: usize, cells: u32, eager: u32) -> Result<Shape, Code>
+    ensures ok { IfOk result (λ s. (s ≡ sizes_of ranks cells eager) × IsShape (sizes_of ranks cells eager)) }
+    ensures err { IfErr result (λ e. (e ≡ code.BadWorld) × (¬ IsShape (sizes_of ranks cells eager))) }
+{
     if ranks > 64 || cells > 64 || eager > 4096 {
         return Err(Code::BadWorld);
     }

@@ -1,5 +1,8 @@
 //! The ranks of a world, for C.
 
+ghost use Rattle.std.specs.Prelude.{◌≡◌, IfErr, IfOk, OnErr, length};
+ghost use Rattle.nm_c.specs.Made.{IsMade, IsNoWorld};
+
 use crate::Rank;
 use crate::codes::Code;
 use crate::parts::Parts;
@@ -40,7 +43,11 @@ pub(crate) fn make(
     places: &mut [*mut u8],
     cells: u32,
     eager: u32,
-) -> Result<Code, Code> {
+) -> Result<Code, Code>
+    ensures made { IfOk result (IsMade (length places.old) cells eager) }
+    ensures cause { IfErr result (IsNoWorld (length places.old) cells eager) }
+    ensures same { OnErr result (places.new ≡ places.old) }
+{
     let shape = shape(places.len(), cells, eager)?;
     let handles = world(alloc, shape)?;
     let ranks = ranks_of(alloc, handles)?;

@@ -17,8 +17,12 @@
 //! - Where all ranks of a world are given back and are at rest, the calls of the ranks and their answers are those of
 //!   a lawful run, whatever their callers did and in which order (`end`: `run`); where there is no end, it is said
 //!   why (`why`). The ranks stay those of their world (`world`: `one`; `laws`).
+//! - A rank that is at rest at its place is found so by a turn that did nothing (`rest`); ranks of one world, as many as
+//!   it has and in order, are all of it (`laws`).
+//! - The count of live requests is of calls and their answers (`HasCalled`, `HasTurned`: `live`).
 //! # What is not
-//! - No clause counts the live requests (`live`), and nothing here runs in a thread: that is left to the callers.
+//! - That a count of live requests is that of the names in use; that `rest` refuses a rank of another world. Nothing here
+//!   runs in a thread: that is left to the callers.
 #![tactic(auto)]
 
 mod ends;
