@@ -125,12 +125,13 @@ fn given_wait(handle: &mut Handle) -> Result<(Result<Told, Fault>, bool, bool, T
     Ok((meanwhile, before, handle.waits(), say(handle.answer())))
 }
 
-// What is left with a receive that is open, and once it is cancelled; then by what calls after the close are refused.
+// What is left with a receive that is open and waited for in vain, and once it is cancelled; then by what calls after the close are refused.
 fn closed(handle: &mut Handle) -> Result<(u32, u32, Result<Told, Fault>, Result<(), Fault>), Fault>
     requires { Stands handle.old }
     ensures { Stands handle.new }
 {
     answer_of(handle, &receive(Peer::Any, TagPick::Any, 8))?;
+    answer_of(handle, &Command::Wait { q: 1 })?;
     let open = handle.live();
     answer_of(handle, &Command::Cancel { q: 1 })?;
     answer_of(handle, &Command::Test { q: 1 })?;
