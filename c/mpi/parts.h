@@ -31,6 +31,7 @@ struct rank {
     int number, count;
     struct numbers names, handles;
     struct nemesis_request *chores; /* requests that go on whether or not the program asks for them */
+    struct nemesis_request *due;    /* the next of them that a turn asks, or none: then the first */
     struct nemesis_request *spare;  /* memory of requests to use again */
     struct nemesis_message *held;   /* messages that were claimed since a long one was probed, oldest first */
     struct communicator comms[COMMUNICATORS];
@@ -91,6 +92,7 @@ struct trailer {
 static bool take_number(struct numbers *numbers, uint32_t *number);
 static void give_number(struct numbers *numbers, uint32_t number);
 static bool turn(void);
+static void ask_all(void);
 static void rest(unsigned *idle, bool moved);
 static _Noreturn void stop(int status);
 

@@ -1,5 +1,6 @@
 /* ranks.c: a thread for each rank, which runs the program's `main`; what begins and ends it. */
 #include "parts.h"
+#include <limits.h>
 #include <pthread.h>
 #include <stdatomic.h>
 #include <stdio.h>
@@ -119,13 +120,28 @@ static bool take_number(struct numbers *numbers, uint32_t *number) {
 
 static void give_number(struct numbers *numbers, uint32_t number) { numbers->back[numbers->kept++] = (uint16_t)number; }
 
+/* Asks of the next requests that go on by themselves, so many at most, whether they can. */
+static void ask(unsigned most) {
+    struct nemesis_request *it = me->due ? me->due : me->chores;
+    for (; it && most > 0; most--) {
+        me->due = it->next;
+        advance(it);
+        it = me->due;
+    }
+}
+
+static void ask_all(void) {
+    me->due = NULL;
+    ask(UINT_MAX);
+}
+
+/* Of how many requests a turn asks, since each time is a call. */
+enum { ASKED = 4 };
+
 /* One turn of the rank, and of what goes on by itself (3.5, progress). */
 static bool turn(void) {
     bool moved = nm_progress(&me->core) == NM_MOVED;
-    for (struct nemesis_request *it = me->chores, *next; it; it = next) {
-        next = it->next;
-        advance(it);
-    }
+    ask(ASKED);
     return moved;
 }
 

@@ -81,6 +81,7 @@ static void end_chore(struct nemesis_request *it) {
     struct nemesis_request **place = &me->chores;
     while (*place != it) place = &(*place)->next;
     *place = it->next;
+    if (me->due == it) me->due = it->next;
     it->is_chore = false;
 }
 
@@ -297,7 +298,10 @@ static nm_code receive(struct nemesis_request *it) {
 /* Room for a buffered send: its bytes and its overhead (3.6.1). */
 static bool takes_room(struct nemesis_request *it) {
     size_t needs = it->length + MPI_BSEND_OVERHEAD;
-    if (needs > me->buffer_size - me->buffer_used) turn();
+    if (needs > me->buffer_size - me->buffer_used) {
+        turn();
+        ask_all();
+    }
     if (needs > me->buffer_size - me->buffer_used) return false;
     me->buffer_used += needs;
     return true;
