@@ -7,7 +7,7 @@ use Rattle.nm_why.specs.declared.changes.Change.{Change}
 use Rattle.nm_why.specs.declared.cures.Trial.{Trial}
 use Rattle.nm_why.specs.declared.cures.Trial.TheVariants.{Cured, Not, Unknown}
 use Rattle.nm_why.specs.declared.hangs.Fate.{Fate}
-use Rattle.nm_why.specs.declared.hangs.Fate.TheVariants.{Ends, Hangs, Either, Open}
+use Rattle.nm_why.specs.declared.hangs.Fate.TheVariants.{Ends, Hangs, Either, MayHang, Open}
 use Rattle.nm_types.specs.Limits.{IsScript}
 use Rattle.nm_why.specs.Changes.{changed}
 use Rattle.nm_why.specs.Cures.{IsCure, IsSafe, IsTrial, IsTrialOf, trial_by}
@@ -71,6 +71,7 @@ pub trial_right : (fate : Fate) (shape : Sizes) (lines : List Line) → IsScript
 trial_right Ends shape lines script never = (script, never)
 trial_right Hangs shape lines script all = λ safe. safe.1 all.0
 trial_right Either shape lines script either = λ safe. safe.1 either.0
+trial_right MayHang shape lines script hang = λ safe. safe.1 hang
 trial_right Open shape lines script unknown = tt
 
 -- .. where the lines are these

@@ -6,7 +6,7 @@ use Rattle.nm_why.specs.declared.hangs.Aim.{Aim}
 use Rattle.nm_why.specs.declared.hangs.Aim.TheVariants.{Hang, Both}
 use Rattle.nm_why.specs.declared.hangs.Fate.{Fate}
 use Rattle.nm_why.specs.declared.hangs.Meets.{Meets}
-use Rattle.nm_why.specs.declared.hangs.Fate.TheVariants.{Ends, Hangs, Either, Open}
+use Rattle.nm_why.specs.declared.hangs.Fate.TheVariants.{Ends, Hangs, Either, MayHang, Open}
 use Rattle.nm_why.specs.Hangs.{CanEnd, CanHang, Does, IsFate, IsMeeting, meets_of}
 
 -- where it can't hang, it does neither
@@ -27,6 +27,8 @@ meets_right aim Ends shape lines never = does_not aim shape lines never
 meets_right Hang Hangs shape lines all = all.0
 meets_right Both Hangs shape lines all = λ both. all.1 both.1
 meets_right aim Either shape lines either = does_either aim shape lines either.0 either.1
+meets_right Hang MayHang shape lines hang = hang
+meets_right Both MayHang shape lines hang = tt
 meets_right aim Open shape lines unknown = tt
 
 -- .. of lines that are the part's

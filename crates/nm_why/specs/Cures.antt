@@ -6,7 +6,7 @@ use Rattle.nm_types.specs.Sizes.{Sizes}
 use Rattle.nm_why.specs.declared.changes.Change.{Change}
 use Rattle.nm_why.specs.declared.cures.Cures.{Cures}
 use Rattle.nm_why.specs.declared.hangs.Fate.{Fate}
-use Rattle.nm_why.specs.declared.hangs.Fate.TheVariants.{Ends, Hangs, Either, Open}
+use Rattle.nm_why.specs.declared.hangs.Fate.TheVariants.{Ends, Hangs, Either, MayHang, Open}
 use Rattle.nm_why.specs.declared.cures.Trial.{Trial}
 use Rattle.nm_why.specs.declared.cures.Trial.TheVariants.{Cured, Not, Unknown}
 use Rattle.nm_why.specs.Changes.{changed}
@@ -31,6 +31,7 @@ abbrev pub trial_by : Fate → Trial
 trial_by Ends = Cured
 trial_by Hangs = Not
 trial_by Either = Not
+trial_by MayHang = Not
 trial_by Open = Unknown
 
 -- .. of the change

@@ -9,7 +9,7 @@ use Rattle.nm_report.specs.Told.{RankTold, told_of}
 use Rattle.nm_why.specs.declared.hangs.Aim.{Aim}
 use Rattle.nm_why.specs.declared.hangs.Aim.TheVariants.{Hang, Both}
 use Rattle.nm_why.specs.declared.hangs.Fate.{Fate}
-use Rattle.nm_why.specs.declared.hangs.Fate.TheVariants.{Ends, Hangs, Either, Open}
+use Rattle.nm_why.specs.declared.hangs.Fate.TheVariants.{Ends, Hangs, Either, MayHang, Open}
 use Rattle.nm_why.specs.declared.hangs.Meets.{Meets}
 use Rattle.nm_why.specs.declared.hangs.Meets.TheVariants as meets
 
@@ -26,11 +26,12 @@ CanHang shape lines = (run : RunRecord) × IsRunIn shape lines run × (is_hung (
 abbrev pub CanEnd : Sizes → List Line → Type 0
 CanEnd shape lines = (run : RunRecord) × IsRunIn shape lines run × (is_hung (told_of run) ≡ false)
 
--- how all lawful runs of the script end: what a complete search says, or nothing
+-- how the lawful runs of the script end: what a complete search says, or one up to the first hang, or nothing
 abbrev pub IsFate : Sizes → List Line → Fate → Type 0
 IsFate shape lines Ends = ¬ (CanHang shape lines)
 IsFate shape lines Hangs = CanHang shape lines × (¬ (CanEnd shape lines))
 IsFate shape lines Either = CanHang shape lines × CanEnd shape lines
+IsFate shape lines MayHang = CanHang shape lines
 IsFate shape lines Open = Unit {0}
 
 -- what a part of a script is still to do
@@ -50,4 +51,6 @@ meets_of aim Ends = meets.No
 meets_of Hang Hangs = meets.Yes
 meets_of Both Hangs = meets.No
 meets_of aim Either = meets.Yes
+meets_of Hang MayHang = meets.Yes
+meets_of Both MayHang = meets.Unknown
 meets_of aim Open = meets.Unknown

@@ -46,6 +46,7 @@ fn trial_of(fate: Fate) -> Trial
         Fate::Ends => Trial::Cured,
         Fate::Hangs => Trial::Not,
         Fate::Either => Trial::Not,
+        Fate::MayHang => Trial::Not,
         Fate::Open => Trial::Unknown,
     }
 }

@@ -15,6 +15,8 @@ pub enum Fate {
     Hangs,
     /// Some hang, and some end.
     Either,
+    /// Some hang; whether some end is not known.
+    MayHang,
     /// The search gave up, and nothing is known.
     Open,
 }
@@ -56,6 +58,10 @@ pub fn meeting(aim: Aim, fate: Fate) -> Meets
             Aim::Both => Meets::No,
         },
         Fate::Either => Meets::Yes,
+        Fate::MayHang => match aim {
+            Aim::Hang => Meets::Yes,
+            Aim::Both => Meets::Unknown,
+        },
         Fate::Open => Meets::Unknown,
     }
 }

@@ -1,8 +1,8 @@
 -- How all runs of a script end, by the ends of a search that tell what they tell.
-use Rattle.std.proofs.Common.{◌≡◌, ◌+◌, ◌<◌, ◌||◌, inl, inr, ℕ, suc, Bool, true, false, List, [], ◌∷◌, map, length, refl, sym, ◌∙◌}
+use Rattle.std.proofs.Common.{◌≡◌, ◌+◌, ◌<◌, ◌&&◌, ◌||◌, inl, inr, ℕ, suc, Bool, true, false, List, [], ◌∷◌, map, length, refl, sym, ◌∙◌}
 use Rattle.std.proofs.Common.{ap, get_or, subst, take}
-use Rattle.std.specs.Prelude.{is_some, not}
-use Rattle.std.specs.List.{list_any}
+use Rattle.std.specs.Prelude.{Option, None, Some, is_none, is_some, not}
+use Rattle.std.specs.List.{list_all, list_any}
 use Rattle.std.proofs.lemmas.Bool.{false≢true}
 use Rattle.std.proofs.lemmas.Map.Keys.{any_passes_from_place}
 use Rattle.std.proofs.lemmas.List.{length-replicate, length-set}
@@ -24,6 +24,8 @@ use Rattle.nm_explored.specs.Met.{IsWay}
 use Rattle.nm_explored.specs.Moves.{moved_at}
 use Rattle.nm_explored.specs.declared.choices.moves.Turn.{Turn}
 use Rattle.nm_search.specs.Lists.{Has}
+use Rattle.nm_hangs.specs.Found.{HasNoHang, IsHangTrace}
+use Rattle.nm_listed.proofs.ToldLemmas.{done_by_ends}
 use Rattle.nm_listed.specs.Ends.{EndsAreRuns}
 use Rattle.nm_why.specs.Hangs.{CanEnd, CanHang, is_hung}
 use Rattle.nm_why_top.specs.Answers.{IsStuck, NoneHangs}
@@ -170,3 +172,34 @@ way_count eager ranks lines (t ∷ turns) state way =
 pub stuck_count : (shape : Sizes) (lines : List Line) (states : List Spot) → IsStuck shape lines states →
     length states ≡ shape.ranks
 stuck_count shape lines states stuck = way_count shape.eager shape.ranks lines stuck.path states stuck.way
+
+-- no rank waits where none is hung
+none_waits : (told : List RankTold) →
+    list_all (λ (rank : RankTold). is_none rank.waits) told ≡ not (is_hung told)
+none_waits [] = refl
+none_waits (rank ∷ told) = by_rank rank.waits (none_waits told)
+  where
+    by_rank : (o : Option ℕ) → list_all (λ (r : RankTold). is_none r.waits) told ≡ not (is_hung told) →
+        (is_none o && list_all (λ (r : RankTold). is_none r.waits) told) ≡ not (is_some o || is_hung told)
+    by_rank None rest = rest
+    by_rank (Some line) rest = refl
+
+-- a lawful run is done where no rank waits at its end
+done_is : (shape : Sizes) (lines : List Line) (run : RunRecord) → IsRunIn shape lines run →
+    run.done ≡ not (is_hung (told_of run))
+done_is shape lines run lawful = lawful.ended ∙ done_by_ends run.ranks ∙ none_waits (told_of run)
+
+-- where a run's trace shows that it hangs, one does
+pub trace_hangs : (shape : Sizes) (lines : List Line) (trace : List ℕ) → IsHangTrace shape lines trace →
+    CanHang shape lines
+trace_hangs shape lines trace is = (is.run, is.lawful, hung (is_hung (told_of is.run)) refl)
+  where
+    hung : (b : Bool) → is_hung (told_of is.run) ≡ b → is_hung (told_of is.run) ≡ true
+    hung true so = so
+    hung false so =
+        absurd (false≢true (sym is.hung ∙ done_is shape lines is.run is.lawful ∙ ap (λ (b : Bool). not b) so))
+
+-- .. and where each lawful run is done, none does
+pub never_hung : (shape : Sizes) (lines : List Line) → HasNoHang shape lines → ¬ (CanHang shape lines)
+never_hung shape lines never (run, lawful, hung) =
+    false≢true (sym (ap (λ (b : Bool). not b) hung) ∙ sym (done_is shape lines run lawful) ∙ never run lawful)

@@ -10,10 +10,11 @@ ghost use Rattle.nm_listed.specs.Texts.{bytes_of};
 ghost use Rattle.nm_outcomes_top.specs.OptionWords.{InRange, sizes_for};
 ghost use Rattle.nm_outcomes_top.specs.Texts.{is_stuck as is_stuck_lem, stuck_count};
 ghost use Rattle.nm_why.specs.Hangs.{CanHang, Does};
+ghost use Rattle.nm_why.specs.Least.{IsLeast};
 ghost use Rattle.nm_why_top.specs.Answers.{IsAnswerFor, IsChainOf, IsExplained, IsStuck, IsWhy, NoneHangs};
 
 use crate::answers::Response;
-use crate::searching::{Complete, does_one_end, is_hung};
+use crate::searching::{Complete, Hunt, does_one_end, is_hung};
 use nm_explored::{End, Explored, explore};
 use nm_listed::lawful::ends_are_runs;
 use nm_listed::{Found, Texts, reports};
@@ -26,7 +27,7 @@ use nm_waits::waits::{Wait, waits_of};
 use nm_why::candidates::single_changes;
 use nm_why::cures::cures_among;
 use nm_why::hangs::Aim;
-use nm_why::least::{Task, least_part};
+use nm_why::least::{Least, Task, least_part};
 use nm_why_texts::Why;
 use std::alloc::Global;
 
@@ -90,6 +91,18 @@ fn aim_of(ends: &[End]) -> Aim
     Aim::Hang
 }
 
+/// The least part of a script that still does what it does. Whether a part can hang is seen by a search for one run that
+/// does; whether it can end, too, by a search over all runs.
+fn least_of(alloc: Global, limit: u32, of: &Task) -> Result<Least, Memory>
+    requires { Does of.now.aim of.now.shape of.now.lines.now }
+    ensures { IfOk result (IsLeast of.now.aim of.now.shape of.now.lines.now) }
+{
+    match of.aim {
+        Aim::Hang => least_part(alloc, &Hunt { states: limit }, of),
+        Aim::Both => least_part(alloc, &Complete { states: limit }, of),
+    }
+}
+
 /// Why a script hangs: where the ranks wait in these states, its least part, and its cures.
 fn explain(
     alloc: Global,
@@ -104,11 +117,11 @@ fn explain(
     requires stuck { IsStuck shape script.now.lines states.items }
     ensures { IfOk result (IsWhy shape script.now.lines) }
 {
-    let search = Complete { states: limit };
+    let search = Hunt { states: limit };
     let lines = script.lines.as_slice();
     let waits = waits_of(alloc, lines, states.as_slice())?;
     let chain = chain_of(alloc, waits.as_slice())?;
-    let least = least_part(alloc, &search, &Task { lines, shape, aim })?;
+    let least = least_of(alloc, limit, &Task { lines, shape, aim })?;
     let tried = single_changes(alloc, shape.ranks(), lines)?;
     let cures = cures_among(alloc, &search, shape, lines, tried.as_slice())?;
     Ok(Why {

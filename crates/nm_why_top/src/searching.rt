@@ -1,14 +1,16 @@
 //! The search over all runs of a script, by its states.
 
-ghost use Rattle.std.specs.Prelude.{◌≡◌, List, is_some, not};
+ghost use Rattle.std.specs.Prelude.{◌≡◌, ℕ, List, is_some, not};
 ghost use Rattle.std.specs.List.{list_any};
 ghost use Rattle.nm_types.specs.declared.scripts.Line as the_line;
 ghost use Rattle.nm_types.specs.Limits.{IsScript};
 ghost use Rattle.nm_types.specs.Sizes.{Sizes};
 ghost use Rattle.nm_explored.specs.Ends.{TellsAll, TellsOnly, told_at_end};
+ghost use Rattle.nm_hangs.specs.Found.{IsHang};
 ghost use Rattle.nm_why.specs.Hangs.{IsFate, is_hung as is_hung_lem};
 
 use nm_explored::{End, Explored, explore};
+use nm_hangs::{Hang, find_hang};
 use nm_listed::lawful::ends_are_runs;
 use nm_report::RankAccount;
 use nm_types::{Memory, Script, Shape};
@@ -70,5 +72,30 @@ impl Search for Complete {
             Explored::All(ends) => Ok(fate_of(ends.as_slice())),
             Explored::TooMany => Ok(Fate::Open),
         }
+    }
+}
+
+/// A search for one run that hangs, which gives up where it meets more states than this.
+#[derive(Clone, Copy)]
+pub struct Hunt {
+    pub states: u32,
+}
+
+/// How the runs of a script end, by what was found of it.
+fn fate_by(hang: &Hang) -> Fate
+    ensures { (shape : Sizes) (lines : List the_line.Line) (states : ℕ) → IsHang shape lines states hang.now →
+        IsFate shape lines result }
+{
+    match hang {
+        Hang::Found { .. } => Fate::MayHang,
+        Hang::Never => Fate::Ends,
+        Hang::Open => Fate::Open,
+    }
+}
+
+impl Search for Hunt {
+    fn fate(&self, alloc: Global, script: &Script, shape: Shape) -> Result<Fate, Memory> {
+        let found = find_hang(alloc, script, shape, self.states)?;
+        Ok(fate_by(&found))
     }
 }
