@@ -26,6 +26,11 @@ IsScan aim shape lines places from (Needed undecided) = AreNeededFrom from aim s
 abbrev pub AreRising : List ℕ → Type 0
 AreRising places = AllPairs (λ j k. j < k) places
 
+-- the part does it, and its lines stand in the order of the script
+pub record IsPart (aim : Aim) (shape : Sizes) (lines : List Line) (places : List ℕ) : Type 0 where
+  pub rising : AreRising places
+  pub does : Does aim shape (lines_at lines places)
+
 -- The part does it, and with one command less it does not, but for those commands at which a search gave up.
 pub record IsLeast (aim : Aim) (shape : Sizes) (lines : List Line) (least : Least) : Type 0 where
   pub rising : AreRising least.places.items

@@ -2,7 +2,7 @@
 
 ghost use Rattle.std.specs.Prelude.{◌≡◌, ◌⊎◌, ℕ, Contains, IfOk, IsFalse, IsTrue, OnOk, remove};
 ghost use Rattle.nm_why.specs.Hangs.{Does, IsMeeting};
-ghost use Rattle.nm_why.specs.Least.{AreRising, IsLeast, IsScan};
+ghost use Rattle.nm_why.specs.Least.{AreRising, IsLeast, IsPart, IsScan};
 ghost use Rattle.nm_why.specs.Parts.{lines_at as lines_at_lem};
 
 use crate::hangs::{Aim, Meets, Search, meeting};
@@ -10,6 +10,9 @@ use crate::limits::script_of;
 use crate::parts::{all_places, lines_at};
 use nm_types::{Line, Lines, Memory, Shape};
 use std::alloc::Global;
+
+/// So few commands are left out one after another.
+const FEW: usize = 3;
 
 /// A script with its sizes, and what a part of it is to do still.
 #[derive(Clone, Copy)]
@@ -68,6 +71,94 @@ fn without(alloc: Global, places: &[usize], k: usize) -> Result<Vec<usize>, Memo
     Ok(others)
 }
 
+/// Leaves out the place at place k, if there is one.
+fn drop_at(places: &mut Vec<usize>, k: usize)
+    ensures { AreRising places.old.items → AreRising places.new.items }
+{
+    if k < places.len() {
+        places.remove(k);
+    }
+}
+
+/// The places without so many from the one at place k on.
+fn without_some(
+    alloc: Global,
+    places: &[usize],
+    k: usize,
+    count: usize,
+) -> Result<Vec<usize>, Memory>
+    ensures { AreRising places.now → IfOk result (λ others. AreRising others.items) }
+{
+    let mut others = Vec::from_slice(alloc, places)?;
+    for _place in 0..count {
+        drop_at(&mut others, k);
+    }
+    Ok(others)
+}
+
+/// Leaves out so many commands of a part from the one at place k on, if the others do it without them. Answers where the
+/// next ones begin.
+fn leave_out<S: Search>(
+    alloc: Global,
+    search: &S,
+    of: &Task,
+    places: &mut Vec<usize>,
+    k: usize,
+    count: usize,
+) -> Result<usize, Memory>
+    requires { IsPart of.now.aim of.now.shape of.now.lines.now places.old.items }
+    ensures { OnOk result (IsPart of.now.aim of.now.shape of.now.lines.now places.new.items) }
+{
+    let others = without_some(alloc, places.as_slice(), k, count)?;
+    match meets(alloc, search, of, others.as_slice())? {
+        Meets::Yes => {
+            *places = others;
+            Ok(k)
+        }
+        Meets::No => Ok(k.saturating_add(count)),
+        Meets::Unknown => Ok(k.saturating_add(count)),
+    }
+}
+
+/// Leaves out so many commands of a part at once, from the first on, where the others do it without them.
+fn thin<S: Search>(
+    alloc: Global,
+    search: &S,
+    of: &Task,
+    places: &mut Vec<usize>,
+    count: usize,
+) -> Result<(), Memory>
+    requires { IsPart of.now.aim of.now.shape of.now.lines.now places.old.items }
+    ensures { OnOk result (IsPart of.now.aim of.now.shape of.now.lines.now places.new.items) }
+{
+    let mut k = 0usize;
+    for _turn in 0..places.len() {
+        if k >= places.len() {
+            return Ok(());
+        }
+        k = leave_out(alloc, search, of, places, k, count)?;
+    }
+    Ok(())
+}
+
+/// Leaves out half of the commands of a part at once, then a quarter, and so on, where the others do it without them.
+fn halve<S: Search>(
+    alloc: Global,
+    search: &S,
+    of: &Task,
+    places: &mut Vec<usize>,
+) -> Result<(), Memory>
+    requires { IsPart of.now.aim of.now.shape of.now.lines.now places.old.items }
+    ensures { OnOk result (IsPart of.now.aim of.now.shape of.now.lines.now places.new.items) }
+{
+    let mut count = places.len() / 2;
+    while count > FEW {
+        thin(alloc, search, of, places, count)?;
+        count /= 2;
+    }
+    Ok(())
+}
+
 /// Notes a command at which a search gave up. Answers whether the part needs the command, as far as is
 /// known.
 fn note(undecided: &mut Vec<usize>, k: usize, meets: Meets) -> Result<bool, Memory>
@@ -118,8 +209,7 @@ fn shorten<S: Search>(
     of: &Task,
     whole: Vec<usize>,
 ) -> Result<Least, Memory>
-    requires rising { AreRising whole.items }
-    requires does { Does of.now.aim of.now.shape (lines_at_lem of.now.lines.now whole.items) }
+    requires { IsPart of.now.aim of.now.shape of.now.lines.now whole.items }
     ensures { IfOk result (IsLeast of.now.aim of.now.shape of.now.lines.now) }
 {
     let mut places = whole;
@@ -140,11 +230,13 @@ fn shorten<S: Search>(
     }
 }
 
-/// A least part of a script that still does what the script does.
+/// A least part of a script that still does what the script does. Many commands at once are left out first, so that
+/// most searches are of few.
 pub fn least_part<S: Search>(alloc: Global, search: &S, of: &Task) -> Result<Least, Memory>
     requires { Does of.now.aim of.now.shape of.now.lines.now }
     ensures { IfOk result (IsLeast of.now.aim of.now.shape of.now.lines.now) }
 {
-    let whole = all_places(alloc, of.lines.len())?;
-    shorten(alloc, search, of, whole)
+    let mut places = all_places(alloc, of.lines.len())?;
+    halve(alloc, search, of, &mut places)?;
+    shorten(alloc, search, of, places)
 }

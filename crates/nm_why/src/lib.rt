@@ -1,7 +1,7 @@
 //! Why a script can hang: the least part of it that can, and the single changes after which it can't.
 //!
-//! A `Search` says how all runs of a script end, or gives up. `least_part` leaves out one command after another while
-//! the others can still hang (or hang and end); `cures_among` tries single changes.
+//! A `Search` says how the runs of a script end, or gives up. `least_part` leaves out many commands at once, then one
+//! after another, while the others can still hang (or hang and end); `cures_among` tries single changes.
 //!
 //! # What a contract sees
 //! `specs/Hangs.antt` says when a script can hang and when it can end, by its lawful runs (`IsRunIn`).

@@ -7,12 +7,13 @@ use Rattle.nm_why.specs.Parts.{lines_at}
 use Rattle.nm_why.proofs.PartLemmas.{at_all_places, places_rise}
 use Rattle.nm_why.proofs.least.least_part.Goals as goal
 
-pub shorten-requires-clause-rising : goal.shorten-requires-clause-rising
-shorten-requires-clause-rising g c =
-    subst (λ (places : List ℕ). AreRising places) (sym c.in_ok-whole.ensures) (places_rise _)
-
-pub shorten-requires-clause-does : goal.shorten-requires-clause-does
-shorten-requires-clause-does g c =
+pub halve-requires : goal.halve-requires
+halve-requires g c =
     let lines = c.args.of.now.lines.now in
-    subst (λ (part : List Line). Does c.args.of.now.aim c.args.of.now.shape part)
-    (sym (ap (λ (places : List ℕ). lines_at lines places) c.in_ok-whole.ensures ∙ at_all_places lines)) c.requires
+    record {
+      rising = subst (λ (places : List ℕ). AreRising places) (sym c.in_ok-places.ensures) (places_rise _);
+      does =
+          subst (λ (part : List Line). Does c.args.of.now.aim c.args.of.now.shape part)
+          (sym (ap (λ (places : List ℕ). lines_at lines places) c.in_ok-places.ensures ∙ at_all_places lines))
+          c.requires;
+    }
