@@ -5,8 +5,7 @@ use Rattle.nm_types.specs.declared.scripts.Line.{Line}
 use Rattle.nm_types.specs.Sizes.{Sizes}
 use Rattle.nm_script.specs.Spelled.{IsTextOf}
 use Rattle.nm_shell.specs.Done.{Ending}
-use Rattle.nm_explored.specs.Met.{AreTooMany}
-use Rattle.nm_listed.specs.Finding.{AreTooLong}
+use Rattle.nm_outcomes_top.specs.Answers.{IsOutgrowing}
 use Rattle.nm_outcomes_top.specs.OptionWords.{sizes_for}
 use Rattle.nm_outcomes_top.specs.declared.words.Asked.{Asked}
 use Rattle.nm_why_top.specs.declared.answers.Response.{Response}
@@ -27,9 +26,9 @@ answered asked (Some all) old new bytes read (Refused n k) h =
 answered asked None old new bytes read (Outgrown s) h = tt
 answered asked (Some all) old new bytes read (Outgrown s) h =
     subst (λ (b : List ℕ). IsAnswerIn asked b (Outgrown s)) read h
-answered asked None old new bytes read (Told r s c w) h = tt
-answered asked (Some all) old new bytes read (Told r s c w) h =
-    subst (λ (b : List ℕ). IsAnswerIn asked b (Told r s c w)) read h
+answered asked None old new bytes read (Told n c w) h = tt
+answered asked (Some all) old new bytes read (Told n c w) h =
+    subst (λ (b : List ℕ). IsAnswerIn asked b (Told n c w)) read h
 
 -- an answer for a script that is spelled is one to its text
 pub answered_in : (asked : Asked) (script : List ℕ) (ranks : ℕ) (lines : List Line) → IsTextOf script ranks lines →
@@ -39,7 +38,7 @@ answered_in asked script ranks lines spelled Unread h = absurd h
 answered_in asked script ranks lines spelled (Refused n k) h = absurd h
 answered_in asked script ranks lines spelled (Outgrown s) h =
     record { ranks = ranks; lines = lines; spelled = spelled; right = h }
-answered_in asked script ranks lines spelled (Told r s c w) h =
+answered_in asked script ranks lines spelled (Told n c w) h =
     record { ranks = ranks; lines = lines; spelled = spelled; right = h }
 
 -- an answer to words that are taken is right
@@ -50,18 +49,13 @@ answered_words words input old new asked taken Usage h = absurd h
 answered_words words input old new asked taken Unread h = record { asked = asked; taken = taken; right = h }
 answered_words words input old new asked taken (Refused n k) h = record { asked = asked; taken = taken; right = h }
 answered_words words input old new asked taken (Outgrown s) h = record { asked = asked; taken = taken; right = h }
-answered_words words input old new asked taken (Told r s c w) h = record { asked = asked; taken = taken; right = h }
+answered_words words input old new asked taken (Told n c w) h = record { asked = asked; taken = taken; right = h }
 
--- the causes of an answer that there are too many
-pub outgrown_long : (asked : Asked) (ranks : ℕ) (lines : List Line) (shape : Sizes) → shape ≡ sizes_for asked ranks →
-    AreTooLong shape lines → IsAnswerFor asked ranks lines (Outgrown asked.states)
-outgrown_long asked ranks lines shape same long =
-    (refl, inr (subst (λ (s : Sizes). AreTooLong s lines) same long))
-
-pub outgrown_many : (asked : Asked) (ranks : ℕ) (lines : List Line) (shape : Sizes) → shape ≡ sizes_for asked ranks →
-    AreTooMany shape.eager shape.ranks lines asked.states → IsAnswerFor asked ranks lines (Outgrown asked.states)
-outgrown_many asked ranks lines shape same many =
-    (refl, inl (subst (λ (s : Sizes). AreTooMany s.eager s.ranks lines asked.states) same many))
+-- an answer that there are too many
+pub outgrown_right : (asked : Asked) (ranks : ℕ) (lines : List Line) (shape : Sizes) → shape ≡ sizes_for asked ranks →
+    IsOutgrowing asked shape lines → IsAnswerFor asked ranks lines (Outgrown asked.states)
+outgrown_right asked ranks lines shape same over =
+    (refl, subst (λ (s : Sizes). IsOutgrowing asked s lines) same over)
 
 -- no answer has status 6
 no_six_told : (why : Option Why) → 6 ≡ why_status why → ⊥
@@ -73,7 +67,7 @@ no_six Usage h = cc
 no_six Unread h = cc
 no_six (Refused n k) h = cc
 no_six (Outgrown s) h = cc
-no_six (Told r s c w) h = no_six_told w h
+no_six (Told n c w) h = no_six_told w h
 
 pub not_six : {s : Ending} (answer : Response) → TellsWhy s answer → s.status ≡ 6 → ⊥
 not_six {s} answer e h =

@@ -1,18 +1,18 @@
 -- What the words ask for, and the parts of an answer.
-use Rattle.std.proofs.Common.{◌≡◌, ℕ, Option, Some, None, List, [], ◌∷◌, length, sym, ◌∙◌, subst}
+use Rattle.std.proofs.Common.{◌≡◌, ℕ, Option, Some, None, List, [], ◌∷◌, length, refl, sym, ◌∙◌, subst}
 use Rattle.std.specs.Option.{IfSome}
 use Rattle.std.specs.List.{slice_get}
 use Rattle.nm_types.proofs.OptionLemmas.{no_some, same_some}
 use Rattle.nm_types.specs.declared.scripts.Line.{Line}
 use Rattle.nm_types.specs.Sizes.{Sizes}
-use Rattle.nm_outcomes.specs.Outcomes.{AreOutcomes}
 use Rattle.nm_outcomes_top.specs.OptionWords.{InRange, IsTaken, sizes_for}
-use Rattle.nm_outcomes_top.specs.Texts.{stuck_count}
 use Rattle.nm_outcomes_top.specs.declared.words.Asked.{Asked}
 use Rattle.nm_outcomes_top.specs.declared.words.Question.TheVariants.{All}
 use Rattle.nm_waits.specs.declared.waits.Wait.{Wait}
 use Rattle.nm_waits.specs.Chains.{IsChain}
-use Rattle.nm_why_top.specs.Answers.{AreCounted, IsAnswerFor, IsAsked, IsChainOf, IsExplained}
+use Rattle.nm_why_top.specs.Answers.{IsAnswerFor, IsAsked, IsChainOf, IsCounted, IsExplained}
+use Rattle.nm_why_top.specs.declared.answers.Count.{Count}
+use Rattle.nm_why_top.specs.declared.answers.Response.{Response}
 use Rattle.nm_why_top.specs.declared.answers.Response.TheVariants.{Told}
 use Rattle.nm_why_texts.specs.declared.whys.Why.{Why}
 
@@ -50,9 +50,9 @@ chain_none (w ∷ waits) ranks here none = absurd (no_some w here)
 
 -- what is told of a script
 pub told_right : (asked : Asked) (ranks : ℕ) (lines : List Line) (shape : Sizes) → shape ≡ sizes_for asked ranks →
-    (reports stuck commands : ℕ) (why : Option Why) (texts : List (List ℕ)) → AreOutcomes shape lines texts →
-    reports ≡ length texts → stuck ≡ stuck_count texts → commands ≡ length lines → IsExplained shape lines why →
-    IsAnswerFor asked ranks lines (Told reports stuck commands why)
-told_right asked ranks lines shape same reports stuck commands why texts are all some many is =
-    subst (λ (s : Sizes). AreCounted s lines reports stuck × ((commands ≡ length lines) × IsExplained s lines why)) same
-    ((texts, are, all, some), (many, is))
+    (count : Count) (why : Option Why) → IsCounted asked shape lines count → IsExplained shape lines why →
+    (answer : Response) → answer ≡ Told count (length lines) why → IsAnswerFor asked ranks lines answer
+told_right asked ranks lines shape same count why counted is answer told =
+    subst (λ (a : Response). IsAnswerFor asked ranks lines a) (sym told)
+    (subst (λ (s : Sizes). IsCounted asked s lines count × ((length lines ≡ length lines) × IsExplained s lines why))
+    same (counted, (refl, is)))

@@ -1,15 +1,13 @@
 -- How all runs of a script end, by the ends of a search that tell what they tell.
-use Rattle.std.proofs.Common.{◌≡◌, ◌+◌, ◌<◌, ◌&&◌, ◌||◌, inl, inr, ℕ, suc, Bool, true, false, List, [], ◌∷◌, map, length, refl, sym, ◌∙◌}
-use Rattle.std.proofs.Common.{ap, get_or, subst, take}
+use Rattle.std.proofs.Common.{◌≡◌, ◌+◌, ◌<◌, ◌&&◌, ◌||◌, inl, inr, ℕ, suc, Bool, true, false, List, [], ◌∷◌, map}
+use Rattle.std.proofs.Common.{ap, get_or, length, refl, subst, sym, take, ◌∙◌}
 use Rattle.std.specs.Prelude.{Option, None, Some, is_none, is_some, not}
 use Rattle.std.specs.List.{list_all, list_any}
 use Rattle.std.proofs.lemmas.Bool.{false≢true}
-use Rattle.std.proofs.lemmas.Map.Keys.{any_passes_from_place}
 use Rattle.std.proofs.lemmas.List.{length-replicate, length-set}
 use Rattle.std.proofs.lemmas.Option.{slice_get_read}
 use Rattle.nm_types.proofs.ListLemmas.{get_from_map, get_map, take_next}
 use Rattle.nm_search.proofs.ListLemmas.{more_only}
-use Rattle.nm_types.proofs.TruthLemmas.{not_true}
 use Rattle.nm_types.specs.declared.scripts.Line.{Line}
 use Rattle.nm_types.specs.Limits.{IsScript}
 use Rattle.nm_types.specs.Sizes.{Sizes}
@@ -57,13 +55,7 @@ end_run runs shape lines ends script only end at =
     let run = runs shape lines rest.state script rest.met rest.rest in
     (run.0, run.1, run.2 ∙ sym rest.told_is)
 
--- so it hangs or ends as the end does
-pub end_hangs : EndsAreRuns → (shape : Sizes) (lines : List Line) (ends : List End) → IsScript shape.ranks lines →
-    TellsOnly shape lines ends → (end : End) → Has ends end → is_hung (told_at_end end) ≡ true → CanHang shape lines
-end_hangs runs shape lines ends script only end at hung =
-    let run = end_run runs shape lines ends script only end at in
-    (run.0, run.1, ap (λ (told : List RankTold). is_hung told) run.2 ∙ hung)
-
+-- so it ends as the end does
 pub end_ends : EndsAreRuns → (shape : Sizes) (lines : List Line) (ends : List End) → IsScript shape.ranks lines →
     TellsOnly shape lines ends → (end : End) → Has ends end → is_hung (told_at_end end) ≡ false → CanEnd shape lines
 end_ends runs shape lines ends script only end at quiet =
@@ -95,42 +87,15 @@ passing {X} test (x ∷ xs) h = by_first (test x) refl h (λ more. passing test 
     by_first true is so later = (x, (0, refl), is)
     by_first false is so later = let rest = later so in (rest.0, (suc rest.1.0, rest.1.1), rest.2)
 
--- an end at which a rank waits, and one at which none does
-abbrev pub hangs_at : End → Bool
-hangs_at end = is_hung (told_at_end end)
-
+-- an end at which no rank waits
 abbrev pub ends_at : End → Bool
 ends_at end = not (is_hung (told_at_end end))
-
--- where none of them passes, each fails
-none_passes : {X : Type 0} (test : X → Bool) (xs : List X) → list_any test xs ≡ false → (x : X) → Has xs x →
-    test x ≡ false
-none_passes test xs none x at =
-    not_true (test x) (λ so. false≢true (sym none ∙ any_passes_from_place test xs at.0 x at.1 so))
-
-pub not_hung : (ends : List End) → list_any hangs_at ends ≡ false → NoneHangs ends
-not_hung ends none = none_passes hangs_at ends none
-
--- no run ends where no end does
-pub none_ends : (shape : Sizes) (lines : List Line) (ends : List End) → TellsAll shape lines ends →
-    list_any ends_at ends ≡ false → ¬ (CanEnd shape lines)
-none_ends shape lines ends tells none (run, lawful, quiet) =
-    let end = run_end shape lines ends tells run lawful in
-    let ended : not (is_hung (told_at_end end.0)) ≡ true =
-    ap (λ (told : List RankTold). not (is_hung told)) end.2 ∙ ap (λ (b : Bool). not b) quiet in
-    false≢true (sym (none_passes ends_at ends none end.0 end.1) ∙ ended)
-
--- .. and one hangs or ends where an end does
-pub some_hangs : EndsAreRuns → (shape : Sizes) (lines : List Line) (ends : List End) → IsScript shape.ranks lines →
-    TellsOnly shape lines ends → list_any hangs_at ends ≡ true → CanHang shape lines
-some_hangs runs shape lines ends script only some =
-    let end = passing hangs_at ends some in
-    end_hangs runs shape lines ends script only end.0 end.1 end.2
 
 quiet_from : (b : Bool) → not b ≡ true → b ≡ false
 quiet_from true h = cc
 quiet_from false h = refl
 
+-- one ends where an end does
 pub some_ends : EndsAreRuns → (shape : Sizes) (lines : List Line) (ends : List End) → IsScript shape.ranks lines →
     TellsOnly shape lines ends → list_any ends_at ends ≡ true → CanEnd shape lines
 some_ends runs shape lines ends script only some =

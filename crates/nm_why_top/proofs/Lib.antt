@@ -1,3 +1,4 @@
 mod AnswerLemmas
 mod AskedLemmas
 mod FateLemmas
+mod SeekLemmas

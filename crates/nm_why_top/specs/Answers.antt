@@ -30,6 +30,8 @@ use Rattle.nm_why.specs.Candidates.{IsSingle}
 use Rattle.nm_why.specs.Cures.{AreCures}
 use Rattle.nm_why.specs.Hangs.{CanHang, Does, is_hung}
 use Rattle.nm_why.specs.Least.{IsLeast}
+use Rattle.nm_why_top.specs.declared.answers.Count.{Count}
+use Rattle.nm_why_top.specs.declared.answers.Count.TheVariants.{All as AllCounted, Many}
 use Rattle.nm_why_top.specs.declared.answers.Response.{Response}
 use Rattle.nm_why_top.specs.declared.answers.Response.TheVariants.{Outgrown, Refused, Told, Unread, Usage}
 use Rattle.nm_why_texts.specs.declared.whys.Why.{Why}
@@ -80,10 +82,15 @@ abbrev pub AreCounted : Sizes → List Line → ℕ → ℕ → Type 0
 AreCounted shape lines reports stuck =
     (texts : List (List ℕ)) × AreOutcomes shape lines texts × (reports ≡ length texts) × (stuck ≡ stuck_count texts)
 
+-- .. or they outgrow the list
+abbrev pub IsCounted : Asked → Sizes → List Line → Count → Type 0
+IsCounted asked shape lines (AllCounted reports stuck) = AreCounted shape lines reports stuck
+IsCounted asked shape lines Many = IsOutgrowing asked shape lines
+
 -- an answer for a script is right
 abbrev pub IsAnswerFor : Asked → ℕ → List Line → Response → Type 0
-IsAnswerFor asked ranks lines (Told reports stuck commands why) =
-    AreCounted (sizes_for asked ranks) lines reports stuck
+IsAnswerFor asked ranks lines (Told count commands why) =
+    IsCounted asked (sizes_for asked ranks) lines count
     × ((commands ≡ length lines) × IsExplained (sizes_for asked ranks) lines why)
 IsAnswerFor asked ranks lines (Outgrown states) =
     (states ≡ asked.states) × IsOutgrowing asked (sizes_for asked ranks) lines
@@ -127,10 +134,20 @@ abbrev pub why_status : Option Why → ℕ
 why_status None = 0
 why_status (Some why) = 1
 
--- the numbers of the reports, and why the script can hang, if it can
-abbrev pub told_text : ℕ → ℕ → ℕ → Option Why → List ℕ
-told_text reports stuck commands None = numbers_line reports stuck
-told_text reports stuck commands (Some why) = numbers_line reports stuck ++ why_text why commands
+-- what is said of reports that outgrow the list
+abbrev pub many_line : Option Why → List ℕ
+many_line None = codes "outcomes many stuck 0\n"
+many_line (Some why) = codes "outcomes many stuck some\n"
+
+-- the numbers of the reports
+abbrev pub count_line : Count → Option Why → List ℕ
+count_line (AllCounted reports stuck) why = numbers_line reports stuck
+count_line Many why = many_line why
+
+-- .. and why the script can hang, if it can
+abbrev pub told_text : Count → ℕ → Option Why → List ℕ
+told_text count commands None = count_line count None
+told_text count commands (Some why) = count_line count (Some why) ++ why_text why commands
 
 -- what is said of words that are not taken
 abbrev pub usage : List ℕ
@@ -142,7 +159,7 @@ text_of Usage = usage
 text_of Unread = unread
 text_of (Refused line kind) = fault_text line kind
 text_of (Outgrown states) = outgrown_text states
-text_of (Told reports stuck commands why) = told_text reports stuck commands why
+text_of (Told count commands why) = told_text count commands why
 
 -- the status of an answer that was written
 abbrev pub status_of : Response → ℕ
@@ -150,7 +167,7 @@ status_of Usage = 2
 status_of Unread = 4
 status_of (Refused line kind) = 3
 status_of (Outgrown states) = 10
-status_of (Told reports stuck commands why) = why_status why
+status_of (Told count commands why) = why_status why
 
 -- it ends with this answer: it is right, and its text was written, whole and with its status, or the sink failed
 pub record TellsWhy (e : Ending) (answer : Response) : Type 0 where

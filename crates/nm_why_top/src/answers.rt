@@ -1,14 +1,24 @@
 //! What there is to say of the words and the source, and how it is said.
 
-ghost use Rattle.std.specs.Prelude.{◌≡◌, IfOk};
+ghost use Rattle.std.specs.Prelude.{◌≡◌, IfOk, string_bytes};
 ghost use Rattle.nm_outcomes_top.specs.Texts.{outgrown_text};
-ghost use Rattle.nm_why_top.specs.Answers.{status_of, text_of, told_text, why_status as why_status_lem};
+ghost use Rattle.nm_why_top.specs.Answers.{count_line as count_line_lem, many_line as many_line_lem, status_of};
+ghost use Rattle.nm_why_top.specs.Answers.{text_of, told_text, why_status as why_status_lem};
 
 use nm_script::{Kind, fault_text};
 use nm_shell::line;
 use nm_types::Memory;
 use nm_why_texts::{Why, push_why};
 use std::alloc::{AllocError, Global};
+
+/// How many reports a script can have.
+#[derive(Clone, Copy)]
+pub enum Count {
+    /// So many, and so many of them are stuck.
+    All { reports: usize, stuck: usize },
+    /// More states lead to them than the limit, or they are too long.
+    Many,
+}
 
 /// What there is to say.
 #[derive(Drop)]
@@ -22,15 +32,13 @@ pub enum Response {
         line: u32,
         kind: Kind,
     },
-    /// The search met too many states, or the reports are too long.
+    /// The searches met too many states.
     Outgrown {
         states: u32,
     },
-    /// How many reports the script can have, how many of them are stuck, of how many commands, and why it can hang,
-    /// if it can.
+    /// How many reports the script can have, of how many commands, and why it can hang, if it can.
     Told {
-        reports: usize,
-        stuck: usize,
+        count: Count,
         commands: usize,
         why: Option<Why>,
     },
@@ -40,7 +48,7 @@ pub enum Response {
 const USAGE: &str = "usage: why [--cells N] [--eager N] STATES <SCRIPT
 ";
 
-/// What is said where there are too many states, or the reports are too long.
+/// What is said where there are too many states.
 fn outgrown(alloc: Global, states: u32) -> Result<Vec<u8>, AllocError>
     ensures { IfOk result (λ bytes. bytes.items ≡ outgrown_text states) }
 {
@@ -48,17 +56,35 @@ fn outgrown(alloc: Global, states: u32) -> Result<Vec<u8>, AllocError>
     Ok(text.into_bytes())
 }
 
-/// What is told.
-fn told(
-    alloc: Global,
-    reports: usize,
-    stuck: usize,
-    commands: usize,
-    why: &Option<Why>,
-) -> Result<Vec<u8>, Memory>
-    ensures { IfOk result (λ bytes. bytes.items ≡ told_text reports stuck commands why.now) }
+/// What is said of reports that outgrow the list.
+fn many_line(alloc: Global, why: &Option<Why>) -> Result<String, AllocError>
+    ensures { IfOk result (λ text. string_bytes text ≡ many_line_lem why.now) }
 {
-    let mut out = format!(in alloc; "outcomes {} stuck {}\n", reports, stuck)?;
+    if why.is_some() {
+        format!(in alloc; "outcomes many stuck some\n")
+    } else {
+        format!(in alloc; "outcomes many stuck 0\n")
+    }
+}
+
+/// How many reports there are.
+fn count_line(alloc: Global, count: Count, why: &Option<Why>) -> Result<String, AllocError>
+    ensures { IfOk result (λ text. string_bytes text ≡ count_line_lem count why.now) }
+{
+    match count {
+        Count::All { reports, stuck } => format!(in alloc;
+            "outcomes {} stuck {}\n",
+            reports, stuck
+        ),
+        Count::Many => many_line(alloc, why),
+    }
+}
+
+/// What is told.
+fn told(alloc: Global, count: Count, commands: usize, why: &Option<Why>) -> Result<Vec<u8>, Memory>
+    ensures { IfOk result (λ bytes. bytes.items ≡ told_text count commands why.now) }
+{
+    let mut out = count_line(alloc, count, why)?;
     if let Some(why) = why {
         push_why(alloc, &mut out, why, commands)?;
     }
@@ -75,11 +101,10 @@ pub fn text(alloc: Global, answer: &Response) -> Result<Vec<u8>, Memory>
         Response::Refused { line, kind } => Ok(fault_text(alloc, *line, *kind)?),
         Response::Outgrown { states } => Ok(outgrown(alloc, *states)?),
         Response::Told {
-            reports,
-            stuck,
+            count,
             commands,
             why,
-        } => told(alloc, *reports, *stuck, *commands, why),
+        } => told(alloc, *count, *commands, why),
     }
 }
 

@@ -6,16 +6,25 @@ ghost use Rattle.nm_types.specs.declared.scripts.Line as the_line;
 ghost use Rattle.nm_types.specs.Limits.{IsScript};
 ghost use Rattle.nm_types.specs.Sizes.{Sizes};
 ghost use Rattle.nm_explored.specs.Ends.{AreEndsByWay, TellsAll, TellsOnly};
+ghost use Rattle.nm_hangs.specs.Found.{IsHang};
 ghost use Rattle.nm_listed.specs.Texts.{bytes_of};
+ghost use Rattle.nm_outcomes_top.specs.Answers.{IsOutgrowing};
 ghost use Rattle.nm_outcomes_top.specs.OptionWords.{InRange, sizes_for};
 ghost use Rattle.nm_outcomes_top.specs.Texts.{is_stuck as is_stuck_lem, stuck_count};
 ghost use Rattle.nm_why.specs.Hangs.{CanHang, Does};
 ghost use Rattle.nm_why.specs.Least.{IsLeast};
+ghost use Rattle.nm_why_top.specs.declared.answers.Count.TheVariants.{All as AllCounted};
+ghost use Rattle.nm_why_top.specs.declared.answers.Response.TheVariants.{Told};
+ghost use Rattle.nm_why_top.specs.declared.seeking.Sought.TheVariants as sought;
+ghost use Rattle.nm_why_top.specs.Seeking.{IsSeen, IsWayTo};
 ghost use Rattle.nm_why_top.specs.Answers.{IsAnswerFor, IsChainOf, IsExplained, IsStuck, IsWhy, NoneHangs};
 
-use crate::answers::Response;
-use crate::searching::{Complete, Hunt, does_one_end, is_hung};
+use crate::answers::{Count, Response};
+use crate::searching::{Hunt, Hunts, does_one_end, is_hung};
+use crate::seeking::{Seen, Sought, seek};
+use nm_explored::choices::moves::Turn;
 use nm_explored::{End, Explored, explore};
+use nm_hangs::{Hang, find_hang};
 use nm_listed::lawful::ends_are_runs;
 use nm_listed::{Found, Texts, reports};
 use nm_outcomes::spots::ranks::Rank;
@@ -55,6 +64,27 @@ fn count_all(texts: &Texts) -> usize
     texts.as_slice().len()
 }
 
+/// .. and how many of them are stuck.
+fn count_of(texts: &Texts) -> Count
+    ensures { result ≡ AllCounted (length texts.now) (stuck_count texts.now) }
+{
+    Count::All {
+        reports: count_all(texts),
+        stuck: count_stuck(texts),
+    }
+}
+
+/// What is told of a script.
+fn told_of(script: &Script, count: Count, why: Option<Why>) -> Response
+    ensures { result ≡ Told count (length script.now.lines) why }
+{
+    Response::Told {
+        count,
+        commands: script.lines.len(),
+        why,
+    }
+}
+
 /// The states of the ranks at the first end where one waits, if there is one.
 fn stuck_states(alloc: Global, shape: Shape, ends: &[End]) -> Result<Option<Vec<Rank>>, Memory>
     ensures some { (lines : List the_line.Line) → AreEndsByWay shape lines ends.now →
@@ -91,15 +121,14 @@ fn aim_of(ends: &[End]) -> Aim
     Aim::Hang
 }
 
-/// The least part of a script that still does what it does. Whether a part can hang is seen by a search for one run that
-/// does; whether it can end, too, by a search over all runs.
+/// The least part of a script that still does what it does.
 fn least_of(alloc: Global, limit: u32, of: &Task) -> Result<Least, Memory>
     requires { Does of.now.aim of.now.shape of.now.lines.now }
     ensures { IfOk result (IsLeast of.now.aim of.now.shape of.now.lines.now) }
 {
     match of.aim {
         Aim::Hang => least_part(alloc, &Hunt { states: limit }, of),
-        Aim::Both => least_part(alloc, &Complete { states: limit }, of),
+        Aim::Both => least_part(alloc, &Hunts { states: limit }, of),
     }
 }
 
@@ -158,7 +187,6 @@ fn explain_ends(
 }
 
 /// The answer for a script whose search found these ends.
-#[tactic(auto, using(crate::proofs::AnswerLemmas::outgrown_long))]
 fn answer_ends(
     alloc: Global,
     asked: Asked,
@@ -175,20 +203,117 @@ fn answer_ends(
 {
     let why = explain_ends(alloc, script, shape, asked.states, ends.as_slice())?;
     match reports(alloc, script, shape, ends)? {
-        Found::All(texts) => Ok(Response::Told {
-            reports: count_all(&texts),
-            stuck: count_stuck(&texts),
-            commands: script.lines.len(),
-            why,
-        }),
-        Found::TooLong => Ok(Response::Outgrown {
+        Found::All(texts) => Ok(told_of(script, count_of(&texts), why)),
+        Found::TooLong => Ok(told_of(script, Count::Many, why)),
+    }
+}
+
+/// What the least part of a script is to do still that can hang: it can end, too, if a run was found that does.
+fn aim_with(end: &Seen) -> Aim
+    ensures { (shape : Sizes) (lines : List the_line.Line) → IsScript shape.ranks lines →
+        IsSeen sought.End shape lines end.now → CanHang shape lines → Does result shape lines }
+{
+    ends_are_runs();
+    match end {
+        Seen::By { .. } => Aim::Both,
+        Seen::Never => Aim::Hang,
+        Seen::Open => Aim::Hang,
+    }
+}
+
+/// .. of this script.
+fn aim_found(alloc: Global, script: &Script, shape: Shape, limit: u32) -> Result<Aim, Memory>
+    requires { shape.ranks ≡ script.now.ranks }
+    ensures { IfOk result (λ aim. CanHang shape script.now.lines → Does aim shape script.now.lines) }
+{
+    let end = seek(alloc, script, shape, limit, Sought::End)?;
+    Ok(aim_with(&end))
+}
+
+/// Why a script hangs, by the moves to the end of a run that does.
+fn explain_way(
+    alloc: Global,
+    script: &Script,
+    shape: Shape,
+    limit: u32,
+    path: &[Turn],
+) -> Result<Why, Memory>
+    requires equal { shape.ranks ≡ script.now.ranks }
+    requires way { IsWayTo sought.Hang shape script.now.lines path.now }
+    ensures { IfOk result (IsWhy shape script.now.lines) }
+{
+    ends_are_runs();
+    let aim = aim_found(alloc, script, shape, limit)?;
+    let states = states_after(alloc, shape.ranks(), path)?;
+    explain(alloc, script, shape, limit, aim, states)
+}
+
+/// The answer for a script that can hang, and whose reports outgrow the list.
+#[tactic(auto, using(crate::proofs::AnswerLemmas::outgrown_right))]
+fn answer_hanging(
+    alloc: Global,
+    asked: Asked,
+    script: &Script,
+    shape: Shape,
+) -> Result<Response, Memory>
+    requires range { InRange asked }
+    requires sizes { shape ≡ sizes_for asked script.now.ranks }
+    requires outgrowing { IsOutgrowing asked shape script.now.lines }
+    ensures { IfOk result (IsAnswerFor asked script.now.ranks script.now.lines) }
+{
+    match seek(alloc, script, shape, asked.states, Sought::Hang)? {
+        Seen::By { path } => {
+            let why = explain_way(alloc, script, shape, asked.states, path.as_slice())?;
+            Ok(told_of(script, Count::Many, Some(why)))
+        }
+        Seen::Never => Ok(told_of(script, Count::Many, None)),
+        Seen::Open => Ok(Response::Outgrown {
             states: asked.states,
         }),
     }
 }
 
+/// The answer for a script whose reports outgrow the list, by what was found of it.
+#[tactic(auto, using(crate::proofs::AnswerLemmas::outgrown_right))]
+fn answer_found(
+    alloc: Global,
+    asked: Asked,
+    script: &Script,
+    shape: Shape,
+    found: &Hang,
+) -> Result<Response, Memory>
+    requires range { InRange asked }
+    requires sizes { shape ≡ sizes_for asked script.now.ranks }
+    requires outgrowing { IsOutgrowing asked shape script.now.lines }
+    requires found { IsHang shape script.now.lines asked.states found.now }
+    ensures { IfOk result (IsAnswerFor asked script.now.ranks script.now.lines) }
+{
+    match found {
+        Hang::Found { .. } => answer_hanging(alloc, asked, script, shape),
+        Hang::Never => Ok(told_of(script, Count::Many, None)),
+        Hang::Open => Ok(Response::Outgrown {
+            states: asked.states,
+        }),
+    }
+}
+
+/// The answer for a script whose reports outgrow the list.
+fn answer_many(
+    alloc: Global,
+    asked: Asked,
+    script: &Script,
+    shape: Shape,
+) -> Result<Response, Memory>
+    requires range { InRange asked }
+    requires sizes { shape ≡ sizes_for asked script.now.ranks }
+    requires outgrowing { IsOutgrowing asked shape script.now.lines }
+    ensures { IfOk result (IsAnswerFor asked script.now.ranks script.now.lines) }
+{
+    let found = find_hang(alloc, script, shape, asked.states)?;
+    answer_found(alloc, asked, script, shape, &found)
+}
+
 /// The answer for a script.
-#[tactic(auto, using(crate::proofs::AnswerLemmas::outgrown_many))]
 pub fn answer_script(alloc: Global, asked: Asked, script: &Script) -> Result<Response, Memory>
     requires { InRange asked }
     ensures { IfOk result (IsAnswerFor asked script.now.ranks script.now.lines) }
@@ -196,8 +321,6 @@ pub fn answer_script(alloc: Global, asked: Asked, script: &Script) -> Result<Res
     let shape = Shape::new(script.ranks, asked.cells, asked.eager).unwrap();
     match explore(alloc, script, shape, asked.states)? {
         Explored::All(ends) => answer_ends(alloc, asked, script, shape, ends.into_vec()),
-        Explored::TooMany => Ok(Response::Outgrown {
-            states: asked.states,
-        }),
+        Explored::TooMany => answer_many(alloc, asked, script, shape),
     }
 }

@@ -1,27 +1,24 @@
-//! The search over all runs of a script, by its states.
+//! The searches for a run that hangs, and for one that ends.
 
-ghost use Rattle.std.specs.Prelude.{◌≡◌, ℕ, List, is_some, not};
+ghost use Rattle.std.specs.Prelude.{◌≡◌, ℕ, IfOk, List, is_some, not};
 ghost use Rattle.std.specs.List.{list_any};
 ghost use Rattle.nm_types.specs.declared.scripts.Line as the_line;
 ghost use Rattle.nm_types.specs.Limits.{IsScript};
 ghost use Rattle.nm_types.specs.Sizes.{Sizes};
-ghost use Rattle.nm_explored.specs.Ends.{TellsAll, TellsOnly, told_at_end};
+ghost use Rattle.nm_explored.specs.Ends.{told_at_end};
 ghost use Rattle.nm_hangs.specs.Found.{IsHang};
-ghost use Rattle.nm_why.specs.Hangs.{IsFate, is_hung as is_hung_lem};
+ghost use Rattle.nm_why.specs.Hangs.{CanHang, IsFate, is_hung as is_hung_lem};
+ghost use Rattle.nm_why_top.specs.declared.seeking.Sought.TheVariants as sought;
+ghost use Rattle.nm_why_top.specs.Seeking.{IsSeen};
 
-use nm_explored::{End, Explored, explore};
+use crate::seeking::{Seen, Sought, seek};
+use nm_explored::End;
 use nm_hangs::{Hang, find_hang};
 use nm_listed::lawful::ends_are_runs;
 use nm_report::RankAccount;
 use nm_types::{Memory, Script, Shape};
 use nm_why::hangs::{Fate, Search};
 use std::alloc::Global;
-
-/// A search that gives up where it meets more states than this.
-#[derive(Clone, Copy)]
-pub struct Complete {
-    pub states: u32,
-}
 
 /// Whether a rank waits by one of these accounts.
 fn does_one_wait(accounts: &[RankAccount]) -> bool
@@ -37,42 +34,11 @@ pub fn is_hung(end: &End) -> bool
     does_one_wait(end.told.as_slice())
 }
 
-/// Whether a rank waits at one of these ends.
-fn does_one_hang(ends: &[End]) -> bool
-    ensures { result ≡ list_any (λ end. is_hung_lem (told_at_end end)) ends.now }
-{
-    ends.iter().any(|end| is_hung(end))
-}
-
 /// Whether no rank waits at one of these ends.
 pub fn does_one_end(ends: &[End]) -> bool
     ensures { result ≡ list_any (λ end. not (is_hung_lem (told_at_end end))) ends.now }
 {
     ends.iter().any(|end| !is_hung(end))
-}
-
-/// How all runs of a script end, by ends that tell what they tell.
-fn fate_of(ends: &[End]) -> Fate
-    ensures { (shape : Sizes) (lines : List the_line.Line) → IsScript shape.ranks lines →
-        TellsAll shape lines ends.now → TellsOnly shape lines ends.now → IsFate shape lines result }
-{
-    ends_are_runs();
-    if !does_one_hang(ends) {
-        return Fate::Ends;
-    }
-    if does_one_end(ends) {
-        return Fate::Either;
-    }
-    Fate::Hangs
-}
-
-impl Search for Complete {
-    fn fate(&self, alloc: Global, script: &Script, shape: Shape) -> Result<Fate, Memory> {
-        match explore(alloc, script, shape, self.states)? {
-            Explored::All(ends) => Ok(fate_of(ends.as_slice())),
-            Explored::TooMany => Ok(Fate::Open),
-        }
-    }
 }
 
 /// A search for one run that hangs, which gives up where it meets more states than this.
@@ -97,5 +63,65 @@ impl Search for Hunt {
     fn fate(&self, alloc: Global, script: &Script, shape: Shape) -> Result<Fate, Memory> {
         let found = find_hang(alloc, script, shape, self.states)?;
         Ok(fate_by(&found))
+    }
+}
+
+/// A search for one run that hangs, and for one that ends. Each gives up where it meets more states than this.
+#[derive(Clone, Copy)]
+pub struct Hunts {
+    pub states: u32,
+}
+
+/// How the runs of a script end, of which one hangs, by what is known of one that ends.
+fn fate_with(end: &Seen) -> Fate
+    ensures { (shape : Sizes) (lines : List the_line.Line) → IsScript shape.ranks lines → CanHang shape lines →
+        IsSeen sought.End shape lines end.now → IsFate shape lines result }
+{
+    ends_are_runs();
+    match end {
+        Seen::By { .. } => Fate::Either,
+        Seen::Never => Fate::Hangs,
+        Seen::Open => Fate::MayHang,
+    }
+}
+
+/// How the runs of a script end, of which one hangs.
+fn fate_of_hanging(
+    alloc: Global,
+    script: &Script,
+    shape: Shape,
+    states: u32,
+) -> Result<Fate, Memory>
+    requires equal { shape.ranks ≡ script.now.ranks }
+    requires hangs { CanHang shape script.now.lines }
+    ensures { IfOk result (IsFate shape script.now.lines) }
+{
+    let end = seek(alloc, script, shape, states, Sought::End)?;
+    Ok(fate_with(&end))
+}
+
+/// How the runs of a script end, by what was found of it.
+fn fate_after(
+    alloc: Global,
+    script: &Script,
+    shape: Shape,
+    states: u32,
+    found: &Hang,
+) -> Result<Fate, Memory>
+    requires equal { shape.ranks ≡ script.now.ranks }
+    requires found { IsHang shape script.now.lines states found.now }
+    ensures { IfOk result (IsFate shape script.now.lines) }
+{
+    match found {
+        Hang::Found { .. } => fate_of_hanging(alloc, script, shape, states),
+        Hang::Never => Ok(Fate::Ends),
+        Hang::Open => Ok(Fate::Open),
+    }
+}
+
+impl Search for Hunts {
+    fn fate(&self, alloc: Global, script: &Script, shape: Shape) -> Result<Fate, Memory> {
+        let found = find_hang(alloc, script, shape, self.states)?;
+        fate_after(alloc, script, shape, self.states, &found)
     }
 }

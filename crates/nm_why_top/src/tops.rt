@@ -96,8 +96,9 @@ fn find_answer<S: Source>(
 /// them how many states each search may meet.
 ///
 /// The status is 0 where no run hangs, 1 where one does, 2 where the words are not taken, 3 where the bytes spell no
-/// script, 4 where a read failed, 5 where a write failed, 6 for want of memory, and 10 where the first search met more
-/// states or the reports have more than 134,217,728 bytes. The whole text is in memory before the first write.
+/// script, 4 where a read failed, 5 where a write failed, 6 for want of memory, and 10 where the list of all reports
+/// met more states or they have more than 134,217,728 bytes, and a search for a run that hangs met more states, too.
+/// The whole text is in memory before the first write.
 pub fn why<S: Source, K: Sink>(alloc: Global, words: &[String], source: &mut S, sink: &mut K) -> u8
     // What is due is said, and nothing else, by what the words ask for and the bytes are; or a write failed, or memory
     // ran out.

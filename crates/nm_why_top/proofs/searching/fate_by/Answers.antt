@@ -1,7 +1,5 @@
 -- By what was found.
-use Rattle.std.proofs.Common.{ℕ, List, subst}
-use Rattle.nm_types.specs.declared.scripts.Line.{Line}
-use Rattle.nm_types.specs.Sizes.{Sizes}
+use Rattle.std.proofs.Common.{subst}
 use Rattle.nm_hangs.specs.declared.hangs.Hang.{Hang}
 use Rattle.nm_hangs.specs.Found.{IsHang}
 use Rattle.nm_why_top.proofs.FateLemmas.{never_hung, trace_hangs}
