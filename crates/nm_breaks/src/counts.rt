@@ -30,7 +30,7 @@ fn count_at(counts: &[PairCount], at: usize) -> Option<PairCount>
 }
 
 /// The first count of packets that is not the one called for, if one is not.
-pub fn first_counted(
+pub(crate) fn first_counted(
     alloc: Global,
     ranks: &[RankAccount],
     pairs: &[PairCount],
