@@ -9,6 +9,7 @@ pub mod ListLemmas
 pub mod LogLemmas
 pub mod LookLemmas
 pub mod MoveLemmas
+pub mod PartLemmas
 pub mod PathLemmas
 pub mod PlaceLemmas
 mod QuietLemmas

@@ -5,6 +5,7 @@ pub mod Looks
 pub mod Moves
 pub mod Numbers
 pub mod Outcomes
+pub mod Parts
 pub mod Paths
 pub mod Places
 pub mod Queues

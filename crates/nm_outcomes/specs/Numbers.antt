@@ -5,6 +5,8 @@ use Rattle.nm_history.specs.declared.plain.Pair.{Pair}
 use Rattle.nm_search.specs.Numbers.{mixed_lem}
 use Rattle.nm_outcomes.specs.declared.spots.deeds.Deed.{Deed}
 use Rattle.nm_outcomes.specs.declared.spots.deeds.Deed.TheVariants as deed
+use Rattle.nm_outcomes.specs.declared.spots.deeds.Part.{Part}
+use Rattle.nm_outcomes.specs.declared.spots.deeds.Part.TheVariants as part
 use Rattle.nm_outcomes.specs.declared.spots.deeds.Reply.{Reply}
 use Rattle.nm_outcomes.specs.declared.spots.deeds.Reply.TheVariants as reply
 use Rattle.nm_outcomes.specs.RankStates.{Spot}
@@ -42,6 +44,15 @@ arrival_number a = mixed_lem a.env.from a.n
 -- a number of a receive with its message
 abbrev pub pair_number : Pair → ℕ
 pair_number p = mixed_lem p.number (arrival_number p.arrival)
+
+-- a number of a part of a rank's state
+abbrev pub part_number : Part → ℕ
+part_number (part.Did d) = mixed_lem 1 (deed_number d)
+part_number (part.Open r) = mixed_lem 2 r.number
+part_number (part.Free a) = mixed_lem 3 (arrival_number a)
+part_number (part.Paired p) = mixed_lem 4 (pair_number p)
+part_number (part.Came a) = mixed_lem 5 (arrival_number a)
+part_number (part.Gone m) = mixed_lem 6 (mixed_lem m.rank m.n)
 
 -- a number of messages, in order
 abbrev pub arrivals_number : List Arrival → ℕ

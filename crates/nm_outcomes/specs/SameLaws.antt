@@ -16,14 +16,17 @@ use Rattle.nm_search.specs.Tells.{Tells, both, by_parts, equivalence, lists, num
 use Rattle.nm_outcomes.specs.declared.spots.deeds.Deed.{Deed}
 use Rattle.nm_outcomes.specs.declared.spots.deeds.Deed.TheVariants as deed
 use Rattle.nm_match.specs.declared.names.Message.{Message}
+use Rattle.nm_outcomes.specs.declared.spots.deeds.Part.{Part}
+use Rattle.nm_outcomes.specs.declared.spots.deeds.Part.TheVariants as part
 use Rattle.nm_outcomes.specs.declared.spots.deeds.Receive.{Receive}
 use Rattle.nm_outcomes.specs.declared.spots.deeds.Reply.{Reply}
 use Rattle.nm_outcomes.specs.declared.spots.deeds.Reply.TheVariants as reply
 use Rattle.nm_outcomes.specs.contracts.spots.deeds.DeedPartialEq.TheImpl.{ghosts as deed_eq}
 use Rattle.nm_match.specs.contracts.names.MessagePartialEq.TheImpl.{ghosts as message_eq}
+use Rattle.nm_outcomes.specs.contracts.spots.deeds.PartPartialEq.TheImpl.{ghosts as part_eq}
 use Rattle.nm_outcomes.specs.contracts.spots.deeds.ReceivePartialEq.TheImpl.{ghosts as receive_eq}
 use Rattle.nm_outcomes.specs.contracts.spots.deeds.ReplyPartialEq.TheImpl.{ghosts as reply_eq}
-use Rattle.nm_outcomes.specs.Numbers.{spot_number}
+use Rattle.nm_outcomes.specs.Numbers.{part_number, spot_number}
 use Rattle.nm_outcomes.specs.Sames.{same_spots}
 use Rattle.nm_outcomes.specs.RankStates.{Spot}
 
@@ -171,6 +174,34 @@ own_deed (deed.Ran l r) = (ends (l, r) (l, r)).1 refl
 
 pub deeds : Tells deed_eq.eq
 deeds = of_self same_deed own_deed
+
+same_parts : (x y : Part) → part_eq.eq x y ≡ true → x ≡ y
+same_parts (part.Did a) (part.Did b) so = ap part.Did ((deeds a b).0 so)
+same_parts (part.Open a) (part.Open b) so = ap part.Open ((receives a b).0 so)
+same_parts (part.Free a) (part.Free b) so = ap part.Free ((arrivals a b).0 so)
+same_parts (part.Paired a) (part.Paired b) so = ap part.Paired ((pairs a b).0 so)
+same_parts (part.Came a) (part.Came b) so = ap part.Came ((arrivals a b).0 so)
+same_parts (part.Gone a) (part.Gone b) so = ap part.Gone ((messages a b).0 so)
+same_parts x y so = absurd (false≢true so)
+
+own_part : (x : Part) → part_eq.eq x x ≡ true
+own_part (part.Did a) = (deeds a a).1 refl
+own_part (part.Open a) = (receives a a).1 refl
+own_part (part.Free a) = (arrivals a a).1 refl
+own_part (part.Paired a) = (pairs a a).1 refl
+own_part (part.Came a) = (arrivals a a).1 refl
+own_part (part.Gone a) = (messages a a).1 refl
+
+-- so does the test of parts
+pub same_part : Tells part_eq.eq
+same_part = of_self same_parts own_part
+
+pub parts_equiv : IsEquivalence part_eq.eq
+parts_equiv = equivalence same_part
+
+-- equal parts have one number
+pub parts_alike : Alike part_eq.eq (λ (a : Part). u64 (part_number a))
+parts_alike = record { fed = λ x y so. ap (λ (a : Part). u64 (part_number a)) ((same_part x y).0 so) }
 
 -- the test tells which states are equal
 pub same_spot : Tells same_spots

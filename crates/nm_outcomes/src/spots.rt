@@ -11,9 +11,11 @@
 //! - What a state says of live requests and messages, of how many commands ran, messages were sent and
 //!   receives were started, and of recalls is what the definitions say of its history (`laws::states_say`).
 //! - Two states of a rank are taken for one where they are equal, and only there (`==` of `Rank`).
+//! - A rank's state is that of its parts (`specs/Parts.antt`, `PartLemmas.parts_make`).
 
 pub mod deeds;
 mod hashes;
 pub mod laws;
 pub mod looks;
+pub mod parts;
 pub mod ranks;

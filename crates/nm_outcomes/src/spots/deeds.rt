@@ -3,8 +3,9 @@
 ghost use Rattle.std.specs.Prelude.{◌≡◌};
 ghost use Rattle.nm_outcomes.specs.Deeds.{post_of_lem};
 
+use nm_history::plain::Pair;
 pub use nm_match::Message;
-use nm_types::{How, Peer, Post, Seen, TagPick};
+use nm_types::{Arrival, How, Peer, Post, Seen, TagPick};
 
 /// The answer of a command.
 #[derive(Clone, Copy, PartialEq)]
@@ -90,4 +91,16 @@ pub enum Deed {
         line: u64,
         reply: Reply,
     },
+}
+
+/// A part of a rank's state: of what it did, of its open receives, of its free messages, of its receives with their
+/// messages, of the messages that came, and of those that were withdrawn.
+#[derive(Clone, Copy, PartialEq)]
+pub enum Part {
+    Did(Deed),
+    Open(Receive),
+    Free(Arrival),
+    Paired(Pair),
+    Came(Arrival),
+    Gone(Message),
 }

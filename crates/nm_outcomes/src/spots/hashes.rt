@@ -3,9 +3,9 @@
 ghost use Rattle.std.specs.Prelude.{◌≡◌, fold};
 ghost use Rattle.nm_search.specs.Numbers.{mixed_lem};
 ghost use Rattle.nm_outcomes.specs.Numbers.{arrival_number, arrivals_number, deed_number};
-ghost use Rattle.nm_outcomes.specs.Numbers.{pair_number, reply_number, spot_number};
+ghost use Rattle.nm_outcomes.specs.Numbers.{pair_number, part_number, reply_number, spot_number};
 
-use crate::spots::deeds::{Deed, Reply};
+use crate::spots::deeds::{Deed, Part, Reply};
 use crate::spots::ranks::Rank;
 use nm_history::plain::Pair;
 use nm_search::mixed;
@@ -59,6 +59,20 @@ fn of_pair(p: &Pair) -> u64
     ensures { result ≡ pair_number p.now }
 {
     mixed(p.number, of_arrival(&p.arrival))
+}
+
+/// A number of a part of a rank's state.
+pub fn of_part(part: &Part) -> u64
+    ensures { result ≡ part_number part.now }
+{
+    match part {
+        Part::Did(deed) => mixed(1, of_deed(deed)),
+        Part::Open(receive) => mixed(2, receive.number),
+        Part::Free(a) => mixed(3, of_arrival(a)),
+        Part::Paired(p) => mixed(4, of_pair(p)),
+        Part::Came(a) => mixed(5, of_arrival(a)),
+        Part::Gone(message) => mixed(6, mixed(u64::from(message.rank), message.n)),
+    }
 }
 
 /// A number of messages, in order.

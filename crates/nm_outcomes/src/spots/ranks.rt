@@ -6,13 +6,14 @@ ghost use Rattle.std.specs.List.{list_any};
 ghost use Rattle.nm_history.specs.Matching.{is_of_message, is_of_receive};
 ghost use Rattle.nm_match.specs.Deeds.{is_message};
 ghost use Rattle.nm_lookups.specs.Queues.{without_message as without_message_lem};
+ghost use Rattle.nm_outcomes.specs.Parts.{with_part};
 ghost use Rattle.nm_outcomes.specs.RankStates.{arrived_at, arrived_by, first_spot, free_lem};
 ghost use Rattle.nm_outcomes.specs.RankStates.{is_behind as is_behind_lem, is_cancel_by, is_claim_by};
 ghost use Rattle.nm_outcomes.specs.RankStates.{is_closed_at, is_that, message_of_spot, posted_at};
 ghost use Rattle.nm_outcomes.specs.RankStates.{receive_of_spot, settled_at, spot_after, taken_at};
 ghost use Rattle.nm_outcomes.specs.RankStates.{with_arrival, with_pair, withdrawn_at, without_number};
 
-use crate::spots::deeds::{Deed, Message, Receive};
+use crate::spots::deeds::{Deed, Message, Part, Receive};
 use crate::spots::hashes::of_rank;
 use nm_history::plain::{Pair, selects};
 use nm_types::{Arrival, Memory};
@@ -129,6 +130,21 @@ impl Rank {
             came: self.came.clone()?,
             withdrawn: self.withdrawn.clone()?,
         })
+    }
+
+    /// Puts a part behind those of its kind.
+    pub fn put(&mut self, part: Part) -> Result<(), Memory>
+        ensures { OnOk result (self.new ≡ with_part self.old part) }
+    {
+        match part {
+            Part::Did(deed) => self.deeds.push(deed)?,
+            Part::Open(receive) => self.receives.push(receive)?,
+            Part::Free(arrival) => self.free.push(arrival)?,
+            Part::Paired(pair) => self.pairs.push(pair)?,
+            Part::Came(arrival) => self.came.push(arrival)?,
+            Part::Gone(message) => self.withdrawn.push(message)?,
+        }
+        Ok(())
     }
 
     /// What it did, oldest first.
