@@ -12,6 +12,7 @@ pub mod KeptLemmas
 pub mod LineLemmas
 pub mod MetLemmas
 pub mod OrderlyLemmas
+pub mod PackLemmas
 pub mod PlacedLemmas
 pub mod PostLemmas
 pub mod RestedLemmas
@@ -27,3 +28,4 @@ pub mod StoreLemmas
 pub mod TellLemmas
 pub mod ToldLemmas
 pub mod WalkLemmas
+mod WayLemmas

@@ -161,6 +161,11 @@ module _ (eager ranks : ℕ) (lines : List Line) where
     refl,
   )
 
+  -- .. in states that are shown
+  pub turn_shown : (v w : ℕ → Option Spot) (t : Turn) → v ≡ w → IsTurn eager ranks lines v t →
+      IsTurn eager ranks lines w t
+  turn_shown v w t same turn = subst (λ (u : ℕ → Option Spot). IsTurn eager ranks lines u t) same turn
+
   pub sound_kept : (old new : List Spot) (ids : List ℕ) → Extends old new → IsSound eager ranks lines old ids →
       IsSound eager ranks lines new ids
   sound_kept old new ids kept sound =

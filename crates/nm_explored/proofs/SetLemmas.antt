@@ -5,23 +5,10 @@ use Rattle.std.specs.Cmp.Lexicographic.{pointwise}
 use Rattle.std.specs.List.{IsDistinct, list_any, slice_get}
 use Rattle.std.proofs.lemmas.Cmp.{nat_list_eq_equiv}
 use Rattle.indexmap.specs.IndexSet.{insert_key}
-use Rattle.nm_outcomes.specs.SameLaws.{same_spot, spots_equiv}
-use Rattle.nm_outcomes.specs.Sames.{same_spots}
-use Rattle.nm_outcomes.specs.RankStates.{Spot}
 use Rattle.nm_search.specs.Lists.{Has, Extends}
 use Rattle.nm_search.specs.Lists.{StandOnce}
 use Rattle.nm_search.proofs.SetLemmas.{inserted, kept_in, once_in}
 use Rattle.nm_explored.proofs.MetLemmas.{same_lists}
-
-pub spots_once : (xs : List Spot) → IsDistinct same_spots xs → StandOnce xs
-spots_once xs distinct = once_in same_spots spots_equiv.refl xs distinct
-
-pub spots_keep : (xs ys : List Spot) (x : Spot) → ys ≡ insert_key same_spots xs x → Extends xs ys
-spots_keep xs ys x is = kept_in xs ys x (inserted same_spots xs ys x is)
-
-pub spot_there : (ys : List Spot) (id : ℕ) (x : Spot) →
-    (k : Spot) × (slice_get ys id ≡ Some k) × (same_spots x k ≡ true) → slice_get ys id ≡ Some x
-spot_there ys id x at = at.1 ∙ ap (λ (s : Spot). Some s) (sym ((same_spot x at.0).0 at.2))
 
 pub ids_once : (xs : List (List ℕ)) → IsDistinct (pointwise nat_eq) xs → StandOnce xs
 ids_once xs distinct = once_in (pointwise nat_eq) nat_list_eq_equiv.refl xs distinct
@@ -53,6 +40,10 @@ both_new xs xs' x ys ys' y false one two = inl (one, two)
 pub ids_keep : (xs ys : List (List ℕ)) (x : List ℕ) → ys ≡ insert_key (pointwise nat_eq) xs x → Extends xs ys
 ids_keep xs ys x is = kept_in xs ys x (ids_added xs ys x is)
 
+pub ids_at : (ys : List (List ℕ)) (id : ℕ) (x : List ℕ) →
+    (k : List ℕ) × (slice_get ys id ≡ Some k) × (pointwise nat_eq x k ≡ true) → slice_get ys id ≡ Some x
+ids_at ys id x at = at.1 ∙ ap (λ (s : List ℕ). Some s) (sym (same_lists x at.0 at.2))
+
 pub ids_there : (ys : List (List ℕ)) (id : ℕ) (x : List ℕ) →
     (k : List ℕ) × (slice_get ys id ≡ Some k) × (pointwise nat_eq x k ≡ true) → Has ys x
-ids_there ys id x at = (id, at.1 ∙ ap (λ (s : List ℕ). Some s) (sym (same_lists x at.0 at.2)))
+ids_there ys id x at = (id, ids_at ys id x at)

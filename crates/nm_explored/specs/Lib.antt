@@ -6,8 +6,10 @@ pub mod Lines
 pub mod Met
 pub mod Moves
 pub mod Orderly
+pub mod Packs
 pub mod Rests
 pub mod Settings
 pub mod Started
 pub mod Stores
 pub mod Successors
+pub mod Ways

@@ -1,9 +1,10 @@
 -- The states that a search has found.
 use Rattle.std.specs.Prelude.{◌≡◌, ℕ, ◌<◌, Option, Some, List, [], ◌∷◌, length, map}
-use Rattle.std.specs.List.{slice_get, slice_index_or, slice_set}
+use Rattle.std.specs.List.{range_with_len, slice_get, slice_index_or, slice_set}
 use Rattle.nm_types.specs.declared.scripts.Line.{Line}
 use Rattle.nm_outcomes.specs.Searches as searches
 use Rattle.nm_outcomes.specs.RankStates.{Spot, first_spot}
+use Rattle.nm_explored.specs.declared.stores.Unpacked.{Unpacked}
 use Rattle.nm_explored.specs.declared.stores.Way.{Way}
 use Rattle.nm_explored.specs.Successors.{spot_in}
 use Rattle.nm_search.specs.Lists.{Has, Extends}
@@ -28,6 +29,26 @@ states_in table ids = map (λ id. slice_index_or table id first_spot) ids
 -- these are numbers of states in the table
 abbrev pub AreLow : List Spot → List ℕ → Type 0
 AreLow table ids = (j id : ℕ) → slice_get ids j ≡ Some id → id < length table
+
+-- so it is of each state of a store
+abbrev pub AreAllLow : Store → Type 0
+AreAllLow store = (k : ℕ) (ids : List ℕ) → slice_get store.states k ≡ Some ids → AreLow store.table ids
+
+-- these are the states of all ranks that have their numbers
+pub record AreOf (table : List Spot) (all : Unpacked) : Type 0 where
+  pub low : AreLow table all.ids.items
+  pub ranks : all.ranks.items ≡ states_in table all.ids.items
+  pub places : all.places.items ≡ range_with_len 0 (length all.ids.items)
+
+-- .. with these numbers
+abbrev pub AreAt : List Spot → List ℕ → Unpacked → Type 0
+AreAt table ids all = AreOf table all × ((j : ℕ) → slice_get all.ids.items j ≡ slice_get ids j)
+
+-- these are the states of all ranks at the state of a store with this number
+abbrev pub Shows : Store → ℕ → Unpacked → Type 0
+Shows store k all =
+    (ids : List ℕ) → slice_get store.states k ≡ Some ids →
+    spot_in all.ranks.items all.places.items ≡ spot_in store.table ids
 
 -- a state of all ranks is there
 abbrev pub IsThere : Store → List Spot → Type 0

@@ -5,7 +5,7 @@
 //! comes next and which may be withdrawn; `specs/Moves.antt` has the moves that these are.
 //! # What is proved
 //! - `begin`, `answer`, `may_say_no`, `next_message` and `may_withdraw` are as defined.
-//! - `turns` has all moves of the ranks of a state and nothing else, and `moved` the state of a rank after
+//! - `turns` has all moves of the ranks of a state and nothing else, and `made` the state of a rank after
 //!   a move.
 //! - What may come next in a run, and is not quiet, is a move of the ranks' states
 //!   (`laws::events_are_choices`).

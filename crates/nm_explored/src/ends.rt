@@ -19,7 +19,7 @@ ghost use Rattle.nm_explored.specs.Ends.{TellsAll, all_told};
 ghost use Rattle.nm_explored.specs.Rests.{is_waiting as is_waiting_lem};
 ghost use Rattle.nm_explored.specs.Ends.{told_at_end, told_in};
 ghost use Rattle.nm_explored.specs.Met.{AreBack, AreTooMany, IfTooMany, IsAll, IsWay};
-ghost use Rattle.nm_explored.specs.Stores.{states_in};
+ghost use Rattle.nm_explored.specs.Stores.{AreAllLow, states_in};
 ghost use Rattle.nm_types.specs.declared.scripts.Line as script_line;
 
 use crate::choices::choices::{View, answer, line_at, may_withdraw, next_message};
@@ -410,7 +410,8 @@ fn push_state(
     k: usize,
     ends: &mut Vec<End>,
 ) -> Result<(), Memory>
-    requires { AreShort of.lines.now }
+    requires short { AreShort of.lines.now }
+    requires low { AreAllLow search.now }
     ensures kept { OnOk result (Extends (map told_at_end ends.old.items) (map told_at_end ends.new.items)) }
     ensures added { OnOk result ((ids : List ℕ) → slice_get search.now.states k ≡ Some ids →
         AreAtRest of.entry.ranks of.entry.lines.now (spot_in search.now.table ids) →
@@ -424,11 +425,12 @@ fn push_state(
 {
     match search.states.as_slice().get(k) {
         Some(state) => {
+            let all = search.table.state(alloc, state.as_slice())?;
             let view = View {
                 eager: of.eager,
                 lines: of.lines,
-                table: search.table.as_slice(),
-                ids: state.as_slice(),
+                table: all.ranks.as_slice(),
+                ids: all.places.as_slice(),
             };
             push_end(alloc, search, k, view, of.ranks, ends)
         }
@@ -438,7 +440,8 @@ fn push_state(
 
 /// All ends of a search.
 fn ends_of(alloc: Global, search: &Search, of: Setting) -> Result<Vec<End>, Memory>
-    requires { AreShort of.lines.now }
+    requires short { AreShort of.lines.now }
+    requires low { AreAllLow search.now }
     ensures all { IfOk result (λ ends.
         AreEnds of.entry.ranks of.entry.lines.now search.now ends.items) }
     ensures only { IfOk result (λ ends.
@@ -500,7 +503,8 @@ pub enum Explored {
 
 /// The ends of a search that found all states.
 fn all_ends(alloc: Global, search: &Search, of: Setting) -> Result<Explored, Memory>
-    requires { AreShort of.lines.now }
+    requires short { AreShort of.lines.now }
+    requires low { AreAllLow search.now }
     ensures all { IfOk result
         (IfAll (AreEnds of.entry.ranks of.entry.lines.now search.now)) }
     ensures only { IfOk result

@@ -7,7 +7,8 @@
 //! at which states the ranks are at rest, what they report there, and that ends report all (`TellsAll`).
 //! `specs/Met.antt` says which states moves lead to (`IsMet`), and that they are too many (`AreTooMany`).
 //! `specs/Chosen.antt`, `specs/Coming.antt` and `specs/Apart.antt` say which moves are enough at a state, so
-//! that the others may be postponed (`LetsAct`, `LetsCome`, `LetsPart`).
+//! that the others may be postponed (`LetsAct`, `LetsCome`, `LetsPart`). `specs/Packs.antt` has a rank's state as the
+//! numbers of its parts, and `specs/Ways.antt` how a state was found, as the search keeps them.
 //! # What is proved
 //! - The report of each lawful run of a script is that of one of the ends that `explore` finds, unless it
 //!   answers that there are too many states: then moves lead from the first state to more different states
@@ -26,7 +27,9 @@ mod apart;
 pub mod choices;
 mod chosen;
 pub mod ends;
+pub mod packs;
 pub mod searches;
 pub mod stores;
+pub mod ways;
 
 pub use ends::{End, Ends, Explored, explore, happening};

@@ -1,7 +1,7 @@
 //! Classes of states that go on alike.
 
 ghost use Rattle.std.specs.Prelude.{◌≡◌, ◌⊎◌, ℕ, ◌<◌, ◌≤◌, ◌++◌, ◌∷◌, [], IfOk, IfSome, List, None, Some, count_by};
-ghost use Rattle.std.specs.Prelude.{if◌then◌else◌, length, option_copied, slice_get, unwrap_or};
+ghost use Rattle.std.specs.Prelude.{if◌then◌else◌, length, slice_get, unwrap_or};
 ghost use Rattle.nm_outcomes.specs.Looks.{is_receive_by};
 ghost use Rattle.nm_explored.specs.Ends.{AreShort};
 ghost use Rattle.nm_explored.specs.Stores.{AreLow};
@@ -12,7 +12,7 @@ ghost use Rattle.nm_hangs.specs.Hunts.{AreAlikeIn, AreNear};
 
 use crate::alike::{asked_numbers, go_alike};
 use indexmap::IndexMap;
-use nm_explored::stores::States;
+use nm_explored::stores::{States, Table};
 use nm_history::plain::Pair;
 use nm_outcomes::spots::ranks::Rank;
 use nm_search::mixed;
@@ -23,7 +23,7 @@ use std::marker::Model;
 /// Classes of the states of ranks.
 pub struct Classes {
     /// The first state of each class, by a number that tells classes apart, mostly.
-    firsts: IndexMap<u64, usize>,
+    firsts: IndexMap<u64, u32>,
     /// The classes of the ranks' states, of each state of all ranks that was met.
     met: States,
 }
@@ -73,15 +73,8 @@ fn number_of(i: u8, rank: &Rank, numbers: &[u64]) -> u64 {
     number_of_pairs(mixed(free, 2), rank.pairs(), numbers)
 }
 
-/// The state of a rank with a number.
-fn rank_in(table: &[Rank], id: usize) -> Option<&Rank>
-    ensures { option_copied result ≡ slice_get table.now id }
-{
-    table.get(id)
-}
-
 /// A class, if a state is of it.
-fn class_if(so: bool, class: usize) -> Option<usize>
+fn class_if(so: bool, class: u32) -> Option<u32>
     ensures { result ≡ (if so then Some class else None) }
 {
     if so { Some(class) } else { None }
@@ -91,20 +84,20 @@ fn class_if(so: bool, class: usize) -> Option<usize>
 fn joined(
     alloc: Global,
     lines: &[Line],
-    table: &[Rank],
+    table: &Table,
     i: u8,
     rank: &Rank,
     numbers: &[u64],
-    class: usize,
-) -> Result<Option<usize>, Memory>
+    class: u32,
+) -> Result<Option<u32>, Memory>
     requires { (number : ℕ) → IsAsked lines.now i rank.now.deeds number →
         Has numbers.now number ⊎ (count_by is_receive_by rank.now.deeds ≤ number) }
     ensures { IfOk result (λ found. IfSome found
         (λ class. IsAlikeOr lines.now i (Some rank.now) (slice_get table.now class))) }
 {
-    match rank_in(table, class) {
+    match table.rank(alloc, class)? {
         Some(first) => {
-            let so = go_alike(alloc, lines, i, rank, first, numbers)?;
+            let so = go_alike(alloc, lines, i, rank, &first, numbers)?;
             Ok(class_if(so, class))
         }
         None => Ok(None),
@@ -115,12 +108,12 @@ fn joined(
 fn known(
     alloc: Global,
     lines: &[Line],
-    table: &[Rank],
+    table: &Table,
     i: u8,
     rank: &Rank,
     numbers: &[u64],
-    class: Option<usize>,
-) -> Result<Option<usize>, Memory>
+    class: Option<u32>,
+) -> Result<Option<u32>, Memory>
     requires { (number : ℕ) → IsAsked lines.now i rank.now.deeds number →
         Has numbers.now number ⊎ (count_by is_receive_by rank.now.deeds ≤ number) }
     ensures { IfOk result (λ found. IfSome found
@@ -133,7 +126,7 @@ fn known(
 }
 
 /// The class that the rank at a place has in a state nearby, if it is in the same state there.
-fn class_near(near: &[usize], classes: &[usize], place: usize, id: usize) -> Option<usize>
+fn class_near(near: &[u32], classes: &[u32], place: usize, id: u32) -> Option<u32>
     ensures same { IfSome result (λ class. slice_get near.now place ≡ Some id) }
     ensures class { IfSome result (λ class. slice_get classes.now place ≡ Some class) }
 {
@@ -148,21 +141,21 @@ fn class_near(near: &[usize], classes: &[usize], place: usize, id: usize) -> Opt
 }
 
 /// The first state of this number, if one is noted.
-fn noted(firsts: &IndexMap<u64, usize>, number: u64) -> Option<usize> {
+fn noted(firsts: &IndexMap<u64, u32>, number: u64) -> Option<u32> {
     firsts.get(&number).copied()
 }
 
 /// The first state of the class of a rank's state, which may be a new one.
 #[tactic(auto, using(crate::proofs::ClassLemmas::or_self))]
 fn class_of(
-    firsts: &mut IndexMap<u64, usize>,
+    firsts: &mut IndexMap<u64, u32>,
     alloc: Global,
     lines: &[Line],
-    table: &[Rank],
+    table: &Table,
     i: u8,
-    id: usize,
+    id: u32,
     rank: &Rank,
-) -> Result<usize, Memory>
+) -> Result<u32, Memory>
     requires short { AreShort lines.now }
     requires here { slice_get table.now id ≡ Some rank.now }
     ensures { IfOk result (λ class. IsAlikeOr lines.now i (slice_get table.now id) (slice_get table.now class)) }
@@ -183,36 +176,36 @@ fn class_of(
 /// The first state of the class of the state with a number, of the rank at a place.
 #[tactic(auto, using(crate::proofs::ClassLemmas::or_self))]
 fn class_at(
-    firsts: &mut IndexMap<u64, usize>,
+    firsts: &mut IndexMap<u64, u32>,
     alloc: Global,
     lines: &[Line],
-    table: &[Rank],
+    table: &Table,
     place: usize,
-    id: usize,
-) -> Result<usize, Memory>
+    id: u32,
+) -> Result<u32, Memory>
     requires { AreShort lines.now }
     ensures { IfOk result (λ class. IsAlikeOr lines.now place (slice_get table.now id) (slice_get table.now class)) }
 {
     if place >= 256 {
         return Ok(id);
     }
-    match rank_in(table, id) {
-        Some(rank) => class_of(firsts, alloc, lines, table, place as u8, id, rank),
+    match table.rank(alloc, id)? {
+        Some(rank) => class_of(firsts, alloc, lines, table, place as u8, id, &rank),
         None => Ok(id),
     }
 }
 
 /// .. where the states of a state nearby have their classes.
 fn class_by(
-    firsts: &mut IndexMap<u64, usize>,
+    firsts: &mut IndexMap<u64, u32>,
     alloc: Global,
     lines: &[Line],
-    table: &[Rank],
-    near: &[usize],
-    classes: &[usize],
+    table: &Table,
+    near: &[u32],
+    classes: &[u32],
     place: usize,
-    id: usize,
-) -> Result<usize, Memory>
+    id: u32,
+) -> Result<u32, Memory>
     requires short { AreShort lines.now }
     requires near { AreNear lines.now table.now near.now classes.now }
     ensures { IfOk result (λ class. IsAlikeOr lines.now place (slice_get table.now id) (slice_get table.now class)) }
@@ -224,7 +217,7 @@ fn class_by(
 }
 
 /// The state of the rank at a place.
-fn id_at(ids: &[usize], place: usize) -> Option<usize>
+fn id_at(ids: &[u32], place: usize) -> Option<u32>
     ensures { result ≡ slice_get ids.now place }
 {
     ids.get(place).copied()
@@ -232,15 +225,15 @@ fn id_at(ids: &[usize], place: usize) -> Option<usize>
 
 /// The class of the state of the rank at a place.
 fn class_in(
-    firsts: &mut IndexMap<u64, usize>,
+    firsts: &mut IndexMap<u64, u32>,
     alloc: Global,
     lines: &[Line],
-    table: &[Rank],
-    near: &[usize],
-    classes: &[usize],
-    ids: &[usize],
+    table: &Table,
+    near: &[u32],
+    classes: &[u32],
+    ids: &[u32],
     place: usize,
-) -> Result<usize, Memory>
+) -> Result<u32, Memory>
     requires short { AreShort lines.now }
     requires near { AreNear lines.now table.now near.now classes.now }
     requires inside { place < length ids.now }
@@ -255,14 +248,14 @@ fn class_in(
 
 /// The classes of the states of all ranks, where those of a state nearby have theirs.
 fn classes_of(
-    firsts: &mut IndexMap<u64, usize>,
+    firsts: &mut IndexMap<u64, u32>,
     alloc: Global,
     lines: &[Line],
-    table: &[Rank],
-    near: &[usize],
-    classes: &[usize],
-    ids: &[usize],
-) -> Result<Vec<usize>, Memory>
+    table: &Table,
+    near: &[u32],
+    classes: &[u32],
+    ids: &[u32],
+) -> Result<Vec<u32>, Memory>
     requires short { AreShort lines.now }
     requires low { AreLow table.now ids.now }
     requires near { AreNear lines.now table.now near.now classes.now }
@@ -277,7 +270,7 @@ fn classes_of(
 }
 
 /// The classes that have this number among those that were met, or none.
-fn classes_in(met: &States, number: usize) -> &[usize]
+fn classes_in(met: &States, number: usize) -> &[u32]
     ensures { result.now ≡ unwrap_or (slice_get met.now number) [] }
 {
     match met.as_slice().get(number) {
@@ -287,14 +280,14 @@ fn classes_in(met: &States, number: usize) -> &[usize]
 }
 
 /// A copy of some numbers.
-fn copied(alloc: Global, ids: &[usize]) -> Result<Vec<usize>, Memory>
+fn copied(alloc: Global, ids: &[u32]) -> Result<Vec<u32>, Memory>
     ensures { IfOk result (λ copy. copy.items ≡ ids.now) }
 {
     Ok(ids.to_vec(alloc)?)
 }
 
 /// A copy of these classes.
-fn classes_at(alloc: Global, met: &States, number: usize) -> Result<Vec<usize>, Memory>
+fn classes_at(alloc: Global, met: &States, number: usize) -> Result<Vec<u32>, Memory>
     ensures { IfOk result (λ classes. classes.items ≡ unwrap_or (slice_get met.now number) []) }
 {
     copied(alloc, classes_in(met, number))
@@ -324,10 +317,10 @@ impl Classes {
         &mut self,
         alloc: Global,
         lines: &[Line],
-        table: &[Rank],
-        near: &[usize],
+        table: &Table,
+        near: &[u32],
         number: usize,
-        ids: &[usize],
+        ids: &[u32],
     ) -> Result<bool, Memory>
         requires short { AreShort lines.now }
         requires low { AreLow table.now ids.now }

@@ -1,12 +1,12 @@
 //! A search that looks at the newest state first, until a rank is stuck.
 
 ghost use Rattle.std.specs.Prelude.{◌≡◌, ℕ, ◌+◌, ◌<◌, ◌≤◌, ◌&&◌, ◌++◌, ◌∷◌, [], true, IfOk, IsTrue, List, OnOk, Some};
-ghost use Rattle.std.specs.Prelude.{is_none, length, slice_get, unwrap_or};
+ghost use Rattle.std.specs.Prelude.{is_none, length, slice_get};
 ghost use Rattle.std.specs.List.{list_all};
 ghost use Rattle.std.specs.Option.{option_map_or};
 ghost use Rattle.nm_explored.specs.Ends.{AreShort, all_told, told_in};
 ghost use Rattle.nm_explored.specs.Met.{AreBack, IsMade};
-ghost use Rattle.nm_explored.specs.Stores.{AreLow, Grows, IsFirst};
+ghost use Rattle.nm_explored.specs.Stores.{AreLow, Grows, IsFirst, Shows};
 ghost use Rattle.nm_explored.specs.Successors.{spot_in};
 ghost use Rattle.nm_hangs.specs.Hunts.{AreNear, AreOpen, IsHunted, IsNearBy, IsNoted, IsStuckAt};
 
@@ -14,8 +14,8 @@ use crate::classes::Classes;
 use nm_explored::choices::choices::{View, line_at};
 use nm_explored::ends::is_end;
 use nm_explored::searches::{Search, Setting};
+use nm_explored::stores::{Table, Unpacked};
 use nm_outcomes::spots::looks::ran;
-use nm_outcomes::spots::ranks::Rank;
 use nm_types::Memory;
 use std::alloc::Global;
 
@@ -81,26 +81,21 @@ fn is_stuck(view: View, ranks: u8) -> bool
     !are_done(view, ranks)
 }
 
-/// Whether it is so at the state with a number.
-fn is_stuck_at(search: &Search, of: Setting, k: usize) -> bool
+/// Whether it is so where the ranks are in these states.
+fn is_stuck_at(of: Setting, all: &Unpacked) -> bool
     requires { AreShort of.lines.now }
-    ensures stuck { IsTrue result → (ids : List ℕ) × (slice_get search.now.states k ≡ Some ids)
-        × IsStuckAt of.entry.ranks of.entry.lines.now (spot_in search.now.table ids) }
-    ensures finds { (ids : List ℕ) → slice_get search.now.states k ≡ Some ids →
-        IsStuckAt of.entry.ranks of.entry.lines.now (spot_in search.now.table ids) → IsTrue result }
+    ensures stuck { IsTrue result → IsStuckAt of.entry.ranks of.entry.lines.now
+        (spot_in all.now.ranks.items all.now.places.items) }
+    ensures finds { IsStuckAt of.entry.ranks of.entry.lines.now
+        (spot_in all.now.ranks.items all.now.places.items) → IsTrue result }
 {
-    match search.states.as_slice().get(k) {
-        Some(state) => {
-            let view = View {
-                eager: of.eager,
-                lines: of.lines,
-                table: search.table.as_slice(),
-                ids: state.as_slice(),
-            };
-            is_stuck(view, of.ranks)
-        }
-        None => false,
-    }
+    let view = View {
+        eager: of.eager,
+        lines: of.lines,
+        table: all.ranks.as_slice(),
+        ids: all.places.as_slice(),
+    };
+    is_stuck(view, of.ranks)
 }
 
 /// A state that is to be looked at, with the number of its classes.
@@ -114,10 +109,10 @@ pub struct Ahead {
 fn push_new(
     alloc: Global,
     of: Setting,
-    table: &[Rank],
-    near: &[usize],
+    table: &Table,
+    near: &[u32],
     number: usize,
-    ids: &[usize],
+    ids: &[u32],
     n: usize,
     classes: &mut Classes,
     ahead: &mut Vec<Ahead>,
@@ -137,16 +132,6 @@ fn push_new(
         })?;
     }
     Ok(())
-}
-
-/// The states of the ranks of a state with a number, or none.
-fn ids_of(search: &Search, n: usize) -> &[usize]
-    ensures { result.now ≡ unwrap_or (slice_get search.now.states n) [] }
-{
-    match search.states.as_slice().get(n) {
-        Some(state) => state.as_slice(),
-        None => &[],
-    }
 }
 
 /// Notes the state with a number, which comes of one that was looked at.
@@ -170,10 +155,10 @@ fn push_state(
     push_new(
         alloc,
         of,
-        search.table.as_slice(),
-        ids_of(search, near.state),
+        &search.table,
+        search.ids_of(near.state),
         near.classes,
-        ids_of(search, n),
+        search.ids_of(n),
         n,
         classes,
         ahead,
@@ -207,11 +192,12 @@ fn push_states(
     Ok(())
 }
 
-/// Adds the states that enough moves lead to from one, and notes them.
+/// Adds the states that enough moves lead to from one, at which the ranks are in these states, and notes them.
 fn look(
     alloc: Global,
     of: Setting,
     near: Ahead,
+    all: &Unpacked,
     search: &mut Search,
     classes: &mut Classes,
     ahead: &mut Vec<Ahead>,
@@ -219,6 +205,7 @@ fn look(
     requires short { AreShort of.lines.now }
     requires made { IsMade of.eager of.ranks of.lines.now search.old }
     requires back { AreBack of.eager of.ranks of.lines.now search.old }
+    requires shown { Shows search.old near.state all.now }
     requires free { (ids : List ℕ) → slice_get search.old.states near.state ≡ Some ids →
         IsStuckAt of.ranks of.lines.now (spot_in search.old.table ids) → ⊥ }
     requires ahead { AreOpen of.eager of.ranks of.lines.now search.old classes.old
@@ -232,7 +219,7 @@ fn look(
         ≤ length ahead.old.items + length search.new.states) }
 {
     let before = search.states.as_slice().len();
-    search.expand(alloc, of, near.state)?;
+    search.expand_from(alloc, of, near.state, all)?;
     let after = search.states.as_slice().len();
     push_states(alloc, of, search, near, before, after, classes, ahead)?;
     Ok(())
@@ -253,6 +240,7 @@ pub fn hunt(alloc: Global, of: Setting, limit: u32, search: &mut Search) -> Resu
 {
     let mut classes = Classes::new(alloc);
     let mut ahead: Vec<Ahead> = Vec::new(alloc);
+    let mut all = Unpacked::none(alloc);
     let first = Ahead {
         state: 0,
         classes: 0,
@@ -262,10 +250,11 @@ pub fn hunt(alloc: Global, of: Setting, limit: u32, search: &mut Search) -> Resu
         let Some(next) = ahead.pop() else {
             return Ok(Hunted::Never);
         };
-        if is_stuck_at(search, of, next.state) {
+        search.show(alloc, next.state, &mut all)?;
+        if is_stuck_at(of, &all) {
             return Ok(Hunted::Stuck { state: next.state });
         }
-        look(alloc, of, next, search, &mut classes, &mut ahead)?;
+        look(alloc, of, next, &all, search, &mut classes, &mut ahead)?;
         if search.states.as_slice().len() > limit as usize {
             return Ok(Hunted::Open);
         }

@@ -54,10 +54,10 @@ pub fn make(rank: &mut Rank, by: Move) -> Result<(), Memory>
 }
 
 /// A rank's state after a move.
-pub fn moved(rank: &Rank, by: Move) -> Result<Rank, Memory>
-    ensures { IfOk result (λ after. after ≡ moved_at rank.now by) }
+pub fn made(rank: Rank, by: Move) -> Result<Rank, Memory>
+    ensures { IfOk result (λ after. after ≡ moved_at rank by) }
 {
-    let mut after = rank.copy()?;
+    let mut after = rank;
     make(&mut after, by)?;
     Ok(after)
 }

@@ -15,10 +15,18 @@ run-requires c =
     subst (λ (ls : List Line). AreShort ls) (sym c.as_slice.ensures)
     (script_short c.args.script.now.ranks c.args.script.now.lines c.args.script.now.limits)
 
-pub all_ends-requires : goal.all_ends-requires
-all_ends-requires c =
+pub all_ends-requires-clause-short : goal.all_ends-requires-clause-short
+all_ends-requires-clause-short c =
     subst (λ (ls : List Line). AreShort ls) (sym c.as_slice.ensures)
     (script_short c.args.script.now.ranks c.args.script.now.lines c.args.script.now.limits)
+
+pub all_ends-requires-clause-low : goal.all_ends-requires-clause-low
+all_ends-requires-clause-low c k ids here =
+    let short : AreShort c.as_slice.result.now =
+    subst (λ (ls : List Line). AreShort ls) (sym c.as_slice.ensures)
+    (script_short c.args.script.now.ranks c.args.script.now.lines c.args.script.now.limits) in
+    ((c.in_ok-all.ensures.made short.count short.sends
+    (c.in_ok-search.ensures.made c.eager.result c.as_slice.result.now)).sound k ids here).low
 
 pub returns-then-all-clause-all : goal.returns-then-all-clause-all
 returns-then-all-clause-all c =

@@ -1,7 +1,6 @@
 -- The state of the rank.
-use Rattle.std.proofs.Common.{sym, ◌∙◌, ap}
-use Rattle.std.specs.Prelude.{option_copied}
+use Rattle.std.proofs.Common.{sym, ◌∙◌}
 use Rattle.nm_hangs.proofs.classes.class_at.Goals as goal
 
 pub class_of-requires-clause-here : goal.class_of-requires-clause-here
-class_of-requires-clause-here c = sym c.rank_in.ensures ∙ ap (λ o. option_copied o) c.in-Some.is
+class_of-requires-clause-here c = sym c.in_ok-rank.ensures ∙ c.in-Some.is

@@ -1,6 +1,5 @@
 -- A state of the class.
-use Rattle.std.proofs.Common.{Some, Option, sym, ◌∙◌, ap, subst}
-use Rattle.std.specs.Prelude.{option_copied}
+use Rattle.std.proofs.Common.{Some, Option, sym, ◌∙◌, subst}
 use Rattle.std.specs.List.{slice_get}
 use Rattle.nm_outcomes.specs.RankStates.{Spot}
 use Rattle.nm_hangs.specs.Alike.{IsAlikeOr}
@@ -13,4 +12,4 @@ returns-in_ok-so-in-Some c =
     c.in_ok-so-in-Some.so c.args.class c.class_if.result c.class_if.ensures
     (λ so.
     subst (λ (o : Option Spot). IsAlikeOr c.args.lines.now c.args.i (Some c.args.rank.now) o)
-    (sym (sym c.rank_in.ensures ∙ ap (λ o. option_copied o) c.in-Some.is)) (c.in_ok-so-in-Some.ensures so))
+    (sym (sym c.in_ok-first.ensures ∙ c.in-Some.is)) (c.in_ok-so-in-Some.ensures so))

@@ -1,12 +1,15 @@
 -- One state more was looked at, and what was found.
 use Rattle.std.proofs.Common.{◌≡◌, ℕ, ◌+◌, Some, [], ◌∷◌, ◌++◌, List, length, ◌∙◌, ap, sym, subst, arith, length-append}
-use Rattle.std.proofs.Common.{option_to_list}
+use Rattle.std.proofs.Common.{Option, option_to_list}
 use Rattle.std.proofs.lemmas.Bool.{false≢true}
 use Rattle.std.specs.List.{slice_get}
 use Rattle.nm_types.proofs.ListLemmas.{no_item, no_items}
 use Rattle.nm_types.proofs.NumberLemmas.{same_number}
+use Rattle.nm_outcomes.specs.RankStates.{Spot}
+use Rattle.nm_search.proofs.ListLemmas.{has_push}
+use Rattle.nm_explored.proofs.PackLemmas.{of_kept}
 use Rattle.nm_explored.proofs.StoreLemmas.{grows_all, grows_then}
-use Rattle.nm_hangs.specs.Hunts.{AreOpen}
+use Rattle.nm_hangs.specs.Hunts.{AreOpen, IsStuckAt}
 use Rattle.nm_hangs.specs.declared.hunts.Ahead.{Ahead}
 use Rattle.nm_hangs.proofs.HuntLemmas.{all_looked, few_more, none_open, open_noted}
 use Rattle.nm_hangs.proofs.hunts.hunt.Goals as goal
@@ -38,12 +41,36 @@ loop-state-init c =
           c.new-ahead.result.items 0) (sym c.new-classes.ensures)
           (subst (λ (xs : List Ahead). AreOpen c.args.of.eager c.args.of.ranks c.args.of.lines.now store [] xs 0)
           (sym none) (none_open c.args.of.eager c.args.of.ranks c.args.of.lines.now store))) noted);
+      shown = c.none-all.ensures store.table;
       count = omega (arith, one, empty, few);
     }
 
+pub look-requires-clause-shown : goal.look-requires-clause-shown
+look-requires-clause-shown c =
+    c.in_ok-show.ensures.shows (λ k ids here. (c.loop-state.invariant.made.sound k ids here).low)
+    c.loop-state.invariant.shown
+
 pub look-requires-clause-free : goal.look-requires-clause-free
 look-requires-clause-free c ids here stuck =
-    false≢true (sym c.if-is_stuck_at.false ∙ c.is_stuck_at.ensures.finds ids here stuck)
+    let shown = c.in_ok-show.ensures.shows (λ k ids here. (c.loop-state.invariant.made.sound k ids here).low)
+    c.loop-state.invariant.shown in
+    false≢true
+    (sym c.if-is_stuck_at.false
+    ∙ c.is_stuck_at.ensures.finds
+    (subst (λ (v : ℕ → Option Spot). IsStuckAt c.args.of.ranks c.args.of.lines.now v) (sym (shown ids here)) stuck))
+
+pub returns-then-is_stuck_at-clause-hunted : goal.returns-then-is_stuck_at-clause-hunted
+returns-then-is_stuck_at-clause-hunted c =
+    let shown = c.in_ok-show.ensures.shows (λ k ids here. (c.loop-state.invariant.made.sound k ids here).low)
+    c.loop-state.invariant.shown in
+    let near = c.loop-state.invariant.ahead.near c.in-Some.next
+    (has_push c.pop.new.self.items c.loop-state.ahead.items c.in-Some.next
+    (c.pop.ensures.items ∙ ap (λ r. c.pop.new.self.items ++ option_to_list r) c.in-Some.is)) in (
+      near.0,
+      near.2,
+      subst (λ (v : ℕ → Option Spot). IsStuckAt c.args.of.ranks c.args.of.lines.now v) (shown near.0 near.2)
+          (c.is_stuck_at.ensures.stuck c.if-is_stuck_at.true),
+    )
 
 pub look-requires-clause-ahead : goal.look-requires-clause-ahead
 look-requires-clause-ahead c =
@@ -67,6 +94,8 @@ loop-state-preserved c =
       made = looked.made;
       back = looked.back;
       ahead = looked.ahead;
+      shown = of_kept c.loop-state.search.table c.look.new.search.table c.show.new.all looked.grows.table
+          (c.in_ok-show.ensures.are (λ k ids here. (before.made.sound k ids here).low) before.shown);
       count = omega (arith, long, was, more);
     }
 

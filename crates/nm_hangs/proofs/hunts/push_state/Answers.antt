@@ -16,7 +16,7 @@ on_ok follows (Err e) right = tt
 pub push_new-requires-clause-low : goal.push_new-requires-clause-low
 push_new-requires-clause-low c =
     subst (λ (x : List Spot). AreLow x c.ids_of-2.result.now)
-    (sym (c.as_slice.ensures ∙ ap (λ (s : Store). s.table) c.search.view_is))
+    (sym (ap (λ (s : Store). s.table) c.search.view_is))
     (subst (λ (y : List ℕ). AreLow c.args.search.now.table y) (sym c.ids_of-2.ensures)
     (unwrapped (λ (y : List ℕ). AreLow c.args.search.now.table y) (slice_get c.args.search.now.states c.args.n)
     (λ j id here. absurd (no_item j id here)) (λ ids here. (c.requires.made.sound c.args.n ids here).low)))
@@ -24,7 +24,7 @@ push_new-requires-clause-low c =
 pub push_new-requires-clause-near : goal.push_new-requires-clause-near
 push_new-requires-clause-near c own there =
     subst (λ (x : List Spot). AreNear c.args.of.lines.now x c.ids_of.result.now own)
-    (sym (c.as_slice.ensures ∙ ap (λ (s : Store). s.table) c.search.view_is))
+    (sym (ap (λ (s : Store). s.table) c.search.view_is))
     (subst (λ (y : List ℕ). AreNear c.args.of.lines.now c.args.search.now.table y own) (sym c.ids_of.ensures)
     (unwrapped (λ (y : List ℕ). AreNear c.args.of.lines.now c.args.search.now.table y own)
     (slice_get c.args.search.now.states c.args.near.state) (λ j id class here. absurd (no_item j id here))
@@ -36,8 +36,8 @@ returns c =
     (λ noted ids here.
     subst (λ (x : List Spot). IsNoted c.args.of.lines.now x ids c.args.n c.args.classes.now c.push_new.new.classes
     c.args.ahead.now.items c.push_new.new.ahead.items)
-    (c.as_slice.ensures ∙ ap (λ (s : Store). s.table) c.search.view_is)
-    (subst (λ (y : List ℕ). IsNoted c.args.of.lines.now c.as_slice.result.now y c.args.n c.args.classes.now
+    (ap (λ (s : Store). s.table) c.search.view_is)
+    (subst (λ (y : List ℕ). IsNoted c.args.of.lines.now c.search.inside.table y c.args.n c.args.classes.now
     c.push_new.new.classes c.args.ahead.now.items c.push_new.new.ahead.items)
     (c.ids_of-2.ensures ∙ ap (λ (o : Option (List ℕ)). unwrap_or o []) here) noted))
     c.push_new.result c.push_new.ensures

@@ -26,7 +26,7 @@ returns-clause-first c =
           (c.in_ok-ids.ensures.items_if_clones_equal (λ y is. is))
           ∙ ap (λ (o : Option ℕ). option_and_then (λ id. slice_get c.number.new.self id) o)
           (get_replicate c.args.ranks c.in_ok-id.id j low)
-          ∙ c.in_ok-id.ensures.there ∙ ap (λ (s : Spot). Some s) c.new.ensures;
+          ∙ c.in_ok-id.ensures.there ∙ ap (λ (s : Spot). Some s) c.new-first.ensures;
     }
 
 -- .. and how it was found
@@ -39,8 +39,8 @@ returns-clause-back c eager lines = record {
       (ap (λ (ws : List (Option Way)). slice_get ws k) (sym found) ∙ at);
 }
   where
-    found : c.push.new.self.items ≡ None ∷ []
-    found = c.in_ok-push.ensures.items ∙ ap (λ (ws : List (Option Way)). ws ++ None ∷ []) c.new-ways.ensures.items
+    found : c.push.new.self ≡ None ∷ []
+    found = c.in_ok-push.ensures ∙ ap (λ (ws : List (Option Way)). ws ++ None ∷ []) c.new-ways.ensures
 
     only : c.add.new.self ≡ c.in_ok-ids.ids.items ∷ []
     only =
@@ -52,20 +52,20 @@ returns-clause-back c eager lines = record {
     first =
         ap (λ (ids : List ℕ). states_in c.number.new.self ids) (c.in_ok-ids.ensures.items_if_clones_equal (λ y is. is))
         ∙ states_alike c.number.new.self c.args.ranks c.in_ok-id.id
-        (c.in_ok-id.ensures.there ∙ ap (λ (s : Spot). Some s) c.new.ensures)
+        (c.in_ok-id.ensures.there ∙ ap (λ (s : Spot). Some s) c.new-first.ensures)
 
     back_only : (k : ℕ) (ids : List ℕ) (way : Option Way) → slice_get (c.in_ok-ids.ids.items ∷ []) k ≡ Some ids →
         slice_get (None ∷ []) k ≡ Some way →
         IsBack eager c.args.ranks lines (record {
           table = c.number.new.self;
           states = c.add.new.self;
-          ways = c.push.new.self.items;
+          ways = c.push.new.self;
         }) k ids way
     back_only zero ids way here at =
         subst (λ (w : Option Way). IsBack eager c.args.ranks lines (record {
           table = c.number.new.self;
           states = c.add.new.self;
-          ways = c.push.new.self.items;
+          ways = c.push.new.self;
         }) 0 ids w) (same_some None way at)
         (subst (λ (xs : List ℕ). states_in c.number.new.self xs ≡ replicate c.args.ranks first_spot)
         (same_some c.in_ok-ids.ids.items ids here) first)
@@ -93,7 +93,7 @@ returns-clause-made c eager lines =
     sound =
         subst (λ (ids : List ℕ). IsSound eager c.args.ranks lines c.number.new.self ids) (sym alike)
         (sound_first eager c.args.ranks lines c.number.new.self c.in_ok-id.id
-        (c.in_ok-id.ensures.there ∙ ap (λ (s : Spot). Some s) c.new.ensures))
+        (c.in_ok-id.ensures.there ∙ ap (λ (s : Spot). Some s) c.new-first.ensures))
 
     sound_only : (k : ℕ) (other : List ℕ) → slice_get (c.in_ok-ids.ids.items ∷ []) k ≡ Some other →
         IsSound eager c.args.ranks lines c.number.new.self other

@@ -6,8 +6,8 @@ use Rattle.nm_explored.specs.declared.choices.moves.Turn.{Turn}
 use Rattle.nm_explored.specs.Successors.{spot_in}
 use Rattle.nm_explored.specs.Moves.{AreSendsShort, moved_at}
 use Rattle.nm_explored.specs.Met.{AreBack, IsMade}
-use Rattle.nm_explored.specs.Stores.{Grows, Leads}
-use Rattle.nm_explored.proofs.searches.Search.expand.Given as goal
+use Rattle.nm_explored.specs.Stores.{Grows, Leads, Shows}
+use Rattle.nm_explored.proofs.searches.Search.expand_from.Given as goal
 
 abbrev pub invariant-loop-turn : goal.invariant-loop-turn
 invariant-loop-turn l =
@@ -17,9 +17,11 @@ invariant-loop-turn l =
           slice_get l.turn-items m ≡ Some t → (spot : Spot) → spot_in l.fn.self.table ids t.rank ≡ Some spot →
           Leads l.self ids t.rank (moved_at spot t.by);
       made : length l.of.lines.now < 4294967293 → AreSendsShort l.of.lines.now →
-          l.k < length l.fn.self.states → IsMade l.of.eager l.of.ranks l.of.lines.now l.fn.self →
+          Shows l.fn.self l.k l.all → l.k < length l.fn.self.states →
+          IsMade l.of.eager l.of.ranks l.of.lines.now l.fn.self →
           IsMade l.of.eager l.of.ranks l.of.lines.now l.self;
       back : length l.of.lines.now < 4294967293 → AreSendsShort l.of.lines.now →
-          l.k < length l.fn.self.states → IsMade l.of.eager l.of.ranks l.of.lines.now l.fn.self →
+          Shows l.fn.self l.k l.all → l.k < length l.fn.self.states →
+          IsMade l.of.eager l.of.ranks l.of.lines.now l.fn.self →
           AreBack l.of.eager l.of.ranks l.of.lines.now l.fn.self → AreBack l.of.eager l.of.ranks l.of.lines.now l.self;
     }
