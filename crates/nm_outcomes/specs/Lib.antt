@@ -13,5 +13,4 @@ pub mod RankStates
 pub mod Rests
 pub mod Results
 pub mod SameLaws
-pub mod Sames
 pub mod Searches

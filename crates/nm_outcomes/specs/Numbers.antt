@@ -1,5 +1,5 @@
--- Numbers that tell states apart, mostly.
-use Rattle.std.specs.Prelude.{ℕ, ◌+◌, ◌*◌, ◌%◌, ◌^◌, List, fold}
+-- Numbers that tell parts of states apart, mostly.
+use Rattle.std.specs.Prelude.{ℕ}
 use Rattle.nm_types.specs.declared.messages.Arrival.{Arrival}
 use Rattle.nm_history.specs.declared.plain.Pair.{Pair}
 use Rattle.nm_search.specs.Numbers.{mixed_lem}
@@ -9,7 +9,6 @@ use Rattle.nm_outcomes.specs.declared.spots.deeds.Part.{Part}
 use Rattle.nm_outcomes.specs.declared.spots.deeds.Part.TheVariants as part
 use Rattle.nm_outcomes.specs.declared.spots.deeds.Reply.{Reply}
 use Rattle.nm_outcomes.specs.declared.spots.deeds.Reply.TheVariants as reply
-use Rattle.nm_outcomes.specs.RankStates.{Spot}
 
 -- a number of an answer
 abbrev pub reply_number : Reply → ℕ
@@ -53,15 +52,3 @@ part_number (part.Free a) = mixed_lem 3 (arrival_number a)
 part_number (part.Paired p) = mixed_lem 4 (pair_number p)
 part_number (part.Came a) = mixed_lem 5 (arrival_number a)
 part_number (part.Gone m) = mixed_lem 6 (mixed_lem m.rank m.n)
-
--- a number of messages, in order
-abbrev pub arrivals_number : List Arrival → ℕ
-arrivals_number xs = fold (λ sum a. mixed_lem sum (arrival_number a)) 2 xs
-
--- a number of the state of a rank
-abbrev pub spot_number : Spot → ℕ
-spot_number spot =
-    mixed_lem
-    (mixed_lem (fold (λ sum d. mixed_lem sum (deed_number d)) 1 spot.deeds)
-    (fold (λ sum p. mixed_lem sum (pair_number p)) 3 spot.pairs))
-    (mixed_lem (arrivals_number spot.free) (arrivals_number spot.came))

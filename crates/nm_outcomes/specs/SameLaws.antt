@@ -1,4 +1,4 @@
--- The test whether two states are the same tells whether they are equal.
+-- The test whether two parts of a rank's state are the same tells whether they are equal.
 use Rattle.std.proofs.Common.{◌≡◌, ℕ, ◌==◌, ◌&&◌, Bool, true, false, refl, ap}
 use Rattle.std.specs.Cmp.{IsEquivalence}
 use Rattle.std.specs.Hash.{Alike, u64}
@@ -12,7 +12,7 @@ use Rattle.nm_types.specs.contracts.messages.ArrivalPartialEq.TheImpl.{ghosts as
 use Rattle.nm_types.specs.contracts.messages.How.{the_type as how_type}
 use Rattle.nm_history.specs.declared.plain.Pair.{Pair}
 use Rattle.nm_history.specs.contracts.plain.PairPartialEq.TheImpl.{ghosts as pair_eq}
-use Rattle.nm_search.specs.Tells.{Tells, both, by_parts, equivalence, lists, numbers, of_self, peers, picks}
+use Rattle.nm_search.specs.Tells.{Tells, both, by_parts, equivalence, numbers, of_self, peers, picks}
 use Rattle.nm_outcomes.specs.declared.spots.deeds.Deed.{Deed}
 use Rattle.nm_outcomes.specs.declared.spots.deeds.Deed.TheVariants as deed
 use Rattle.nm_match.specs.declared.names.Message.{Message}
@@ -26,9 +26,7 @@ use Rattle.nm_match.specs.contracts.names.MessagePartialEq.TheImpl.{ghosts as me
 use Rattle.nm_outcomes.specs.contracts.spots.deeds.PartPartialEq.TheImpl.{ghosts as part_eq}
 use Rattle.nm_outcomes.specs.contracts.spots.deeds.ReceivePartialEq.TheImpl.{ghosts as receive_eq}
 use Rattle.nm_outcomes.specs.contracts.spots.deeds.ReplyPartialEq.TheImpl.{ghosts as reply_eq}
-use Rattle.nm_outcomes.specs.Numbers.{part_number, spot_number}
-use Rattle.nm_outcomes.specs.Sames.{same_spots}
-use Rattle.nm_outcomes.specs.RankStates.{Spot}
+use Rattle.nm_outcomes.specs.Numbers.{part_number}
 
 same_how : (x y : How) → sameb how_type x y ≡ true → x ≡ y
 same_how how.Eager how.Eager so = refl
@@ -192,7 +190,7 @@ own_part (part.Paired a) = (pairs a a).1 refl
 own_part (part.Came a) = (arrivals a a).1 refl
 own_part (part.Gone a) = (messages a a).1 refl
 
--- so does the test of parts
+-- the test of parts tells which are equal
 pub same_part : Tells part_eq.eq
 same_part = of_self same_parts own_part
 
@@ -202,27 +200,3 @@ parts_equiv = equivalence same_part
 -- equal parts have one number
 pub parts_alike : Alike part_eq.eq (λ (a : Part). u64 (part_number a))
 parts_alike = record { fed = λ x y so. ap (λ (a : Part). u64 (part_number a)) ((same_part x y).0 so) }
-
--- the test tells which states are equal
-pub same_spot : Tells same_spots
-same_spot =
-    by_parts (λ (s : Spot). (s.deeds, (s.receives, (s.free, (s.pairs, (s.came, s.withdrawn))))))
-    (λ p. record {
-      deeds = p.0;
-      receives = p.1.0;
-      free = p.1.1.0;
-      pairs = p.1.1.1.0;
-      came = p.1.1.1.1.0;
-      withdrawn = p.1.1.1.1.1;
-    })
-    (λ s. refl)
-    (both (lists deeds)
-    (both (lists receives) (both (lists arrivals) (both (lists pairs) (both (lists arrivals) (lists messages))))))
-
--- the test of states is an equivalence
-pub spots_equiv : IsEquivalence same_spots
-spots_equiv = equivalence same_spot
-
--- equal states have one number
-pub spots_alike : Alike same_spots (λ (a : Spot). u64 (spot_number a))
-spots_alike = record { fed = λ x y so. ap (λ (a : Spot). u64 (spot_number a)) ((same_spot x y).0 so) }

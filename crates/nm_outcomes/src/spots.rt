@@ -10,7 +10,7 @@
 //!   `Rank::arrive` and `Rank::withdraw` make just that state.
 //! - What a state says of live requests and messages, of how many commands ran, messages were sent and
 //!   receives were started, and of recalls is what the definitions say of its history (`laws::states_say`).
-//! - Two states of a rank are taken for one where they are equal, and only there (`==` of `Rank`).
+//! - Two parts of a state are taken for one where they are equal, and only there (`==` of `Part`).
 //! - A rank's state is that of its parts (`specs/Parts.antt`, `PartLemmas.parts_make`).
 
 pub mod deeds;

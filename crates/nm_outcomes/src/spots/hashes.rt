@@ -1,12 +1,9 @@
-//! Numbers that tell states apart, mostly.
+//! Numbers that tell parts of states apart, mostly.
 
-ghost use Rattle.std.specs.Prelude.{◌≡◌, fold};
-ghost use Rattle.nm_search.specs.Numbers.{mixed_lem};
-ghost use Rattle.nm_outcomes.specs.Numbers.{arrival_number, arrivals_number, deed_number};
-ghost use Rattle.nm_outcomes.specs.Numbers.{pair_number, part_number, reply_number, spot_number};
+ghost use Rattle.std.specs.Prelude.{◌≡◌};
+ghost use Rattle.nm_outcomes.specs.Numbers.{arrival_number, deed_number, pair_number, part_number, reply_number};
 
 use crate::spots::deeds::{Deed, Part, Reply};
-use crate::spots::ranks::Rank;
 use nm_history::plain::Pair;
 use nm_search::mixed;
 use nm_types::Arrival;
@@ -73,35 +70,4 @@ pub fn of_part(part: &Part) -> u64
         Part::Came(a) => mixed(5, of_arrival(a)),
         Part::Gone(message) => mixed(6, mixed(u64::from(message.rank), message.n)),
     }
-}
-
-/// A number of messages, in order.
-fn of_arrivals(messages: &[Arrival]) -> u64
-    ensures { result ≡ arrivals_number messages.now }
-{
-    messages.iter().fold(2, |sum, a| mixed(sum, of_arrival(a)))
-}
-
-/// A number of deeds, in order.
-fn of_deeds(deeds: &[Deed]) -> u64
-    ensures { result ≡ fold (λ sum d. mixed_lem sum (deed_number d)) 1 deeds.now }
-{
-    deeds.iter().fold(1, |sum, d| mixed(sum, of_deed(d)))
-}
-
-/// A number of receives with their messages, in order.
-fn of_pairs(pairs: &[Pair]) -> u64
-    ensures { result ≡ fold (λ sum p. mixed_lem sum (pair_number p)) 3 pairs.now }
-{
-    pairs.iter().fold(3, |sum, p| mixed(sum, of_pair(p)))
-}
-
-/// A number of a rank's state.
-pub fn of_rank(rank: &Rank) -> u64
-    ensures { result ≡ spot_number rank.now }
-{
-    mixed(
-        mixed(of_deeds(rank.deeds()), of_pairs(rank.pairs())),
-        mixed(of_arrivals(rank.free()), of_arrivals(rank.came())),
-    )
 }

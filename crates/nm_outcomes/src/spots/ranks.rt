@@ -14,11 +14,9 @@ ghost use Rattle.nm_outcomes.specs.RankStates.{receive_of_spot, settled_at, spot
 ghost use Rattle.nm_outcomes.specs.RankStates.{with_arrival, with_pair, withdrawn_at, without_number};
 
 use crate::spots::deeds::{Deed, Message, Part, Receive};
-use crate::spots::hashes::of_rank;
 use nm_history::plain::{Pair, selects};
 use nm_types::{Arrival, Memory};
 use std::alloc::Global;
-use std::hash::{Hash, Hasher};
 use std::marker::Model;
 
 /// A rank at some moment.
@@ -61,46 +59,6 @@ impl Model for Rank {
       came = a.came.items;
       withdrawn = a.withdrawn.items;
     } };
-}
-
-/// Two ranks are equal where they are in one state.
-impl PartialEq for Rank {
-    ghost use Rattle.std.specs.Cmp.{partial_equiv_from_equiv};
-    ghost use Rattle.nm_outcomes.specs.Sames.{same_spots};
-    ghost use Rattle.nm_outcomes.specs.SameLaws.{spots_equiv};
-
-    ghost eq = { λ a b. same_spots a b };
-
-    ghost laws = { partial_equiv_from_equiv spots_equiv };
-
-    fn eq(&self, other: &Rank) -> bool {
-        self.deeds == other.deeds
-            && self.receives == other.receives
-            && self.free == other.free
-            && self.pairs == other.pairs
-            && self.came == other.came
-            && self.withdrawn == other.withdrawn
-    }
-}
-
-impl Eq for Rank {
-    ghost use Rattle.nm_outcomes.specs.SameLaws.{spots_equiv};
-
-    ghost laws = { spots_equiv };
-}
-
-impl Hash for Rank {
-    ghost use Rattle.std.specs.Hash as fed;
-    ghost use Rattle.nm_outcomes.specs.Numbers.{spot_number};
-    ghost use Rattle.nm_outcomes.specs.SameLaws.{spots_alike};
-
-    ghost hash_input = { λ a. fed.u64 (spot_number a) };
-
-    ghost respects_eq = { spots_alike.fed };
-
-    fn hash<H: Hasher>(&self, state: &mut H) {
-        state.write_u64(of_rank(self));
-    }
 }
 
 impl Rank {
@@ -194,7 +152,6 @@ impl Rank {
     fn pair(&mut self, pair: Pair) -> Result<(), Memory>
         ensures { OnOk result (self.new ≡ record self.old { pairs = with_pair pair self.old.pairs }) }
     {
-        self.pairs.reserve_exact(1)?;
         if self.is_paired(pair.number) {
             self.pairs.push(pair)?;
         } else {
@@ -253,7 +210,6 @@ impl Rank {
             }
             None => {
                 if !self.is_closed(receive.number) {
-                    self.receives.reserve_exact(1)?;
                     self.receives.push(receive)?;
                 }
                 Ok(())
@@ -320,7 +276,6 @@ impl Rank {
         ensures { OnOk result (self.new ≡ spot_after self.old deed) }
     {
         self.settle(&deed)?;
-        self.deeds.reserve_exact(1)?;
         self.deeds.push(deed)?;
         Ok(())
     }
@@ -340,7 +295,6 @@ impl Rank {
             }
             None => {
                 if self.is_free(a.env.from, a.n) {
-                    self.free.reserve_exact(1)?;
                     self.free.push(a)?;
                 }
                 Ok(())
@@ -353,7 +307,6 @@ impl Rank {
     fn note(&mut self, a: Arrival) -> Result<(), Memory>
         ensures { OnOk result (self.new ≡ record self.old { came = with_arrival a self.old.came }) }
     {
-        self.came.reserve_exact(1)?;
         if self.has(a.env.from, a.n) {
             self.came.push(a)?;
         } else {
