@@ -284,7 +284,7 @@ impl Search {
     }
 
     /// Adds the states that enough moves lead to.
-    fn expand(&mut self, alloc: Global, of: Setting, k: usize) -> Result<(), Memory>
+    pub fn expand(&mut self, alloc: Global, of: Setting, k: usize) -> Result<(), Memory>
         requires { AreShort of.lines.now }
         ensures grows { OnOk result (Grows self.old self.new) }
         ensures expanded { length of.entry.lines.now < 4294967293 →

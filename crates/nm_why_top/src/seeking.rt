@@ -18,6 +18,7 @@ use nm_explored::choices::choices::{View, line_at};
 use nm_explored::choices::moves::Turn;
 use nm_explored::ends::{is_end, way_back};
 use nm_explored::searches::{Search, Setting};
+use nm_explored::stores::Unpacked;
 use nm_outcomes::spots::looks::ran;
 use nm_types::laws::commands_stand_at_their_lines;
 use nm_types::{Memory, Script, Shape};
@@ -120,25 +121,21 @@ fn is_sought(view: View, ranks: u8, sought: Sought) -> bool
     fits(view, ranks, sought)
 }
 
-/// Whether it ends at the state with a number.
-fn is_sought_at(search: &Search, of: Setting, sought: Sought, k: usize) -> bool
+/// Whether it ends where the ranks are in these states.
+fn is_sought_at(of: Setting, sought: Sought, all: &Unpacked) -> bool
     requires { AreShort of.lines.now }
-    ensures sought { IsTrue result → IsSoughtIn sought of.entry.ranks of.entry.lines.now search.now k }
-    ensures finds { (ids : List ℕ) → slice_get search.now.states k ≡ Some ids →
-        IsSought sought of.entry.ranks of.entry.lines.now (spot_in search.now.table ids) → IsTrue result }
+    ensures sought { IsTrue result → IsSought sought of.entry.ranks of.entry.lines.now
+        (spot_in all.now.ranks.items all.now.places.items) }
+    ensures finds { IsSought sought of.entry.ranks of.entry.lines.now
+        (spot_in all.now.ranks.items all.now.places.items) → IsTrue result }
 {
-    match search.states.as_slice().get(k) {
-        Some(state) => {
-            let view = View {
-                eager: of.eager,
-                lines: of.lines,
-                table: search.table.as_slice(),
-                ids: state.as_slice(),
-            };
-            is_sought(view, of.ranks, sought)
-        }
-        None => false,
-    }
+    let view = View {
+        eager: of.eager,
+        lines: of.lines,
+        table: all.ranks.as_slice(),
+        ids: all.places.as_slice(),
+    };
+    is_sought(view, of.ranks, sought)
 }
 
 /// Adds the numbers from one up to another one.
@@ -206,7 +203,8 @@ fn seek_in(
         let Some(state) = ahead.pop() else {
             return Ok(Sight::Nowhere);
         };
-        if is_sought_at(search, of, sought, state) {
+        let all = search.state_at(alloc, state)?;
+        if is_sought_at(of, sought, &all) {
             return Ok(Sight::At { state });
         }
         look(alloc, of, state, search, &mut ahead)?;

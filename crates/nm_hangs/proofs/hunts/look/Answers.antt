@@ -48,7 +48,8 @@ push_states-requires-clause-ahead c =
     c.args.classes.now c.args.ahead.now.items n) (sym before)
     (open_next c.args.of.eager c.args.of.ranks c.args.of.lines.now c.args.search.now c.expand_from.new.self
     c.args.classes.now c.args.ahead.now.items c.args.near c.in_ok-expand_from.ensures.grows c.requires.made
-    c.requires.ahead (c.in_ok-expand_from.ensures.expanded c.requires.short.count c.requires.shown c.requires.made) c.requires.free)
+    c.requires.ahead (c.in_ok-expand_from.ensures.expanded c.requires.short.count c.requires.shown c.requires.made)
+    c.requires.free)
 
 pub returns-clause-made : goal.returns-clause-made
 returns-clause-made c =

@@ -1,10 +1,11 @@
 -- One state more was looked at, and what was found.
-use Rattle.std.proofs.Common.{◌≡◌, ℕ, [], ◌∷◌, ◌++◌, List, Some, ◌∙◌, ap, sym, subst, option_to_list}
+use Rattle.std.proofs.Common.{◌≡◌, ℕ, [], ◌∷◌, ◌++◌, List, Option, Some, ◌∙◌, ap, sym, subst, option_to_list}
 use Rattle.std.specs.List.{slice_get}
 use Rattle.std.proofs.lemmas.Bool.{false≢true}
-use Rattle.nm_types.proofs.ListLemmas.{no_items}
+use Rattle.nm_types.proofs.ListLemmas.{get_some, no_items}
 use Rattle.nm_types.proofs.NumberLemmas.{same_number}
 use Rattle.nm_search.proofs.ListLemmas.{has_push}
+use Rattle.nm_outcomes.specs.RankStates.{Spot}
 use Rattle.nm_explored.specs.Successors.{spot_in}
 use Rattle.nm_explored.proofs.StoreLemmas.{grows_all, grows_then}
 use Rattle.nm_why_top.specs.Seeking.{AreAhead, IsSought}
@@ -35,7 +36,13 @@ loop-state-preserved c =
     c.pop.ensures.items ∙ ap (λ r. c.pop.new.self.items ++ option_to_list r) c.in-Some.is in
     let other : (ids : List ℕ) → slice_get c.loop-state.search.states state ≡ Some ids →
     IsSought c.args.sought c.args.of.ranks c.args.of.lines.now (spot_in c.loop-state.search.table ids) → ⊥ =
-    λ ids here is. false≢true (sym c.if-is_sought_at.false ∙ c.is_sought_at.ensures.finds ids here is) in
+    λ ids here is.
+    let shown = c.in_ok-all.ensures.shows (λ k ids here. (before.made.sound k ids here).low) in
+    false≢true
+    (sym c.if-is_sought_at.false
+    ∙ c.is_sought_at.ensures.finds
+    (subst (λ (v : ℕ → Option Spot). IsSought c.args.sought c.args.of.ranks c.args.of.lines.now v)
+    (sym (shown ids here)) is)) in
     let looked = c.in_ok-look.ensures in
     record {
       grows = grows_then c.args.search.now c.loop-state.search c.look.new.search before.grows looked.grows;
@@ -45,6 +52,19 @@ loop-state-preserved c =
           (subst (λ (xs : List ℕ). AreAhead c.args.sought c.args.of.eager c.args.of.ranks c.args.of.lines.now
           c.loop-state.search xs) is before.ahead);
     }
+
+pub returns-then-is_sought_at-clause-sight : goal.returns-then-is_sought_at-clause-sight
+returns-then-is_sought_at-clause-sight c =
+    let shown = c.in_ok-all.ensures.shows (λ k ids here. (c.loop-state.invariant.made.sound k ids here).low) in
+    let low = c.loop-state.invariant.ahead.low c.in-Some.state
+    (has_push c.pop.new.self.items c.loop-state.ahead.items c.in-Some.state
+    (c.pop.ensures.items ∙ ap (λ r. c.pop.new.self.items ++ option_to_list r) c.in-Some.is)) in
+    let ids = get_some c.loop-state.search.states c.in-Some.state low in (
+      ids.0,
+      ids.1,
+      subst (λ (v : ℕ → Option Spot). IsSought c.args.sought c.args.of.ranks c.args.of.lines.now v)
+          (shown ids.0 ids.1) (c.is_sought_at.ensures.sought c.if-is_sought_at.true),
+    )
 
 pub returns-in_default-clause-sight : goal.returns-in_default-clause-sight
 returns-in_default-clause-sight c =
