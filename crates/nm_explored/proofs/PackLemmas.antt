@@ -20,7 +20,6 @@ use Rattle.nm_outcomes.specs.declared.spots.deeds.Part.{Part}
 use Rattle.nm_outcomes.specs.Parts.{parts_of, with_part}
 use Rattle.nm_outcomes.specs.RankStates.{Spot, first_spot}
 use Rattle.nm_outcomes.specs.SameLaws.{parts_equiv, same_part}
-use Rattle.nm_sure.proofs.Fuel.{in_range}
 use Rattle.nm_search.specs.Lists.{Extends, StandOnce}
 use Rattle.nm_search.proofs.ListLemmas.{each_next}
 use Rattle.nm_search.proofs.SetLemmas.{inserted, kept_in, once_in}
@@ -217,7 +216,15 @@ all_found table (id ∷ ids) low =
     ∙ ap (λ (ss : List Spot). get_or table id first_spot ∷ ss)
     (all_found table ids (λ j x here. low (suc j) x here))
 
--- the numbers from one on: one more
+-- the numbers from one on
+place_is : (a n k : ℕ) → k < n → slice_get (range_with_len a n) k ≡ Some (a + k)
+place_is a zero k low = absurd (omega (arith, low))
+place_is a (suc n) zero low = let e : a ≡ a + 0 = omega arith in ap (λ (k : ℕ). Some k) e
+place_is a (suc n) (suc k) low =
+    let e : a + 1 + k ≡ a + suc k = omega arith in
+    let less : k < n = omega (arith, low) in
+    place_is (a + 1) n k less ∙ ap (λ (k : ℕ). Some k) e
+
 pub places_next : (a n : ℕ) → range_with_len a (n + 1) ≡ range_with_len a n ++ (a + n) ∷ []
 places_next a zero = let e : a ≡ a + 0 = omega arith in ap (λ (k : ℕ). k ∷ []) e
 places_next a (suc n) =
@@ -243,7 +250,7 @@ by_places ranks i = by_test (nat_lt i (length ranks)) refl
     by_test true so =
         let low : i < length ranks = grind (arith, nat_tests) in
         let e : 0 + i ≡ i = omega arith in
-        ap found (in_range 0 (length ranks) i low) ∙ ap (λ (k : ℕ). slice_get ranks k) e
+        ap found (place_is 0 (length ranks) i low) ∙ ap (λ (k : ℕ). slice_get ranks k) e
     by_test false so =
         let past : length ranks ≤ i = grind (arith, nat_tests) in
         ap found (no_place 0 (length ranks) i past) ∙ sym (slice_get_past ranks i past)
